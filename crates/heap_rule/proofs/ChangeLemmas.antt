@@ -3,6 +3,7 @@ use Rattle.std.proofs.Common.{◌≡◌, ℕ, ◌+◌, ◌-◌, ◌<◌, ◌≤�
 use Rattle.std.proofs.lemmas.Bool.{cases_eq, cases_lt}
 use Rattle.heap_model.specs.Geometry.{largest_capacity_fits}
 use Rattle.heap_model.specs.Counting.{times}
+use Rattle.heap_model.specs.Sizes.{IsClass}
 use Rattle.heap_model.proofs.SizeLemmas.{few_blocks}
 use Rattle.size_table.specs.declared.size_class.SizeClass.{SizeClass}
 use Rattle.core_model.specs.declared.event.Event.TheVariants.{Tick}
@@ -27,9 +28,12 @@ use Rattle.heap_rule.specs.declared.owned.Owned.{Owned}
 use Rattle.heap_rule.specs.Changed.{IsChanged, FitsChange}
 use Rattle.heap_rule.specs.Owned.{OwnedParts, HasOwned, most_blocks, parts_of}
 use Rattle.heap_rule.specs.Plays.{HasSoundState, IsEvent}
+use Rattle.heap_rule.specs.Stacks.{IsRestacked}
 use Rattle.heap_rule.specs.Shown.{CanFree, CanLift, CanCut, CanHoldLarge}
 use Rattle.heap_rule.proofs.OwnedShifts.{alloc_owned, free_owned, lift_owned, cut_owned, large_owned, split_owned}
 use Rattle.heap_rule.proofs.OwnedSteps.{quiet, taken_below}
+use Rattle.heap_rule.proofs.ShiftLemmas.{free_class}
+use Rattle.heap_rule.proofs.StackLemmas.{has_stack}
 use Rattle.heap_rule.proofs.TickLemmas.{drawn, spent}
 use Rattle.heap_rule.proofs.ViewLemmas.{below_capacity, block_cut, block_once}
 
@@ -39,11 +43,17 @@ as_is o o' p same own = subst (λ x. HasOwned x p) (sym same) own
 pub none_change : (v : View) → FitsChange change.Nothing v None
 none_change v o own = (tt, λ s found o' same. subst (λ x. HasOwned x (parts_of v)) (sym same) own)
 
-pub alloc_change : (v : View) (class : ℕ) → MayAlloc v class → FitsChange change.Nothing v (Some (Alloc class))
-alloc_change v class may o own = (tt, λ s found o' same. as_is o o' _ same (alloc_owned v s o own found class may))
+pub alloc_change : (v : View) (class : ℕ) → MayAlloc v class → FitsChange (change.Allocated class) v (Some (Alloc class))
+alloc_change v class may o own = (
+  (has_stack o.stacks.items v.caches class own.stacks may.is_class).below,
+  λ s found o' is. as_is _ o' _ is.others (alloc_owned v s o own found class o'.stacks may is.stacks),
+)
 
-pub free_change : (v : View) (block : ℕ) → CanFree v block → FitsChange change.Nothing v (Some (Free block))
-free_change v block can o own = (tt, λ s found o' same. as_is o o' _ same (free_owned v s o own found block can))
+pub free_change : (v : View) → HasSoundState v → (class block : ℕ) (can : CanFree v block) → class ≡ can.class → FitsChange (change.Freed class block) v (Some (Free block))
+free_change v has class block can class_is o own = (
+  has_stack o.stacks.items v.caches class own.stacks (subst IsClass (sym class_is) (free_class v has block can)),
+  λ s found o' is. as_is _ o' _ is.others (free_owned v s o own found block o'.stacks can (subst (λ n. IsRestacked o.stacks.items o'.stacks.items n (λ cache. block ∷ cache)) class_is is.stacks)),
+)
 
 -- a batch to which a block comes has no more blocks than a superblock
 batch_room : (v : View) → HasSoundState v → (class : ℕ) → CanLift v class → length v.batch.blocks < most_blocks
@@ -96,10 +106,13 @@ batch_room v s class can = let short = chain_short v.setup.capacity class d (fir
     | inr other ↦ let z = ne-eqb-none first b other in omega arith
   ]
 
-pub lift_change : (v : View) → HasSoundState v → (class block : ℕ) → CanLift v class → block ≡ first_of (of_class v.caches class) → FitsChange (change.Lifted block) v (Some (Lift class))
+pub lift_change : (v : View) → HasSoundState v → (class block : ℕ) → CanLift v class → block ≡ first_of (of_class v.caches class) → FitsChange (change.Lifted class block) v (Some (Lift class))
 lift_change v has class block can block_is o own = (
-  (let r = batch_room v has class can in let l = ap length own.batch in let k = own.room in omega arith),
-  λ s found o' is. as_is _ o' _ is.others (lift_owned v s o own found class o'.batch can (is.batch ∙ ap (λ b. o.batch.items ++ b ∷ []) block_is) is.room),
+  (
+    (has_stack o.stacks.items v.caches class own.stacks can.is_class).below,
+    (let r = batch_room v has class can in let l = ap length own.batch in let k = own.room in omega arith),
+  ),
+  λ s found o' is. as_is _ o' _ is.others (lift_owned v s o own found class o'.batch o'.stacks can (is.batch ∙ ap (λ b. o.batch.items ++ b ∷ []) block_is) is.room is.stacks),
 )
 
 pub cut_change : (v : View) → HasSoundState v → (d : ℕ) (class : SizeClass) (can : CanCut v d) → class.number ≡ can.class → FitsChange (change.Cut d class) v (Some (Cut d))
@@ -109,9 +122,10 @@ cut_change v has d class can class_is o own = (
     classes = (let l = own.classes_long in let t = less in omega arith);
     stakes = (let l = own.stakes_long in let t = less in omega arith);
     blocks = λ b some. let r = cut_range v.setup.capacity class.number d b class.is less (block_of v.setup.capacity class.number d b some) in let l = own.words_long in omega arith;
+    stack = has_stack o.stacks.items v.caches class.number own.stacks class.is;
     fits = (let l = own.words_long in let small = has.sound.good.small in let fits = largest_capacity_fits in omega arith);
   },
-  λ s found o' changed. as_is _ o' _ changed.others (cut_owned v s o own found d class.number o'.blocks o'.classes o'.stakes can class_is changed.blocks changed.classes changed.stakes),
+  λ s found o' changed. as_is _ o' _ changed.others (cut_owned v s o own found d class.number o'.blocks o'.classes o'.stakes o'.stacks can class_is changed.blocks changed.classes changed.stakes changed.stacks),
 ) where
   less : d < v.setup.capacity
   less = taken_below v has d (let c = can.cutting in omega arith)

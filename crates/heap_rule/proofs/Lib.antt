@@ -39,3 +39,4 @@ pub mod HeldLemmas
 pub mod CrashLemmas
 pub mod TicketLemmas
 pub mod RecordLemmas
+pub mod StackLemmas

@@ -1,9 +1,8 @@
 -- Marks of the numbers of a list, and stakes of a range, as they are given one after the other.
-use Rattle.std.proofs.Common.{◌≡◌, ◌≢◌, ℕ, zero, suc, ◌+◌, ◌*◌, ◌<◌, ◌≤◌, inl, inr, Bool, false, List, [], ◌∷◌, get_or, set, take, length, refl, ap, sym, subst, ◌∙◌, length-set, add-one, arith}
+use Rattle.std.proofs.Common.{◌≡◌, ◌≢◌, ℕ, zero, suc, ◌+◌, ◌<◌, inl, inr, Bool, false, List, [], ◌∷◌, get_or, set, take, length, refl, ap, sym, subst, ◌∙◌, length-set, add-one, arith}
 use Rattle.std.proofs.lemmas.Bool.{cases_eq}
-use Rattle.std.proofs.lemmas.List.{get_or-set_same, get_or-set_other, take_all}
+use Rattle.std.proofs.lemmas.List.{get_or-set_same, get_or-set_other}
 use Rattle.heap_model.specs.Counting.{times}
-use Rattle.core_model.specs.Effects.{steps}
 use Rattle.core_model.proofs.TotalLemmas.{eq-eqb-one, ne-eqb-none}
 use Rattle.heap_rule.specs.declared.owned.Stake.{Stake}
 use Rattle.heap_rule.specs.declared.owned.Stake.TheVariants as stake
@@ -14,12 +13,6 @@ times_next : (n i : ℕ) (xs : List ℕ) (x : ℕ) → i < length xs → get_or 
 times_next n i [] x less at = absurd (omega arith)
 times_next n zero (y ∷ ys) x less at = let e = ap (λ z. times n (z ∷ [])) at in omega arith
 times_next n (suc i) (y ∷ ys) x less at = let rest = times_next n i ys x (omega arith) at in omega arith
-
-pub marking_start : (marks : List Bool) (xs : List ℕ) (mark : Bool) → IsMarking marks marks (take 0 xs) mark
-marking_start marks xs mark = record { long = refl; inside = λ n some. absurd (none n xs some); outside = λ n no. refl } where
-  none : (n : ℕ) (xs : List ℕ) → 0 < times n (take 0 xs) → ⊥
-  none n [] some = omega arith
-  none n (x ∷ xs) some = omega arith
 
 pub marking_step : (old new : List Bool) (xs : List ℕ) (mark : Bool) (i x : ℕ) → IsMarking old new (take i xs) mark → i < length xs → get_or xs i x ≡ x → x < length new
     → IsMarking old (set new x mark) (take (i + 1) xs) mark
@@ -32,15 +25,6 @@ marking_step old new xs mark i x m less at inside = subst (λ k. IsMarking old (
   outside = λ n none. let t = times_next n i xs x less at in
       get_or-set_other new x n mark false (λ here. let one = eq-eqb-one x n (sym here) in absurd (omega arith)) ∙ m.outside n (omega arith);
 })
-
-pub marking_whole : (old new : List Bool) (xs : List ℕ) (mark : Bool) (i : ℕ) → IsMarking old new (take i xs) mark → length xs ≤ i → IsMarking old new xs mark
-marking_whole old new xs mark i m past = subst (λ l. IsMarking old new l mark) (take_all i xs past) m
-
--- the numbers of a list a step apart
-pub step_at : (from apart n i : ℕ) (x : ℕ) → i < n → x ≡ from + i * apart → get_or (steps from apart n) i x ≡ x
-step_at from apart zero i x less is = absurd (omega arith)
-step_at from apart (suc n) zero x less is = sym (is ∙ (let e : from + 0 * apart ≡ from = grind arith in e))
-step_at from apart (suc n) (suc i) x less is = step_at (from + apart) apart n i x (omega arith) (is ∙ (let e : from + suc i * apart ≡ from + apart + i * apart = grind arith in e))
 
 -- an entry is a member
 pub entry_times : (xs : List ℕ) (i x : ℕ) → i < length xs → get_or xs i x ≡ x → 0 < times x xs

@@ -29,6 +29,7 @@ use Rattle.heap_rule.specs.declared.owned.Owned.{Owned}
 use Rattle.heap_rule.specs.Owned.{most_blocks, stake_for, opened_parts, parts_of, OwnedParts, IsStake, HasOwned, times_had}
 use Rattle.heap_rule.specs.Rule.{opening_of, opened_view_of}
 use Rattle.heap_rule.specs.Plays.{HasSoundState}
+use Rattle.heap_rule.specs.Stacks.{AreStacks}
 use Rattle.heap_rule.proofs.ViewLemmas.{block_below}
 
 -- the view of a seat of the opened heap is one of a sound state
@@ -71,6 +72,7 @@ pub record IsGathered (heap : Contents) (owners : OwnerLists) (seat : ℕ) (bloc
   pub roots_are : (n : ℕ) → one_if (get_or o.roots.items n false) ≡ one_if (nat_eq (get_or owners.roots n (seat + 1)) seat)
   pub batch : o.batch.items ≡ []
   pub room : most_blocks ≤ vec_capacity o.batch
+  pub stacks : (caches : List (List ℕ)) → AreStacks o.stacks.items caches
 
 pub gathered : (heap : Contents) (owners : OwnerLists) (seats seat : ℕ) (blocks : List BlockOwner) (superblocks : List SuperblockOwner) (o : Owned) → IsReady heap.words heap.held → AreOwners heap.held seats owners.held owners.roots → seat < seats
     → AreBlockOwners heap.words heap.held owners.held blocks → AreSuperblockOwners heap.words heap.held owners.held superblocks → IsGathered heap owners seat blocks superblocks o → HasOwned o (opened_parts heap owners seat)
@@ -92,6 +94,7 @@ gathered heap owners seats seat blocks superblocks o ready are less are_blocks a
   roots_are = λ n. one_true (get_or o.roots.items n false) (times n p.roots) (g.roots_are n ∙ sym (roots_of seat roots owners.roots are.roots_all n));
   batch = g.batch;
   room = g.room;
+  stacks = g.stacks p.caches;
 } where
   p : OwnedParts
   p = opened_parts heap owners seat

@@ -7,7 +7,7 @@ use Rattle.core_model.specs.declared.event.Shift.TheVariants.{Cut, Alloc, Free, 
 use Rattle.core_model.specs.Cells.{superblock_at}
 use Rattle.core_model.specs.Memory.{Memory, memory_of, used, info}
 use Rattle.core_model.specs.View.{View, of_class, times_raw}
-use Rattle.core_model.specs.Effects.{steps, drew, shifted, class_blocks, first_of, span_count, without_range, without_span}
+use Rattle.core_model.specs.Effects.{steps, drew, shifted, class_blocks, first_of, rest_of, span_count, without_range, without_span}
 use Rattle.core_model.specs.Guards.{MayAlloc, MaySplit}
 use Rattle.core_model.specs.Sound.{Good}
 use Rattle.core_model.proofs.BlockLemmas.{superblock_is, first_there}
@@ -17,21 +17,24 @@ use Rattle.core_model.proofs.TotalLemmas.{total_at}
 use Rattle.heap_rule.specs.declared.owned.Stake.{Stake}
 use Rattle.heap_rule.specs.declared.owned.Stake.TheVariants as stake
 use Rattle.heap_rule.specs.declared.owned.Owned.{Owned}
+use Rattle.heap_rule.specs.declared.stacks.Stack.{Stack}
+use Rattle.heap_rule.specs.Stacks.{AreStacks, IsRestacked}
 use Rattle.heap_rule.specs.Owned.{OwnedParts, parts_of, IsStake, IsStaking, IsMarking, AreClasses, HasOwned, times_had}
 use Rattle.heap_rule.specs.Plays.{HasSoundState}
 use Rattle.heap_rule.specs.Shown.{CanFree, CanLift, CanCut, CanHoldLarge}
 use Rattle.heap_rule.proofs.BlockMarks.{marked_alike, marked_more, alloc_times, alloc_classes, lift_times, lift_classes, free_times, free_classes, cached_times, cached_classes}
 use Rattle.heap_rule.proofs.OwnedLemmas.{cut_stakes, large_stakes, split_stakes}
 use Rattle.heap_rule.proofs.OwnedSteps.{staked, taken_below}
+use Rattle.heap_rule.proofs.StackLemmas.{restacked}
 use Rattle.heap_rule.proofs.ShiftLemmas.{free_info, free_class, cut_info}
 use Rattle.heap_rule.proofs.ViewLemmas.{block_cut}
 
 -- where blocks go from one place to another, and the seat's are the same
-moved : (o : Owned) (batch : Vec ℕ Global) (p : OwnedParts) (small caches : List (List ℕ)) (blocks : List ℕ) (class : ℕ) → HasOwned o p
+moved : (o : Owned) (batch : Vec ℕ Global) (stacks : Vec Stack Global) (p : OwnedParts) (small caches : List (List ℕ)) (blocks : List ℕ) (class : ℕ) → HasOwned o p
     → ((b : ℕ) → times_had b (record p { small = small; caches = caches; batch = blocks; batch_class = class }) ≡ times_had b p)
-    → AreClasses o.classes.items (record p { small = small; caches = caches; batch = blocks; batch_class = class }) → batch.items ≡ blocks → vec_capacity batch ≡ vec_capacity o.batch
-    → HasOwned (record o { batch = batch }) (record p { small = small; caches = caches; batch = blocks; batch_class = class })
-moved o batch p small caches blocks class own same classes batch_is room = record {
+    → AreClasses o.classes.items (record p { small = small; caches = caches; batch = blocks; batch_class = class }) → batch.items ≡ blocks → vec_capacity batch ≡ vec_capacity o.batch → AreStacks stacks.items caches
+    → HasOwned (record o { batch = batch; stacks = stacks }) (record p { small = small; caches = caches; batch = blocks; batch_class = class })
+moved o batch stacks p small caches blocks class own same classes batch_is room stacks_are = record {
   words_long = own.words_long;
   classes_long = own.classes_long;
   stakes_long = own.stakes_long;
@@ -42,6 +45,7 @@ moved o batch p small caches blocks class own same classes batch_is room = recor
   roots_are = own.roots_are;
   batch = batch_is;
   room = (let r = own.room in omega arith);
+  stacks = stacks_are;
 }
 
 module _ (v : View) (s : HasSoundState v) (o : Owned) (own : HasOwned o (parts_of v)) (found : ℕ) where
@@ -57,24 +61,28 @@ module _ (v : View) (s : HasSoundState v) (o : Owned) (own : HasOwned o (parts_o
   less_small : (class : ℕ) → IsClass class → class < length v.small
   less_small class is = let l = (good.set_up s.seat v s.below s.at).small in let c = is.last in omega arith
 
-  pub alloc_owned : (class : ℕ) → MayAlloc v class → HasOwned o (parts_of (shifted m (drew v found) (Some (Alloc class))))
-  alloc_owned class may = moved o o.batch (parts_of v) _ _ v.batch.blocks v.batch.class own
-      (alloc_times (parts_of v) class (less_small class may.is_class) (less_caches class may.is_class) may.cached)
-      (alloc_classes (parts_of v) class (less_small class may.is_class) (less_caches class may.is_class) may.cached o.classes.items own.classes) own.batch refl
+  stacked : (class : ℕ) (stacks : Vec Stack Global) (change : List ℕ → List ℕ) → IsClass class → IsRestacked o.stacks.items stacks.items class change → AreStacks stacks.items (set v.caches class (change (of_class v.caches class)))
+  stacked class stacks change is r = restacked o.stacks.items stacks.items v.caches class change own.stacks (let l = is.last in omega arith) (less_caches class is) r
 
-  pub free_owned : (block : ℕ) → CanFree v block → HasOwned o (parts_of (shifted m (drew v found) (Some (Free block))))
-  free_owned block can = subst (λ n. HasOwned o (record (parts_of v) { small = set v.small n (without block (of_class v.small n)); caches = set v.caches n (block ∷ of_class v.caches n) })) (sym (free_info v s block can))
-      (moved o o.batch (parts_of v) _ _ v.batch.blocks v.batch.class own (free_times (parts_of v) can.class block small caches can.held) (free_classes (parts_of v) can.class block small caches can.held o.classes.items own.classes) own.batch refl) where
+  pub alloc_owned : (class : ℕ) (stacks : Vec Stack Global) → MayAlloc v class → IsRestacked o.stacks.items stacks.items class rest_of → HasOwned (record o { stacks = stacks }) (parts_of (shifted m (drew v found) (Some (Alloc class))))
+  alloc_owned class stacks may r = moved o o.batch stacks (parts_of v) _ _ v.batch.blocks v.batch.class own
+      (alloc_times (parts_of v) class (less_small class may.is_class) (less_caches class may.is_class) may.cached)
+      (alloc_classes (parts_of v) class (less_small class may.is_class) (less_caches class may.is_class) may.cached o.classes.items own.classes) own.batch refl (stacked class stacks rest_of may.is_class r)
+
+  pub free_owned : (block : ℕ) (stacks : Vec Stack Global) (can : CanFree v block) → IsRestacked o.stacks.items stacks.items can.class (λ cache. block ∷ cache) → HasOwned (record o { stacks = stacks }) (parts_of (shifted m (drew v found) (Some (Free block))))
+  free_owned block stacks can r = subst (λ n. HasOwned (record o { stacks = stacks }) (record (parts_of v) { small = set v.small n (without block (of_class v.small n)); caches = set v.caches n (block ∷ of_class v.caches n) })) (sym (free_info v s block can))
+      (moved o o.batch stacks (parts_of v) _ _ v.batch.blocks v.batch.class own (free_times (parts_of v) can.class block small caches can.held) (free_classes (parts_of v) can.class block small caches can.held o.classes.items own.classes) own.batch refl
+      (stacked can.class stacks (λ cache. block ∷ cache) (free_class v s block can) r)) where
         small : can.class < length v.small
         small = less_small can.class (free_class v s block can)
 
         caches : can.class < length v.caches
         caches = less_caches can.class (free_class v s block can)
 
-  pub lift_owned : (class : ℕ) (batch : Vec ℕ Global) → CanLift v class → batch.items ≡ o.batch.items ++ first_of (of_class v.caches class) ∷ [] → vec_capacity batch ≡ vec_capacity o.batch
-      → HasOwned (record o { batch = batch }) (parts_of (shifted m (drew v found) (Some (Lift class))))
-  lift_owned class batch can batch_is room = moved o batch (parts_of v) v.small _ _ class own (lift_times (parts_of v) class small caches can.cached)
-      (lift_classes (parts_of v) class small caches can.cached o.classes.items same own.classes) (batch_is ∙ ap (λ l. l ++ first_of (of_class v.caches class) ∷ []) own.batch) room where
+  pub lift_owned : (class : ℕ) (batch : Vec ℕ Global) (stacks : Vec Stack Global) → CanLift v class → batch.items ≡ o.batch.items ++ first_of (of_class v.caches class) ∷ [] → vec_capacity batch ≡ vec_capacity o.batch
+      → IsRestacked o.stacks.items stacks.items class rest_of → HasOwned (record o { batch = batch; stacks = stacks }) (parts_of (shifted m (drew v found) (Some (Lift class))))
+  lift_owned class batch stacks can batch_is room r = moved o batch stacks (parts_of v) v.small _ _ class own (lift_times (parts_of v) class small caches can.cached)
+      (lift_classes (parts_of v) class small caches can.cached o.classes.items same own.classes) (batch_is ∙ ap (λ l. l ++ first_of (of_class v.caches class) ∷ []) own.batch) room (stacked class stacks rest_of can.is_class r) where
         small : class < length v.small
         small = less_small class can.is_class
 
@@ -85,11 +93,11 @@ module _ (v : View) (s : HasSoundState v) (o : Owned) (own : HasOwned o (parts_o
         same some = let h = good.blocks s.seat v s.below s.at in let q = h.batched (first_of v.batch.blocks) (first_there v.batch.blocks some) in
             sym q.1 ∙ ap (info m) (can.same some) ∙ h.cached class (first_of (of_class v.caches class)) (first_there (of_class v.caches class) can.cached)
 
-  pub cut_owned : (d class : ℕ) (blocks : Vec Bool Global) (classes : Vec ℕ Global) (stakes : Vec Stake Global) (can : CanCut v d) → class ≡ can.class
+  pub cut_owned : (d class : ℕ) (blocks : Vec Bool Global) (classes : Vec ℕ Global) (stakes : Vec Stake Global) (stacks : Vec Stack Global) (can : CanCut v d) → class ≡ can.class
       → IsMarking o.blocks.items blocks.items (class_blocks v.setup.capacity class d) true → classes.items ≡ set o.classes.items d class → stakes.items ≡ set o.stakes.items d stake.Nothing
-      → HasOwned (record o { blocks = blocks; classes = classes; stakes = stakes }) (parts_of (shifted m (drew v found) (Some (Cut d))))
-  cut_owned d class blocks classes stakes can class_is marking classes_are stakes_are =
-      subst (λ n. HasOwned (record o { blocks = blocks; classes = classes; stakes = stakes }) (record (parts_of v) { caches = set v.caches n (class_blocks v.setup.capacity n d); cutting = without d v.cutting })) info_is (record {
+      → IsRestacked o.stacks.items stacks.items class (λ cache. class_blocks v.setup.capacity class d) → HasOwned (record o { blocks = blocks; classes = classes; stakes = stakes; stacks = stacks }) (parts_of (shifted m (drew v found) (Some (Cut d))))
+  cut_owned d class blocks classes stakes stacks can class_is marking classes_are stakes_are r =
+      subst (λ n. HasOwned (record o { blocks = blocks; classes = classes; stakes = stakes; stacks = stacks }) (record (parts_of v) { caches = set v.caches n (class_blocks v.setup.capacity n d); cutting = without d v.cutting })) info_is (record {
         words_long = marking.long ∙ own.words_long;
         classes_long = ap length classes_are ∙ length-set o.classes.items d class ∙ own.classes_long;
         stakes_long = ap length stakes_are ∙ length-set o.stakes.items d stake.Nothing ∙ own.stakes_long;
@@ -103,6 +111,7 @@ module _ (v : View) (s : HasSoundState v) (o : Owned) (own : HasOwned o (parts_o
         roots_are = own.roots_are;
         batch = own.batch;
         room = own.room;
+        stacks = stacked class stacks (λ cache. cs) is r;
       }) where
         cs : List ℕ
         cs = class_blocks v.setup.capacity class d

@@ -2,8 +2,8 @@
 use Rattle.std.proofs.Common.{◌≡◌, ◌≢◌, ℕ, zero, suc, ◌+◌, ◌-◌, ◌*◌, ◌<◌, ◌≤◌, inl, inr, Bool, true, false, None, cond, nat_lt, List, [], ◌∷◌, ◌++◌, get_or, set, length, refl, ap, ap₂, sym, subst, ◌∙◌, length-set, ltb-true, lt-ltb, true≢false, Vec, Global, arith}
 use Rattle.std.specs.Vec.{vec_capacity}
 use Rattle.std.proofs.lemmas.Bool.{cases_eq, cases_lt}
-use Rattle.heap_model.specs.Geometry.{lists, start_word}
-use Rattle.heap_model.specs.Sizes.{IsClass, words_of_class}
+use Rattle.heap_model.specs.Geometry.{lists, start_word, image_words}
+use Rattle.heap_model.specs.Sizes.{IsClass, words_of_class, blocks_of}
 use Rattle.heap_model.specs.Words.{anchor_state, anchor_first, anchor_count, head_first, head_pops, full_anchor, full_state}
 use Rattle.heap_model.specs.Counting.{times, total, without}
 use Rattle.core_model.specs.declared.event.Event.TheVariants.{Store, TakeFresh, Pop, Push, TakeAll, Give}
@@ -15,6 +15,7 @@ use Rattle.core_model.specs.Guards.{IsOwn, MayList, as_free, of_its_class}
 use Rattle.core_model.specs.Sound.{Good, tally_of, times_cut, IsAnchoredBy, IsCutBlock, KnowsHead}
 use Rattle.core_model.proofs.AnchorLemmas as on_anchor
 use Rattle.core_model.proofs.BlockLemmas.{walks_chain, superblock_is, of_class_same}
+use Rattle.core_model.proofs.CountLemmas.{chain_short}
 use Rattle.core_model.proofs.FrameLemmas.{below_not}
 use Rattle.core_model.proofs.GiveLemmas as gives
 use Rattle.core_model.proofs.ListLemmas.{in_lists_at}
@@ -22,10 +23,13 @@ use Rattle.core_model.proofs.OwnLemmas.{one_at_most}
 use Rattle.core_model.proofs.OwnerLemmas.{which_class}
 use Rattle.core_model.proofs.SoundLemmas.{batched}
 use Rattle.core_model.proofs.TotalLemmas.{total_at, eq-eqb-one, ne-eqb-none}
+use Rattle.crash_core.proofs.ChainSteps.{cut_range}
 use Rattle.crash_core.proofs.ClaimLemmas.{without_at, without_off}
 use Rattle.heap_rule.specs.declared.owned.Stake.{Stake}
 use Rattle.heap_rule.specs.declared.owned.Stake.TheVariants as stake
 use Rattle.heap_rule.specs.declared.owned.Owned.{Owned}
+use Rattle.heap_rule.specs.declared.stacks.Stack.{Stack}
+use Rattle.heap_rule.specs.Stacks.{IsRestacked}
 use Rattle.heap_rule.specs.Owned.{listed, OwnedParts, parts_of, IsStake, IsStaking, IsMarking, AreClasses, HasOwned, times_had}
 use Rattle.heap_rule.specs.Plays.{HasSoundState, IsEvent}
 use Rattle.heap_rule.proofs.BlockMarks.{marked_more, marked_less, cached_times, cached_classes}
@@ -33,6 +37,7 @@ use Rattle.heap_rule.proofs.ChainLemmas.{chain_length, chain_first}
 use Rattle.heap_rule.proofs.FreshLemmas.{hit, missed}
 use Rattle.heap_rule.proofs.HeadLemmas.{before_is}
 use Rattle.heap_rule.proofs.OwnedLemmas.{fresh_stakes, with_claim, claim_stakes, raw_stakes, classed_stakes}
+use Rattle.heap_rule.proofs.StackLemmas.{restacked}
 use Rattle.heap_rule.proofs.ViewLemmas.{block_once}
 
 -- where nothing has changed that tells own words
@@ -54,6 +59,7 @@ staked o stakes p raw split cutting classed large own long are = record {
   roots_are = own.roots_are;
   batch = own.batch;
   room = own.room;
+  stacks = own.stacks;
 }
 
 -- a store to an own anchor keeps the claim
@@ -290,9 +296,20 @@ module _ (v w : View) (d found : ℕ) (event : IsEvent (TakeAll d) v found w) (s
       ∙ sym (chain_first (next m0) (start_word v.setup.capacity d + anchor_first (seen_word v.seen_anchor) * words_of_class class) (anchor_count (seen_word v.seen_anchor)) (let l = chain_length (next m0) (start_word v.setup.capacity d + anchor_first (seen_word v.seen_anchor) * words_of_class class) (anchor_count (seen_word v.seen_anchor)) in let e = ap anchor_count is in omega arith))
       ∙ sym (ap first_of cache_taken) ∙ ap (λ n. first_of (of_class w.caches n)) (sym c_is)
 
-  pub taken_owned : (o : Owned) (blocks : Vec Bool Global) (classes : Vec ℕ Global) (stakes : Vec Stake Global) → HasOwned o (parts_of v) → IsMarking o.blocks.items blocks.items taken_blocks true
-      → classes.items ≡ set o.classes.items d class → stakes.items ≡ set o.stakes.items d stake.Nothing → HasOwned (record o { blocks = blocks; classes = classes; stakes = stakes }) (parts_of w)
-  taken_owned o blocks classes stakes own marking classes_are stakes_are = subst (HasOwned (record o { blocks = blocks; classes = classes; stakes = stakes })) (sym (ap parts_of took)) (record {
+  -- all in the image
+  pub taken_inside : (b : ℕ) → 0 < times b taken_blocks → b < image_words v.setup.capacity
+  taken_inside b there = (cut_range v.setup.capacity class d b claim.0 take_below (taken_cut b there)).1
+
+  -- no more than a superblock has
+  pub taken_short : (c : ℕ) → c ≡ class → length (of_class w.caches c) ≤ blocks_of c
+  taken_short c c_is = subst (λ n. length (of_class w.caches n) ≤ blocks_of n) (sym c_is) (subst (λ l. length l ≤ blocks_of class) (sym cache_taken) (chain_short v.setup.capacity class d taken_blocks claim.0 taken_cut once)) where
+    once : (b : ℕ) → IsCutBlock v.setup.capacity class d b → times b taken_blocks ≤ 1
+    once b is = subst (λ l. times b l ≤ 1) (sym blocks_are) (let o = good0.shaped.chained.owned d b cut_d (subst (λ n. IsCutBlock v.setup.capacity n d b) (sym claim.1) is) in omega arith)
+
+  pub taken_owned : (o : Owned) (blocks : Vec Bool Global) (classes : Vec ℕ Global) (stakes : Vec Stake Global) (stacks : Vec Stack Global) → HasOwned o (parts_of v) → IsMarking o.blocks.items blocks.items taken_blocks true
+      → classes.items ≡ set o.classes.items d class → stakes.items ≡ set o.stakes.items d stake.Nothing → IsRestacked o.stacks.items stacks.items class (λ cache. taken_blocks)
+      → HasOwned (record o { blocks = blocks; classes = classes; stakes = stakes; stacks = stacks }) (parts_of w)
+  taken_owned o blocks classes stakes stacks own marking classes_are stakes_are r = subst (HasOwned (record o { blocks = blocks; classes = classes; stakes = stakes; stacks = stacks })) (sym (ap parts_of took)) (record {
     words_long = marking.long ∙ own.words_long;
     classes_long = ap length classes_are ∙ length-set o.classes.items d class ∙ own.classes_long;
     stakes_long = ap length stakes_are ∙ length-set o.stakes.items d stake.Nothing ∙ own.stakes_long;
@@ -306,6 +323,7 @@ module _ (v w : View) (d found : ℕ) (event : IsEvent (TakeAll d) v found w) (s
     roots_are = own.roots_are;
     batch = own.batch;
     room = own.room;
+    stacks = restacked o.stacks.items stacks.items v.caches class (λ cache. taken_blocks) own.stacks (let l = claim.0.last in omega arith) less r;
   }) where
     same_class : (b : ℕ) → 0 < times_had b (parts_of v) → superblock_at v.setup.capacity b ≡ d → get_or o.classes.items d 0 ≡ class
     same_class b had here = ap (λ n. get_or o.classes.items n 0) (sym here) ∙ class_kept v event.before o own b had ∙ ap (info m0) here ∙ claim.1
@@ -337,6 +355,7 @@ module _ (v w : View) (d found : ℕ) (event : IsEvent (Give d) v found w) (same
     roots_are = own.roots_are;
     batch = none;
     room = (let r = own.room in omega arith);
+    stacks = own.stacks;
   }
 
   -- its superblock keeps its place, where it had free blocks

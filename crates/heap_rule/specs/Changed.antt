@@ -5,7 +5,7 @@ use Rattle.heap_model.specs.Counting.{times}
 use Rattle.core_model.specs.declared.event.Shift.{Shift}
 use Rattle.core_model.specs.Memory.{memory_of}
 use Rattle.core_model.specs.View.{View}
-use Rattle.core_model.specs.Effects.{class_blocks, shifted, drew}
+use Rattle.core_model.specs.Effects.{class_blocks, rest_of, shifted, drew}
 use Rattle.heap_rule.specs.declared.owned.Stake.{Stake}
 use Rattle.heap_rule.specs.declared.owned.Stake.TheVariants as stake
 use Rattle.heap_rule.specs.declared.owned.Change.{Change}
@@ -13,6 +13,7 @@ use Rattle.heap_rule.specs.declared.owned.Change.TheVariants as change
 use Rattle.heap_rule.specs.declared.owned.Owned.{Owned}
 use Rattle.heap_rule.specs.Owned.{IsMarking, IsStaking, HasOwned, parts_of}
 use Rattle.heap_rule.specs.Plays.{HasSoundState}
+use Rattle.heap_rule.specs.Stacks.{HasStack, IsRestacked}
 
 -- a superblock of the image that may be cut for the class
 pub record CanCutIn (o : Owned) (capacity d class : ℕ) : Type 0 where
@@ -20,25 +21,35 @@ pub record CanCutIn (o : Owned) (capacity d class : ℕ) : Type 0 where
   pub classes : d < length o.classes.items
   pub stakes : d < length o.stakes.items
   pub blocks : (b : ℕ) → 0 < times b (class_blocks capacity class d) → b < length o.blocks.items
+  pub stack : HasStack o.stacks.items class
   pub fits : length o.blocks.items < 2147483648
 
 abbrev pub CanChange : Change → ℕ → Owned → Type 0
 CanChange change.Nothing capacity o = ⊤
-CanChange (change.Lifted block) capacity o = length o.batch.items < vec_capacity o.batch
+CanChange (change.Allocated class) capacity o = class < length o.stacks.items
+CanChange (change.Freed class block) capacity o = HasStack o.stacks.items class
+CanChange (change.Lifted class block) capacity o = (class < length o.stacks.items) × (length o.batch.items < vec_capacity o.batch)
 CanChange (change.Cut d class) capacity o = CanCutIn o capacity d class.number
 CanChange (change.Large d n) capacity o = (1 ≤ n) × (d + n ≤ length o.stakes.items)
 CanChange (change.Split d n) capacity o = d + n ≤ length o.stakes.items
 
-pub record IsLifted (o o' : Owned) (block : ℕ) : Type 0 where
-  pub others : o' ≡ record o { batch = o'.batch }
+-- one cache is another
+pub record IsRecached (o o' : Owned) (class : ℕ) (change : List ℕ → List ℕ) : Type 0 where
+  pub others : o' ≡ record o { stacks = o'.stacks }
+  pub stacks : IsRestacked o.stacks.items o'.stacks.items class change
+
+pub record IsLifted (o o' : Owned) (class block : ℕ) : Type 0 where
+  pub others : o' ≡ record o { batch = o'.batch; stacks = o'.stacks }
   pub batch : o'.batch.items ≡ o.batch.items ++ block ∷ []
   pub room : vec_capacity o'.batch ≡ vec_capacity o.batch
+  pub stacks : IsRestacked o.stacks.items o'.stacks.items class rest_of
 
 pub record IsCutIn (o o' : Owned) (capacity d class : ℕ) : Type 0 where
-  pub others : o' ≡ record o { blocks = o'.blocks; classes = o'.classes; stakes = o'.stakes }
+  pub others : o' ≡ record o { blocks = o'.blocks; classes = o'.classes; stakes = o'.stakes; stacks = o'.stacks }
   pub blocks : IsMarking o.blocks.items o'.blocks.items (class_blocks capacity class d) true
   pub classes : o'.classes.items ≡ set o.classes.items d class
   pub stakes : o'.stakes.items ≡ set o.stakes.items d stake.Nothing
+  pub stacks : IsRestacked o.stacks.items o'.stacks.items class (λ cache. class_blocks capacity class d)
 
 pub record IsLargeIn (o o' : Owned) (d n : ℕ) : Type 0 where
   pub others : o' ≡ record o { stakes = o'.stakes }
@@ -52,7 +63,9 @@ pub record IsSplitIn (o o' : Owned) (d n : ℕ) : Type 0 where
 
 abbrev pub IsChanged : Change → ℕ → Owned → Owned → Type 0
 IsChanged change.Nothing capacity o o' = o' ≡ o
-IsChanged (change.Lifted block) capacity o o' = IsLifted o o' block
+IsChanged (change.Allocated class) capacity o o' = IsRecached o o' class rest_of
+IsChanged (change.Freed class block) capacity o o' = IsRecached o o' class (λ cache. block ∷ cache)
+IsChanged (change.Lifted class block) capacity o o' = IsLifted o o' class block
 IsChanged (change.Cut d class) capacity o o' = IsCutIn o o' capacity d class.number
 IsChanged (change.Large d n) capacity o o' = IsLargeIn o o' d n
 IsChanged (change.Split d n) capacity o o' = IsSplitIn o o' d n

@@ -15,3 +15,4 @@ pub mod Changed
 pub mod Rooms
 pub mod Fences
 pub mod Examples
+pub mod Stacks

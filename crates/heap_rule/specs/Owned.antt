@@ -14,6 +14,7 @@ use Rattle.crash_core.specs.declared.owners.Share.TheVariants as share
 use Rattle.heap_rule.specs.declared.owned.Stake.{Stake}
 use Rattle.heap_rule.specs.declared.owned.Stake.TheVariants as stake
 use Rattle.heap_rule.specs.declared.owned.Owned.{Owned}
+use Rattle.heap_rule.specs.Stacks.{AreStacks}
 
 -- how often a superblock with this stake is claimed without a class, and with one, and which; how often a large block takes it, and how many superblocks the one that begins there takes
 abbrev pub unclassed_in : Stake → ℕ
@@ -107,6 +108,7 @@ pub record HasOwned (o : Owned) (p : OwnedParts) : Type 0 where
   pub roots_are : AreMarked o.roots.items (λ i. times i p.roots)
   pub batch : o.batch.items ≡ p.batch
   pub room : most_blocks ≤ vec_capacity o.batch
+  pub stacks : AreStacks o.stacks.items p.caches
 
 -- some numbers have this mark, and all others keep theirs
 pub record IsMarking (old new : List Bool) (numbers : List ℕ) (mark : Bool) : Type 0 where

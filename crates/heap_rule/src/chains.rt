@@ -1,7 +1,7 @@
 //! The steps of a seat that exchange an anchor.
 
-ghost use Rattle.std.specs.Prelude.{◌≡◌, ◌≢◌, ◌<◌, ◌≤◌, ◌+◌, ◌-◌, ◌/◌, ℕ, length, true};
-ghost use Rattle.heap_model.specs.Geometry.{start_word, image_words};
+ghost use Rattle.std.specs.Prelude.{◌≡◌, ◌≢◌, ◌<◌, ◌≤◌, ◌+◌, ◌-◌, ◌/◌, ℕ, drop, length};
+ghost use Rattle.heap_model.specs.Geometry.{start_word};
 ghost use Rattle.heap_model.specs.Sizes.{words_of_class, blocks_of};
 ghost use Rattle.heap_model.specs.Words.{anchor_state, anchor_count};
 ghost use Rattle.core_model.specs.declared.event.Event.TheVariants.{TakeAll, Give};
@@ -10,14 +10,14 @@ ghost use Rattle.core_model.specs.View.{of_class};
 ghost use Rattle.core_model.specs.Sound.{IsCutBlock};
 ghost use Rattle.heap_rule.specs.Plays.{IsEvent};
 ghost use Rattle.heap_rule.specs.Joint.{view_in};
-ghost use Rattle.heap_rule.specs.Owned.{IsMarking};
 ghost use Rattle.heap_rule.specs.Seated.{IsAt, KeepsStores, IsSeatOf, Tells};
 ghost use Rattle.heap_rule.specs.Shown.{Can};
 
-use crate::owned::{Stake, unmark_all};
+use crate::owned::{Stake, mark_all};
 use crate::rule::Bare;
 use crate::seat::Seat;
 use crate::shared::Shared;
+use crate::stacks::Stack;
 use crate::steps::{exchange, read};
 use anchor_word::{anchor_count, unpack};
 use core_model::Event;
@@ -77,14 +77,9 @@ impl Seat {
             caches,
             ..self.notes
         };
-        mark_cache(
-            shared,
-            &mut self.bare,
-            &mut self.owned.blocks,
-            class,
-            first,
-            count,
-        );
+        let stack = &mut self.owned.stacks[class.number as usize];
+        load_cache(shared, &mut self.bare, stack, class, first, count);
+        mark_all(&mut self.owned.blocks, stack.cached(), true);
         self.owned.classes[d as usize] = class.number as u64;
         self.owned.stakes[d as usize] = Stake::Nothing;
         Ok(())
@@ -121,7 +116,7 @@ impl Seat {
             batch: NO_BATCH,
             ..self.notes
         };
-        unmark_all(&mut self.owned.blocks, &self.owned.batch);
+        mark_all(&mut self.owned.blocks, &self.owned.batch, false);
         self.owned.batch.clear();
         if anchor.word != anchor_after_take_all() {
             return Ok(());
@@ -131,11 +126,11 @@ impl Seat {
     }
 }
 
-/// Marks the blocks of a cache, along which their first words lead: they are the seat's own.
-fn mark_cache(
+/// Loads the blocks of a cache, along which their first words lead, into its stack.
+fn load_cache(
     shared: &Shared,
     bare: &mut Bare,
-    blocks: &mut Vec<bool>,
+    stack: &mut Stack,
     class: SizeClass,
     first: u64,
     count: u64,
@@ -144,19 +139,23 @@ fn mark_cache(
     requires count { count ≡ length (of_class (view_in bare.old.me.0).caches class.number) }
     requires first { 1 ≤ count
         → first ≡ first_of (of_class (view_in bare.old.me.0).caches class.number) }
-    requires long { length blocks.old.items
-        ≡ image_words (view_in bare.old.me.0).setup.capacity }
+    requires room { count ≤ length stack.old.blocks.items }
     ensures same { bare.new.me ≡ bare.old.me }
     ensures table { bare.new.table_id ≡ bare.old.table_id }
-    ensures marked { IsMarking blocks.old.items blocks.new.items
-        (of_class (view_in bare.old.me.0).caches class.number) true }
+    ensures room { length stack.new.blocks.items ≡ length stack.old.blocks.items }
+    ensures inside { stack.new.top ≤ length stack.new.blocks.items }
+    ensures loaded { drop stack.new.top stack.new.blocks.items
+        ≡ of_class (view_in bare.old.me.0).caches class.number }
 {
     let _class = class;
+    let count = count as usize;
+    let top = stack.blocks.len() - count;
     let mut block = first;
-    for _step in 0..count {
-        blocks[block as usize] = true;
+    for step in 0..count {
+        stack.blocks[top + step] = block;
         block = read(shared, bare, block);
     }
+    stack.top = top;
 }
 
 /// The anchor of superblock `d` after the batch is given to it. A word that was seen may be stale:

@@ -22,6 +22,7 @@ mod rule;
 mod seat;
 mod shared;
 mod shifts;
+mod stacks;
 mod step_laws;
 mod steps;
 mod stores;

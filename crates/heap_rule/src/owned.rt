@@ -1,14 +1,16 @@
 //! What tells in constant time which words are a seat's own.
 
-ghost use Rattle.std.specs.Prelude.{◌≡◌, ◌<◌, ◌≤◌, ◌+◌, ℕ, [], length, true, false};
+ghost use Rattle.std.specs.Prelude.{◌≡◌, ◌<◌, ◌≤◌, ◌+◌, ℕ, [], ◌∷◌, length};
 ghost use Rattle.std.specs.Vec.{vec_len, vec_capacity};
 ghost use Rattle.heap_model.specs.Counting.{times, one_if};
-ghost use Rattle.core_model.specs.Effects.{steps};
 ghost use Rattle.heap_rule.specs.Owned.{IsMarking, IsStaking, unclassed_in, classed_in, class_in, large_in, count_in, listed};
-ghost use Rattle.heap_rule.specs.Changed.{CanChange, IsChanged};
+ghost use Rattle.core_model.specs.Effects.{rest_of};
+ghost use Rattle.heap_rule.specs.Stacks.{HasStack};
+ghost use Rattle.heap_rule.specs.Changed.{CanChange, IsChanged, IsRecached};
 ghost use Rattle.heap_rule.specs.declared.owned.Change.TheVariants as change;
 
-use size_table::{SizeClass, blocks_of};
+use crate::stacks::Stack;
+use size_table::SizeClass;
 use super_block::{Geometry, SUPERBLOCK_WORDS, block_words};
 
 /// The most blocks of a superblock: each has two words at least.
@@ -40,6 +42,8 @@ pub struct Owned {
     pub roots: Vec<bool>,
     /// The blocks of its batch, in room for as many as a superblock has.
     pub batch: Vec<u64>,
+    /// By class: the topmost blocks of its cache.
+    pub stacks: Vec<Stack>,
 }
 
 impl Stake {
@@ -110,8 +114,12 @@ impl Stake {
 pub enum Change {
     /// The seat's words and blocks stay.
     Nothing,
-    /// A block of the seat's came behind its batch.
-    Lifted { block: u64 },
+    /// The first block of a cache is held.
+    Allocated { class: u64 },
+    /// A held block came in front of the cache of its class.
+    Freed { class: u64, block: u64 },
+    /// The first block of a cache came behind the batch.
+    Lifted { class: u64, block: u64 },
     /// All blocks of a claimed superblock, which was cut for a class, are the seat's.
     Cut { d: u64, class: SizeClass },
     /// A large block takes `n` claimed superblocks.
@@ -128,21 +136,42 @@ impl Owned {
     {
         match change {
             Change::Nothing => {}
-            Change::Lifted { block } => self.batch.push_reserved(block),
+            Change::Allocated { class } => self.uncache(class),
+            Change::Freed { class, block } => self.cache(class, block),
+            Change::Lifted { class, block } => {
+                self.uncache(class);
+                self.batch.push_reserved(block);
+            }
             Change::Cut { d, class } => self.cut(geometry, d, class),
             Change::Large { d, n } => self.hold_large(d, n),
             Change::Split { d, n } => stake_range(&mut self.stakes, d, n, Stake::Unclassed),
         }
     }
 
-    /// All blocks of a claimed superblock are the seat's.
+    /// Takes the first block off a cache.
+    fn uncache(&mut self, class: u64)
+        requires { class < length self.old.stacks.items }
+        ensures { IsRecached self.old self.new class rest_of }
+    {
+        self.stacks[class as usize].pop();
+    }
+
+    /// Puts a block in front of a cache.
+    fn cache(&mut self, class: u64, block: u64)
+        requires { HasStack self.old.stacks.items class }
+        ensures { IsRecached self.old self.new class (λ cache. block ∷ cache) }
+    {
+        self.stacks[class as usize].push(block);
+    }
+
+    /// All blocks of a claimed superblock are the seat's, and in the cache.
     fn cut(&mut self, geometry: Geometry, d: u64, class: SizeClass)
         requires { CanChange (change.Cut d class) geometry.capacity self.old }
         ensures { IsChanged (change.Cut d class) geometry.capacity self.old self.new }
     {
-        let words = block_words(class);
-        let count = blocks_of(class.number);
-        mark_steps(&mut self.blocks, geometry.start(d), words, count);
+        let index = class.number as usize;
+        self.stacks[index].fill(geometry.start(d), block_words(class));
+        mark_all(&mut self.blocks, self.stacks[index].cached(), true);
         self.classes[d as usize] = class.number as u64;
         self.stakes[d as usize] = Stake::Nothing;
     }
@@ -157,27 +186,13 @@ impl Owned {
     }
 }
 
-/// Marks `count` blocks from one on, so many words apart.
-pub(crate) fn mark_steps(blocks: &mut Vec<bool>, first: u64, apart: u64, count: u64)
-    requires inside { (b : ℕ) → 0 < times b (steps first apart count)
-        → b < length blocks.old.items }
-    requires fits { length blocks.old.items + apart < 18446744073709551616 }
-    ensures { IsMarking blocks.old.items blocks.new.items (steps first apart count) true }
+/// Gives or takes back the marks of some blocks.
+pub(crate) fn mark_all(blocks: &mut Vec<bool>, list: &[u64], mark: bool)
+    requires { (b : ℕ) → 0 < times b list.now → b < length blocks.old.items }
+    ensures { IsMarking blocks.old.items blocks.new.items list.now mark }
 {
-    let mut block = first;
-    for _step in 0..count {
-        blocks[block as usize] = true;
-        block += apart;
-    }
-}
-
-/// Takes back the marks of some blocks.
-pub(crate) fn unmark_all(blocks: &mut Vec<bool>, batch: &[u64])
-    requires { (b : ℕ) → 0 < times b batch.now → b < length blocks.old.items }
-    ensures { IsMarking blocks.old.items blocks.new.items batch.now false }
-{
-    for block in batch {
-        blocks[*block as usize] = false;
+    for block in list {
+        blocks[*block as usize] = mark;
     }
 }
 

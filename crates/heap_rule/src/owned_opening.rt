@@ -1,8 +1,9 @@
 //! What seats keep to tell their own words, as a heap at rest is opened for them.
 
-ghost use Rattle.std.specs.Prelude.{◌≡◌, ◌<◌, ◌+◌, ℕ, get_or, false, length, nat_eq, slice_index, IfOk};
+ghost use Rattle.std.specs.Prelude.{◌≡◌, ◌<◌, ◌+◌, ℕ, List, get_or, false, length, nat_eq, slice_index, IfOk};
 ghost use Rattle.heap_model.specs.Counting.{one_if};
-ghost use Rattle.heap_model.specs.Geometry.{info_word, capacity_word};
+ghost use Rattle.heap_model.specs.Geometry.{lists, info_word, capacity_word};
+ghost use Rattle.heap_model.specs.Sizes.{IsClass, blocks_of};
 ghost use Rattle.heap_model.specs.Rest.{IsReady};
 ghost use Rattle.core_model.specs.Opening.{AreOwners};
 ghost use Rattle.crash_core.specs.OpenedOwners.{AreBlockOwners, AreSuperblockOwners};
@@ -10,14 +11,17 @@ ghost use Rattle.crash_core.specs.Standing.{place_for, held_in, share_for, no_bl
 ghost use Rattle.heap_rule.specs.Owned.{HasOwned, stake_for, opened_parts};
 ghost use Rattle.heap_rule.specs.declared.owned.Stake.TheVariants.{Nothing};
 ghost use Rattle.heap_rule.specs.Rooms.{IsOpenedRoom};
+ghost use Rattle.heap_rule.specs.Stacks.{AreStacks};
 ghost use Rattle.heap_rule.specs.declared.owned_opening.Room.{Room};
 
 use crate::owned::{MOST_BLOCKS, Owned, Stake};
+use crate::stacks::Stack;
 use crash_core::{BlockOwner, Owners, Share, SuperblockOwner, block_owners, superblock_owners};
 use line_memory::{Pending, RecentStores};
+use size_table::blocks_of;
 use std::alloc::{AllocError, Global};
 use std::collections::VecDeque;
-use super_block::Ready;
+use super_block::{LISTS, Ready};
 
 /// What a seat takes room for.
 #[derive(Drop)]
@@ -79,7 +83,31 @@ fn owned_by(
         stakes: stakes_of(alloc, superblocks, seat)?,
         roots: roots_of(alloc, owners.roots(), seat)?,
         batch: Vec::with_capacity(alloc, MOST_BLOCKS)?,
+        stacks: empty_stacks(alloc)?,
     })
+}
+
+/// An empty stack for each class, with room for a superblock's blocks.
+fn empty_stacks(alloc: Global) -> Result<Vec<Stack>, AllocError>
+    ensures { IfOk result (λ v. (caches : List (List ℕ)) → AreStacks v.items caches) }
+{
+    let mut stacks = Vec::with_capacity(alloc, LISTS as usize)?;
+    for class in 0..LISTS as u8 {
+        let stack = Stack::new(alloc, most_cached(class))?;
+        stacks.push_reserved(stack);
+    }
+    Ok(stacks)
+}
+
+/// How many blocks of the class a superblock has; 0 for class 0, which is none.
+fn most_cached(class: u8) -> usize
+    requires { class < lists }
+    ensures { IsClass class → result ≡ blocks_of class }
+{
+    if class == 0 {
+        return 0;
+    }
+    blocks_of(class) as usize
 }
 
 /// Which blocks the seat holds.

@@ -23,7 +23,8 @@ impl Seat {
         SizeClass::new(class as u8)
     }
 
-    /// The block after the first one of a cache, where there is one.
+    /// The block after the first one of a cache, where there is one: the stack tells it, and a load
+    /// only where more blocks were cached than a superblock has.
     pub(crate) fn next_cached(&mut self, shared: &Shared, class: u64) -> u64
         requires seat { IsSeatOf shared.now self.old }
         requires may { MayAlloc self.old.view class }
@@ -31,8 +32,14 @@ impl Seat {
         ensures next { 1 ≤ length (rest_of (of_class self.old.view.caches class))
             → first_of (rest_of (of_class self.old.view.caches class)) ≡ result }
     {
-        let first = self.notes.caches[class as usize].first;
-        read(shared, &mut self.bare, first)
+        let cache = self.notes.caches[class as usize];
+        if cache.count < 2 {
+            return 0;
+        }
+        if let Some(second) = self.owned.stacks[class as usize].second() {
+            return second;
+        }
+        read(shared, &mut self.bare, cache.first)
     }
 
     /// The class of a held block that may be freed.

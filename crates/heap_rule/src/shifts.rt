@@ -32,7 +32,7 @@ impl Seat {
             caches,
             ..self.notes
         };
-        (after, Change::Nothing)
+        (after, Change::Allocated { class })
     }
 
     /// The first block of the cache is behind the batch.
@@ -62,7 +62,11 @@ impl Seat {
             batch,
             ..self.notes
         };
-        (after, Change::Lifted { block: cache.first })
+        let change = Change::Lifted {
+            class,
+            block: cache.first,
+        };
+        (after, change)
     }
 
     /// Superblocks are held as a large block.
@@ -95,7 +99,11 @@ impl Seat {
             caches,
             ..self.notes
         };
-        (after, Change::Nothing)
+        let change = Change::Freed {
+            class: class.number as u64,
+            block,
+        };
+        (after, change)
     }
 
     /// The superblocks of a held large block are claimed.

@@ -15,4 +15,5 @@ returns c = gathered c.args.heap.now c.args.owners.now c.requires.owners.0 c.arg
   roots_are = λ n. c.in_ok-roots_of.ensures.each n ∙ ap (λ l. one_if (nat_eq (get_or l n (c.args.seat + 1)) c.args.seat)) c.roots.ensures;
   batch = c.in_ok-with_capacity.ensures.items;
   room = (let k = c.in_ok-with_capacity.ensures.capacity in omega arith);
+  stacks = c.in_ok-empty_stacks.ensures;
 })

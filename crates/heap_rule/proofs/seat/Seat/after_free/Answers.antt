@@ -1,5 +1,6 @@
 use Rattle.std.proofs.Common.{subst, arith}
 use Rattle.heap_rule.specs.Joint.{view_in}
+use Rattle.heap_rule.specs.Plays.{HasSoundState}
 use Rattle.heap_rule.specs.Seated.{SeatView, IsKeptOf}
 use Rattle.heap_rule.proofs.ChangeLemmas.{free_change}
 use Rattle.heap_rule.proofs.ShiftLemmas.{count_fits, free_fits}
@@ -13,4 +14,4 @@ returns-clause-fits c = free_fits c.self.inside.notes c.args.self.now.view (subs
     c.args.block c.requires.can c.held_class-class.result.number (c.held_class-class.ensures.class c.requires.can)
 
 pub returns-clause-change : goal.returns-clause-change
-returns-clause-change c = free_change c.args.self.now.view c.args.block c.requires.can
+returns-clause-change c = free_change c.args.self.now.view (subst (λ (s : SeatView). HasSoundState s.view) c.self.view_is c.self.invariant.seat.kept.has) c.held_class-class.result.number c.args.block c.requires.can (c.held_class-class.ensures.class c.requires.can)

@@ -1,7 +1,7 @@
 use Rattle.heap_rule.specs.Shown.{Can}
 use Rattle.heap_rule.proofs.OwnedReads.{classed_below}
-use Rattle.std.proofs.Common.{ap, sym, subst, set, refl, true, ◌∙◌, ◌+◌, ◌*◌, arith}
-use Rattle.heap_model.specs.Geometry.{start_word, image_words}
+use Rattle.std.proofs.Common.{ap, sym, subst, set, refl, true, ◌∙◌, ◌+◌, ◌*◌, ◌<◌, ◌≤◌, length, arith}
+use Rattle.heap_model.specs.Geometry.{start_word}
 use Rattle.heap_model.specs.Sizes.{words_of_class}
 use Rattle.heap_model.specs.Words.{anchor_first}
 use Rattle.core_model.specs.declared.event.Event.TheVariants.{TakeAll}
@@ -9,10 +9,11 @@ use Rattle.core_model.specs.Effects.{seen_word, claim_class}
 use Rattle.crash_core.specs.Standing.{snapshot}
 use Rattle.heap_rule.specs.Joint.{view_in}
 use Rattle.heap_rule.specs.Seated.{SeatView}
-use Rattle.core_model.specs.View.{Setup, of_class}
+use Rattle.core_model.specs.View.{of_class}
+use Rattle.heap_model.specs.Counting.{times}
 use Rattle.heap_rule.specs.Owned.{IsMarking}
-use Rattle.heap_rule.proofs.OwnedSteps.{take_lost, taken_count, taken_first, cache_taken, taken_owned}
-use Rattle.heap_rule.proofs.StepLemmas.{has_after}
+use Rattle.heap_rule.proofs.OwnedSteps.{take_lost, taken_count, taken_first, taken_short, taken_inside, cache_taken, taken_owned}
+use Rattle.heap_rule.proofs.StackLemmas.{filled_stack, has_stack}
 use Rattle.heap_rule.proofs.SeatLemmas.{seat_after, whole_at}
 use Rattle.heap_rule.proofs.ChainLemmas.{all_taken, take_all_lost}
 use Rattle.heap_rule.proofs.seat.Seat.take_into.Goals as goal
@@ -27,37 +28,55 @@ invariant_of-self c =
       own = take_lost c.self.inside.owned (view_in c.self.inside.bare.me.0) (view_in c.exchange-found.new.bare.me.0) c.args.d c.exchange-found.result c.in-Some.anchor.word c.self.invariant.own c.exchange-found.ensures.event is c.if-found-anchor.true;
     }
 
-pub mark_cache-requires-clause-count : goal.mark_cache-requires-clause-count
-mark_cache-requires-clause-count c =
+pub load_cache-requires-clause-count : goal.load_cache-requires-clause-count
+load_cache-requires-clause-count c =
     let is = ap seen_word (c.self.invariant.seat.kept.notes_are.seen_anchor ∙ ap snapshot c.in-Some.is) in
     taken_count (view_in c.self.inside.bare.me.0) (view_in c.exchange-found.new.bare.me.0) c.args.d c.exchange-found.result c.exchange-found.ensures.event (c.if-found-anchor.false ∙ sym is) c.args.class.number c.anchor_count-count.result c.in-Some.anchor.word
     (c.requires.class ∙ ap (λ (s : SeatView). claim_class c.args.d s.view.classed) (sym c.self.view_is)) c.anchor_count-count.ensures is
 
-pub mark_cache-requires-clause-first : goal.mark_cache-requires-clause-first
-mark_cache-requires-clause-first c =
+pub load_cache-requires-clause-first : goal.load_cache-requires-clause-first
+load_cache-requires-clause-first c =
     let is = ap seen_word (c.self.invariant.seat.kept.notes_are.seen_anchor ∙ ap snapshot c.in-Some.is) in
     taken_first (view_in c.self.inside.bare.me.0) (view_in c.exchange-found.new.bare.me.0) c.args.d c.exchange-found.result c.exchange-found.ensures.event (c.if-found-anchor.false ∙ sym is) c.args.class.number c.first_free-first.result c.anchor_count-count.result c.in-Some.anchor.word
     (c.requires.class ∙ ap (λ (s : SeatView). claim_class c.args.d s.view.classed) (sym c.self.view_is)) c.anchor_count-count.ensures is
     (c.first_free-first.ensures ∙ ap (λ n. start_word n c.args.d + anchor_first c.in-Some.anchor.word * words_of_class c.args.class.number) c.self.invariant.seat.capacity_is)
 
-pub mark_cache-requires-clause-long : goal.mark_cache-requires-clause-long
-mark_cache-requires-clause-long c = c.self.invariant.own.words_long
-    ∙ ap (λ (k : Setup). image_words k.capacity) (sym (has_after (TakeAll c.args.d) (view_in c.self.inside.bare.me.0) c.exchange-found.result (view_in c.exchange-found.new.bare.me.0) c.exchange-found.ensures.event).1)
+pub load_cache-requires-clause-room : goal.load_cache-requires-clause-room
+load_cache-requires-clause-room c =
+    let is = ap seen_word (c.self.invariant.seat.kept.notes_are.seen_anchor ∙ ap snapshot c.in-Some.is) in
+    let class_is = c.requires.class ∙ ap (λ (s : SeatView). claim_class c.args.d s.view.classed) (sym c.self.view_is) in
+    let n = taken_count (view_in c.self.inside.bare.me.0) (view_in c.exchange-found.new.bare.me.0) c.args.d c.exchange-found.result c.exchange-found.ensures.event (c.if-found-anchor.false ∙ sym is) c.args.class.number c.anchor_count-count.result c.in-Some.anchor.word
+    class_is c.anchor_count-count.ensures is in
+    let short = taken_short (view_in c.self.inside.bare.me.0) (view_in c.exchange-found.new.bare.me.0) c.args.d c.exchange-found.result c.exchange-found.ensures.event (c.if-found-anchor.false ∙ sym is) c.args.class.number class_is in
+    let room = c.self.invariant.own.stacks.room c.args.class.number c.index_mut-stack.result.now (sym c.index_mut-stack.ensures.value) c.args.class.is in
+    subst (λ k. k ≤ length c.index_mut-stack.result.now.blocks.items) (sym n) (subst (λ k. length (of_class (view_in c.exchange-found.new.bare.me.0).caches c.args.class.number) ≤ k) (sym room) short)
+
+pub cached-requires : goal.cached-requires
+cached-requires c = c.load_cache.ensures.inside
+
+pub mark_all-requires : goal.mark_all-requires
+mark_all-requires c =
+    let is = ap seen_word (c.self.invariant.seat.kept.notes_are.seen_anchor ∙ ap snapshot c.in-Some.is) in
+    let class_is = c.requires.class ∙ ap (λ (s : SeatView). claim_class c.args.d s.view.classed) (sym c.self.view_is) in
+    λ b some. subst (λ n. b < n) (sym c.self.invariant.own.words_long) (taken_inside (view_in c.self.inside.bare.me.0) (view_in c.exchange-found.new.bare.me.0) c.args.d c.exchange-found.result c.exchange-found.ensures.event (c.if-found-anchor.false ∙ sym is) b
+    (subst (λ l. 0 < times b l) (c.cached.ensures ∙ c.load_cache.ensures.loaded ∙ ap (of_class (view_in c.exchange-found.new.bare.me.0).caches) class_is
+    ∙ cache_taken (view_in c.self.inside.bare.me.0) (view_in c.exchange-found.new.bare.me.0) c.args.d c.exchange-found.result c.exchange-found.ensures.event (c.if-found-anchor.false ∙ sym is)) some))
 
 pub invariant_of-self-2 : goal.invariant_of-self-2
 invariant_of-self-2 c =
     let is = ap seen_word (c.self.invariant.seat.kept.notes_are.seen_anchor ∙ ap snapshot c.in-Some.is) in
     let class_is = c.requires.class ∙ ap (λ (s : SeatView). claim_class c.args.d s.view.classed) (sym c.self.view_is) in
-    whole_at c.exchange-found.new.bare.me c.mark_cache.new.bare.me _ _ _ _ _ c.mark_cache.ensures.same (record {
+    let loaded = c.load_cache.ensures.loaded ∙ ap (of_class (view_in c.exchange-found.new.bare.me.0).caches) class_is ∙ cache_taken (view_in c.self.inside.bare.me.0) (view_in c.exchange-found.new.bare.me.0) c.args.d c.exchange-found.result c.exchange-found.ensures.event (c.if-found-anchor.false ∙ sym is) in
+    whole_at c.exchange-found.new.bare.me c.load_cache.new.bare.me _ _ _ _ _ c.load_cache.ensures.same (record {
       seat = seat_after c.self.inside.bare.me c.exchange-found.new.bare.me c.self.inside.notes _ c.self.inside.geometry.capacity (TakeAll c.args.d) c.exchange-found.result c.args.shared.now c.exchange-found.new.bare.table_id c.self.invariant.seat c.exchange-found.ensures.at c.exchange-found.ensures.event
           (all_taken c.self.inside.notes (view_in c.self.inside.bare.me.0) (view_in c.exchange-found.new.bare.me.0) c.args.d c.exchange-found.result c.in-Some.anchor.word c.args.class.number (record { first = c.first_free-first.result; count = c.anchor_count-count.result })
           c.self.invariant.seat.kept c.exchange-found.ensures.event c.exchange-found.ensures.at.has is c.if-found-anchor.false class_is c.args.class.is
           (c.first_free-first.ensures ∙ ap (λ n. start_word n c.args.d + anchor_first c.in-Some.anchor.word * words_of_class c.args.class.number) c.self.invariant.seat.capacity_is) c.anchor_count-count.ensures);
       marks_long = c.self.invariant.marks_long;
-      own = taken_owned (view_in c.self.inside.bare.me.0) (view_in c.exchange-found.new.bare.me.0) c.args.d c.exchange-found.result c.exchange-found.ensures.event (c.if-found-anchor.false ∙ sym is) c.self.inside.owned c.mark_cache.new.blocks _ _ c.self.invariant.own
-          (subst (λ l. IsMarking c.self.inside.owned.blocks.items c.mark_cache.new.blocks.items l true) (ap (of_class (view_in c.exchange-found.new.bare.me.0).caches) class_is
-          ∙ cache_taken (view_in c.self.inside.bare.me.0) (view_in c.exchange-found.new.bare.me.0) c.args.d c.exchange-found.result c.exchange-found.ensures.event (c.if-found-anchor.false ∙ sym is)) c.mark_cache.ensures.marked)
-          (ap (set c.self.inside.owned.classes.items c.args.d) class_is) refl;
+      own = taken_owned (view_in c.self.inside.bare.me.0) (view_in c.exchange-found.new.bare.me.0) c.args.d c.exchange-found.result c.exchange-found.ensures.event (c.if-found-anchor.false ∙ sym is) c.self.inside.owned c.mark_all.new.blocks _ _ _ c.self.invariant.own
+          (subst (λ l. IsMarking c.self.inside.owned.blocks.items c.mark_all.new.blocks.items l true) (c.cached.ensures ∙ loaded) c.mark_all.ensures) (ap (set c.self.inside.owned.classes.items c.args.d) class_is) refl
+          (filled_stack c.self.inside.owned.stacks.items _ c.args.class.number c.index_mut-stack.result.now c.load_cache.new.stack _ class_is (has_stack c.self.inside.owned.stacks.items _ c.args.class.number c.self.invariant.own.stacks c.args.class.is).below
+          (sym c.index_mut-stack.ensures.value) c.load_cache.ensures.room c.load_cache.ensures.inside loaded);
     })
 
 pub first_free-first-requires : goal.first_free-first-requires
@@ -68,9 +87,9 @@ first_free-first-requires c =
 pub index_mut-requires : goal.index_mut-requires
 index_mut-requires c =
     let can = subst (λ (s : SeatView). Can s.view (TakeAll c.args.d)) (sym c.self.view_is) c.requires.can in
-    let b = classed_below (view_in c.self.inside.bare.me.0) c.self.invariant.seat.kept.has c.self.inside.owned c.self.invariant.own c.args.d can.shown.claimed in let l = c.self.invariant.own.classes_long in omega arith
+    let b = classed_below (view_in c.self.inside.bare.me.0) c.self.invariant.seat.kept.has c.self.inside.owned c.self.invariant.own c.args.d can.shown.claimed in subst (λ n. c.args.d < n) (sym (c.self.inside.owned.classes.ok.0 ∙ c.self.invariant.own.classes_long)) b
 
 pub index_mut-requires-2 : goal.index_mut-requires-2
 index_mut-requires-2 c =
     let can = subst (λ (s : SeatView). Can s.view (TakeAll c.args.d)) (sym c.self.view_is) c.requires.can in
-    let b = classed_below (view_in c.self.inside.bare.me.0) c.self.invariant.seat.kept.has c.self.inside.owned c.self.invariant.own c.args.d can.shown.claimed in let l = c.self.invariant.own.stakes_long in omega arith
+    let b = classed_below (view_in c.self.inside.bare.me.0) c.self.invariant.seat.kept.has c.self.inside.owned c.self.invariant.own c.args.d can.shown.claimed in subst (λ n. c.args.d < n) (sym (c.self.inside.owned.stakes.ok.0 ∙ c.self.invariant.own.stakes_long)) b

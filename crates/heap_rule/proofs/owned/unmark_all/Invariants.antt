@@ -1,6 +1,0 @@
-use Rattle.std.proofs.Common.{take, false}
-use Rattle.heap_rule.specs.Owned.{IsMarking}
-use Rattle.heap_rule.proofs.owned.unmark_all.Given as goal
-
-abbrev pub invariant-loop-block : goal.invariant-loop-block
-invariant-loop-block l = IsMarking l.initial.blocks.items l.blocks.items (take l.block-index l.batch) false
