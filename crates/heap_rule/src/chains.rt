@@ -1,6 +1,6 @@
 //! The steps of a seat that exchange an anchor.
 
-ghost use Rattle.std.specs.Prelude.{◌≡◌, ◌≢◌, ◌<◌, ◌≤◌, ◌+◌, ◌-◌, ◌/◌, ℕ, drop, length};
+ghost use Rattle.std.specs.Prelude.{◌≡◌, ◌≢◌, ◌<◌, ◌≤◌, ◌+◌, ◌-◌, ◌/◌, ℕ, drop, length, Some};
 ghost use Rattle.heap_model.specs.Geometry.{start_word};
 ghost use Rattle.heap_model.specs.Sizes.{words_of_class, blocks_of};
 ghost use Rattle.heap_model.specs.Words.{anchor_state, anchor_count};
@@ -100,7 +100,9 @@ impl Seat {
         let class = SizeClass::new(batch.class as u8);
         let place = self.geometry.anchor(d);
         let event = Event::Give { d };
-        let new = anchor_with_batch(self.geometry, d, class, batch, anchor.word);
+        // A word with no room is stale: the exchange is lost, whatever it would leave.
+        let given = anchor_with_batch(self.geometry, d, class, batch, anchor.word);
+        let new = given.unwrap_or(anchor.word);
         let found = exchange(shared, &mut self.bare, place, anchor.word, new, event);
         if found != anchor.word {
             self.notes = SeatNotes {
@@ -158,26 +160,30 @@ fn load_cache(
     stack.top = top;
 }
 
-/// The anchor of superblock `d` after the batch is given to it. A word that was seen may be stale:
-/// where it is no anchor with room for the batch, its exchange is lost, and any word will do.
-fn anchor_with_batch(geometry: Geometry, d: u64, class: SizeClass, batch: Group, anchor: u64) -> u64
+/// The anchor of superblock `d` after the batch is given to it; none where the word that was seen is
+/// no anchor with room for the batch.
+fn anchor_with_batch(
+    geometry: Geometry,
+    d: u64,
+    class: SizeClass,
+    batch: Group,
+    anchor: u64,
+) -> Option<u64>
     requires d { d < geometry.capacity }
     requires first { IsCutBlock geometry.capacity class.number d batch.first }
     ensures { anchor_state anchor ≢ 3 → batch.count + anchor_count anchor ≤ blocks_of class.number
-        → result ≡ given_anchor anchor
+        → result ≡ Some (given_anchor anchor
         ((batch.first - start_word geometry.capacity d) / words_of_class class.number)
-        batch.count (blocks_of class.number) }
+        batch.count (blocks_of class.number)) }
 {
     let all = blocks_of(class.number);
-    let Some(old) = unpack(anchor) else {
-        return 0;
-    };
+    let old = unpack(anchor)?;
     if old.count > all {
-        return 0;
+        return None;
     }
     if batch.count > all - old.count {
-        return 0;
+        return None;
     }
     let index = (batch.first - geometry.start(d)) / block_words(class);
-    anchor_after_give(anchor, index, batch.count, all)
+    Some(anchor_after_give(anchor, index, batch.count, all))
 }

@@ -1,4 +1,4 @@
-use Rattle.std.proofs.Common.{◌-◌, ◌/◌, ◌<◌, ap₂, sym, subst, ◌∙◌, arith}
+use Rattle.std.proofs.Common.{◌-◌, ◌/◌, ◌<◌, Some, ap, ap₂, sym, subst, ◌∙◌, arith}
 use Rattle.heap_model.specs.Sizes.{words_of_class}
 use Rattle.heap_model.proofs.SizeLemmas.{few_blocks}
 use Rattle.core_model.specs.Effects.{given_anchor}
@@ -15,4 +15,4 @@ anchor_after_give-requires-clause-all c = let e = c.blocks_of-all.ensures in let
 
 pub returns : goal.returns
 returns c = λ state room.
-    c.anchor_after_give.ensures ∙ ap₂ (λ i n. given_anchor c.args.anchor i c.args.batch.count n) (ap₂ (λ s n. (c.args.batch.first - s) / n) c.start.ensures c.block_words.ensures.words) c.blocks_of-all.ensures
+    ap Some (c.anchor_after_give.ensures ∙ ap₂ (λ i n. given_anchor c.args.anchor i c.args.batch.count n) (ap₂ (λ s n. (c.args.batch.first - s) / n) c.start.ensures c.block_words.ensures.words) c.blocks_of-all.ensures)

@@ -1,4 +1,5 @@
-use Rattle.std.proofs.Common.{◌≡◌, ◌≢◌, ℕ, ◌+◌, ◌<◌, ◌≤◌, ◌-◌, ◌/◌, false, refl, ap, sym, subst, ◌∙◌, arith}
+use Rattle.std.proofs.Common.{◌≡◌, ◌≢◌, ℕ, ◌+◌, ◌<◌, ◌≤◌, ◌-◌, ◌/◌, false, Some, refl, ap, sym, subst, ◌∙◌, arith}
+use Rattle.std.specs.Prelude.{unwrap_or}
 use Rattle.heap_model.specs.Geometry.{start_word}
 use Rattle.heap_model.specs.Words.{anchor_state, anchor_count}
 use Rattle.heap_model.specs.Sizes.{IsClass, words_of_class, blocks_of}
@@ -23,8 +24,8 @@ anchor-place-requires c =
     let can = subst (λ (s : SeatView). Can s.view (Give c.args.d)) (sym c.self.view_is) c.requires.can in
     subst (λ n. c.args.d < n) (sym c.self.invariant.seat.capacity_is) (batch_below (view_in c.self.inside.bare.me.0) c.self.invariant.seat.kept.has c.args.d can.shown.batch can.shown.some)
 
-pub anchor_with_batch-new-requires-clause-d : goal.anchor_with_batch-new-requires-clause-d
-anchor_with_batch-new-requires-clause-d c =
+pub anchor_with_batch-given-requires-clause-d : goal.anchor_with_batch-given-requires-clause-d
+anchor_with_batch-given-requires-clause-d c =
     let can = subst (λ (s : SeatView). Can s.view (Give c.args.d)) (sym c.self.view_is) c.requires.can in
     subst (λ n. c.args.d < n) (sym c.self.invariant.seat.capacity_is) (batch_below (view_in c.self.inside.bare.me.0) c.self.invariant.seat.kept.has c.args.d can.shown.batch can.shown.some)
 
@@ -38,8 +39,8 @@ new-class-requires c =
     let can = subst (λ (s : SeatView). Can s.view (Give c.args.d)) (sym c.self.view_is) c.requires.can in
     subst IsClass c.self.invariant.seat.kept.batch.class (batch_class (view_in c.self.inside.bare.me.0) c.self.invariant.seat.kept.has c.args.d can.shown.batch can.shown.some)
 
-pub anchor_with_batch-new-requires-clause-first : goal.anchor_with_batch-new-requires-clause-first
-anchor_with_batch-new-requires-clause-first c =
+pub anchor_with_batch-given-requires-clause-first : goal.anchor_with_batch-given-requires-clause-first
+anchor_with_batch-given-requires-clause-first c =
     let can = subst (λ (s : SeatView). Can s.view (Give c.args.d)) (sym c.self.view_is) c.requires.can in
     subst (λ n. IsCutBlock c.self.inside.geometry.capacity n c.args.d c.self.inside.notes.batch.first) (sym c.new-class.ensures)
     (subst (λ n. IsCutBlock n c.self.inside.notes.batch.class c.args.d c.self.inside.notes.batch.first) (sym c.self.invariant.seat.capacity_is)
@@ -56,9 +57,9 @@ exchange-found-requires-clause-exchange c =
     let is = ap seen_word (c.self.invariant.seat.kept.notes_are.seen_anchor ∙ ap snapshot c.in-Some.is) in
     let word = c.in-Some.anchor.word in let batch = c.self.inside.notes.batch in
     let given = subst (λ (n : ℕ). anchor_state word ≢ 3 → batch.count + anchor_count word ≤ blocks_of n
-    → c.anchor_with_batch-new.result ≡ given_anchor word ((batch.first - start_word c.self.inside.geometry.capacity c.args.d) / words_of_class n) batch.count (blocks_of n)) c.new-class.ensures c.anchor_with_batch-new.ensures in
-    give_exchange c.self.inside.notes (view_in c.self.inside.bare.me.0) c.args.d c.in-Some.anchor.word c.anchor_with_batch-new.result c.self.invariant.seat.kept can.shown can.ticket is
-    (λ state room. given state room ∙ ap (λ n. given_anchor c.in-Some.anchor.word ((c.self.inside.notes.batch.first - start_word n c.args.d) / words_of_class c.self.inside.notes.batch.class) c.self.inside.notes.batch.count (blocks_of c.self.inside.notes.batch.class)) c.self.invariant.seat.capacity_is)
+    → c.anchor_with_batch-given.result ≡ Some (given_anchor word ((batch.first - start_word c.self.inside.geometry.capacity c.args.d) / words_of_class n) batch.count (blocks_of n))) c.new-class.ensures c.anchor_with_batch-given.ensures in
+    give_exchange c.self.inside.notes (view_in c.self.inside.bare.me.0) c.args.d c.in-Some.anchor.word c.unwrap_or-new.result c.self.invariant.seat.kept can.shown can.ticket is
+    (λ state room. c.unwrap_or-new.ensures ∙ ap (λ o. unwrap_or o c.in-Some.anchor.word) (given state room) ∙ ap (λ n. given_anchor c.in-Some.anchor.word ((c.self.inside.notes.batch.first - start_word n c.args.d) / words_of_class c.self.inside.notes.batch.class) c.self.inside.notes.batch.count (blocks_of c.self.inside.notes.batch.class)) c.self.invariant.seat.capacity_is)
 
 pub invariant_of-self : goal.invariant_of-self
 invariant_of-self c =
