@@ -19,13 +19,11 @@ pub struct CacheSeat<'a, C> {
     shared: &'a Shared,
     seat: Seat,
     chance: C,
-    stopped: Option<u64>,
     small_calls: u64,
     large_calls: u64,
     ghost of: { IsSeatOf shared.now seat } by { Prim.hlevel props },
     ghost roots_are: { (i : ℕ) → Contains seat.view.roots i → i < roots },
     ghost sound: { ∥ HasSoundState seat.view ∥₁ },
-    ghost stop: { stopped ≡ seat.view.stopped } by { Prim.hlevel props },
 }
 
 impl<'a, C> Model for CacheSeat<'a, C> {
@@ -67,7 +65,6 @@ impl<'a, C: Chance> CacheSeat<'a, C> {
             shared,
             seat,
             chance,
-            stopped: None,
             small_calls: 0,
             large_calls: 0,
         }
@@ -79,12 +76,16 @@ impl<'a, C: Chance> CacheSeat<'a, C> {
         requires no_batch { self.old.view.batch ≡ no_batch }
         ensures kept { KeepsOwn (heap_view self.old) (heap_view self.new) }
     {
-        let done = flush(&mut self.seat, self.shared, class, &mut self.chance);
-        self.seat.has_a_sound_state();
-        if let Err(stop) = done {
-            self.stopped = Some(stop.step);
-            return Err(stop);
-        }
-        Ok(())
+        let seat = &mut self.seat;
+        let done = flush(seat, self.shared, class, &mut self.chance);
+        seat.has_a_sound_state();
+        done
+    }
+
+    /// The ticket at which the seat stopped, if it has.
+    pub fn stopped(&self) -> Option<u64>
+        ensures { result ≡ self.now.view.stopped }
+    {
+        self.seat.stopped()
     }
 }

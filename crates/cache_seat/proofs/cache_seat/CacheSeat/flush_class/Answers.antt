@@ -1,4 +1,4 @@
-use Rattle.std.proofs.Common.{◌<◌, ℕ, Contains, List, refl, sym, subst, ap, ◌∙◌}
+use Rattle.std.proofs.Common.{◌<◌, ℕ, Contains, List, refl, sym, subst, ap}
 use Rattle.heap_model.specs.Geometry.{roots}
 use Rattle.seat_view.specs.CacheState.{CacheState}
 use Rattle.seat_view.proofs.HeldLemmas.{kept_at, row_from}
@@ -9,24 +9,9 @@ invariant_of-self-inside g c = (
   c.flush-done.ensures.seat,
   (
     subst (λ (l : List ℕ). (i : ℕ) → Contains l i → i < roots) (sym c.flush-done.ensures.row.roots) c.self.inside.roots_are,
-    (∣ c.has_a_sound_state.ensures ∣₁, (sym c.in-Err.ensures.stopped.at, tt)),
+    (∣ c.has_a_sound_state.ensures ∣₁, tt),
   ),
 )
-
-pub invariant_of-self-inside-in_default : goal.invariant_of-self-inside-in_default
-invariant_of-self-inside-in_default g c = (
-  c.flush-done.ensures.seat,
-  (
-    subst (λ (l : List ℕ). (i : ℕ) → Contains l i → i < roots) (sym c.flush-done.ensures.row.roots) c.self.inside.roots_are,
-    (∣ c.has_a_sound_state.ensures ∣₁, (c.self.inside.stop ∙ ap (λ (s : CacheState). s.view.stopped) c.self.view_is ∙ c.requires.going ∙ sym c.in_default.ensures.flushed.going, tt)),
-  ),
-)
-
-pub returns-in-Err : goal.returns-in-Err
-returns-in-Err g c = record {
-  kept = kept_at c.args.self.now c.flush-done.new.seat.view _ refl refl refl refl
-      (row_from c.self.inside.seat.view c.args.self.now.view c.flush-done.new.seat.view (ap (λ (s : CacheState). s.view) c.self.view_is) c.flush-done.ensures.row);
-}
 
 pub returns : goal.returns
 returns g c = record {
