@@ -19,11 +19,11 @@ pub const MANY: u64 = 1_000_000;
 /// A draw without a change.
 pub const DRAW: Event = Event::Tick { shift: None };
 
-/// What recovery makes of an empty image of up to three superblocks with these changes.
+/// What recovery makes of an empty image of up to four superblocks with these changes.
 #[tactic(auto, unfolding(heap_model::specs::Geometry::largest_capacity))]
 pub fn recovered(alloc: Global, capacity: u64, words: &str) -> Result<Ready, Fail>
     requires some { 1 ≤ capacity }
-    requires small { capacity ≤ 3 }
+    requires small { capacity ≤ 4 }
 {
     let image = image_of(alloc, capacity, words)?;
     Ok(recover(alloc, &image, &root_kinds(), &DictFilter)?.heap)

@@ -22,10 +22,10 @@ heap 2 | 2 | used 2
 0 head 0, 0 link, 1 head 0, 1 link, 1 pop, 1 head 0, 1 link, 1 pop
 1 head 0, 1 store link:0 0, 1 push 0, 0 pop !
 tickets 12
-heap 2 | 2 | used 1, info:0 4, root:8 @1080
-0 head 4, 0 link, 0 pop, 0 anchor 0, 0 take-all 0, 0 alloc 4, 1 alloc 4 !, 0 store 1088 7
+heap 4 | 2 | used 1, info:0 4, root:8 @1096
+0 head 4, 0 link, 0 pop, 0 anchor 0, 0 take-all 0, 0 alloc 4, 1 alloc 4 !, 0 store 1104 7
 tickets 7
-held 1080 8
+held 1096 8
 heap 1 | 1 | used 1
 0 head 0, 0 link, 0 pop, 0 store info:0 4, 0 head 4, 0 store link:0 0, 0 push 0 !
 tickets 7
@@ -36,7 +36,7 @@ fn core_of(alloc: Global, columns: &str) -> Result<Core, Fail> {
     let mut columns = columns.split(" | ");
     let superblocks = number(columns.next().unwrap_or(""))?;
     let seats = number(columns.next().unwrap_or(""))? as usize;
-    if !(1..=3).contains(&superblocks) || !(1..=8).contains(&seats) {
+    if !(1..=4).contains(&superblocks) || !(1..=8).contains(&seats) {
         return Err("no such heap".into());
     }
     let heap = recovered(alloc, superblocks, columns.next().unwrap_or(""))?;

@@ -224,19 +224,20 @@ fn crashed(alloc: Global, kept: &[u64]) -> Result<Vec<u64>, AllocError> {
     Ok(image)
 }
 
+/// Asserts that loads from the core see these words.
+fn must_show(rt: &impl Abort, core: &Core, now: &[u64]) {
+    for (word, value) in now.iter().enumerate() {
+        must_hold(rt, core.volatile(word as u64) == *value, "what loads see");
+    }
+}
+
 /// The core of an empty heap of one superblock, opened for two seats.
 fn fresh_core(alloc: Global) -> Result<Core, Fail> {
     let heap = recovered(alloc, 1, "")?;
     opened(alloc, &heap, 2, MANY)
 }
 
-/// What a crash leaves of the core behind all steps, where all that it may scramble becomes 0.
-fn core_image(rt: &(impl Abort + AllocGlobal)) -> Result<Vec<u64>, Fail> {
-    let mut core = fresh_core(rt.alloc())?;
-    image_behind(rt, &mut core)
-}
-
-/// What a crash leaves of this core behind all steps.
+/// What a crash leaves of this core behind all steps, where all that it may scramble becomes 0.
 fn image_behind(rt: &(impl Abort + AllocGlobal), core: &mut Core) -> Result<Vec<u64>, Fail> {
     trade_steps(rt, core)?;
     must_hold(rt, core.tickets() == 37, "the tickets");
@@ -256,7 +257,9 @@ fn must_be_crashed(
 
 #[test]
 fn seats_do_what_the_core_does(rt: HostRuntime) -> Result<(), Fail> {
-    let image = core_image(&rt)?;
+    let mut core = fresh_core(rt.alloc())?;
+    let image = image_behind(&rt, &mut core)?;
     let left = must_trade(&rt, MANY)?;
+    must_show(&rt, &core, &left.now);
     must_be_crashed(&rt, &image, &left.kept)
 }
