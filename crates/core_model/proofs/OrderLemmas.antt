@@ -2,13 +2,9 @@
 use Rattle.std.proofs.Common.{◌≡◌, ℕ, List, Contains, ap, sym, subst, arith}
 use Rattle.heap_model.specs.Counting.{times, total}
 use Rattle.core_model.specs.Memory.{Memory, memory_of, anchor}
+use Rattle.core_model.specs.Orders.{AreReordered}
 use Rattle.core_model.specs.View.{Setup, View, one_if_some, times_raw, times_classed, times_large, times_block}
 use Rattle.core_model.specs.Sound.{Tally, tally_of, IsInShape, Each, IsSetUp, ClaimsOf, BlocksOf, Knows, KnowsWords, HasTickets, HasLost, times_parked, empties, Good, Sound}
-
--- the same seats in another order: each sum over them is the same, and none is new
-pub record AreReordered (old new : List View) : Type 0 where
-  pub sums : (f : View → ℕ) → total f new ≡ total f old
-  pub members : (v : View) → Contains new v → Contains old v
 
 module _ (k : Setup) (m : Memory) (old new : List View) (same : AreReordered old new) where
   each_of : (P : View → Type 0) → Each old P → Each new P

@@ -8,4 +8,5 @@ pub mod Steps
 pub mod Examples
 pub mod Held
 pub mod Opening
+pub mod Orders
 pub mod Splitting

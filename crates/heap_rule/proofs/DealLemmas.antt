@@ -8,7 +8,8 @@ use Rattle.atomic_table.proofs.Lists.{at_set, at_snoc}
 use Rattle.heap_model.specs.Counting.{total}
 use Rattle.heap_model.proofs.MemberLemmas.{in_none}
 use Rattle.core_model.specs.View.{View}
-use Rattle.core_model.proofs.OrderLemmas.{AreReordered, reordered}
+use Rattle.core_model.specs.Orders.{AreReordered}
+use Rattle.core_model.proofs.OrderLemmas.{reordered}
 use Rattle.heap_rule.specs.Joint.{Joint, all_views}
 use Rattle.heap_rule.specs.Rule.{Opening, HasAllSeats, Holds, setup_for}
 

@@ -1,0 +1,59 @@
+-- What contracts see of the table, when a seat of it may take a step, and what a step leaves of its word.
+use Rattle.std.specs.Prelude.{◌≡◌, ℕ, ◌+◌, cond, nat_eq, max, List, [], ◌∷◌, ◌++◌, length}
+use Rattle.heap_model.specs.Geometry.{image_words}
+use Rattle.atomic_table.specs.Seated.{TableId}
+use Rattle.atomic_table.specs.Table.{Me}
+use Rattle.core_model.specs.declared.event.Event.{Event}
+use Rattle.core_model.specs.Effects.{place_of, left_there}
+use Rattle.core_model.specs.Memory.{Memory, memory_of, tickets}
+use Rattle.core_model.specs.Sound.{Sound}
+use Rattle.core_model.specs.Steps.{found_by}
+use Rattle.core_model.specs.View.{Setup, View}
+use Rattle.heap_table.specs.Plays.{HasSoundState}
+use Rattle.heap_table.specs.Reached.{IsReached}
+use Rattle.heap_table.specs.Rule.{Opening, setup_for, state_of}
+use Rattle.heap_table.specs.SeatViews.{SeatViews, IsSingle}
+
+-- which table it is, and the heap at rest that it was opened with
+pub record SharedView : Type 0 where
+  pub table : TableId
+  pub opening : Opening
+
+-- the seat stands at the table of this heap for a single seat with the view, which some sound state has
+pub record IsAt (shared : SharedView) (table : TableId) (me : Me ℕ SeatViews) (v : View) : Type 0 where
+  pub table_is : table ≡ shared.table
+  pub single : IsSingle me.0 v
+  pub no_slots : me.1 ≡ []
+  pub setup : v.setup ≡ setup_for shared.opening
+  pub has : HasSoundState v
+
+-- what the event leaves of the word that it finds: the word itself; the next ticket; the greater of it and a value; in each state that has the view, a new word, where it is the one that was seen, and a value
+abbrev pub IsLook : Event → Type 0
+IsLook event = (m : Memory) (v : View) (found : ℕ) → left_there m v event found ≡ found
+
+abbrev pub IsDraw : Event → Type 0
+IsDraw event = (v : View) → (place_of v event ≡ tickets) × ((m : Memory) (found : ℕ) → left_there m v event found ≡ found + 1)
+
+abbrev pub IsRaise : Event → View → ℕ → Type 0
+IsRaise event v value = (m : Memory) (found : ℕ) → left_there m v event found ≡ max found value
+
+abbrev pub IsExchange : Event → View → ℕ → ℕ → Type 0
+IsExchange event v seen new = (s : HasSoundState v) (found : ℕ) → found ≡ found_by (memory_of v.setup.capacity s.words) v event
+    → left_there (memory_of v.setup.capacity s.words) v event found ≡ cond (nat_eq found seen) new found
+
+abbrev pub IsStore : Event → View → ℕ → Type 0
+IsStore event v value = (s : HasSoundState v) (found : ℕ) → left_there (memory_of v.setup.capacity s.words) v event found ≡ value
+
+-- the volatile words of an image and the durable ones, with some ticket word, are sound with these seats
+pub record IsClosedSound (k : Setup) (now kept : List ℕ) (views : List View) : Type 0 where
+  pub now_long : length now ≡ image_words k.capacity
+  pub kept_long : length kept ≡ image_words k.capacity
+  pub drawn : ℕ
+  pub sound : Sound k (now ++ (kept ++ (drawn ∷ []))) views
+
+-- the volatile words of an image and the durable ones, with some ticket word, are what the opened heap came to, with these views
+pub record IsClosedReached (o : Opening) (now kept : List ℕ) (views : List View) : Type 0 where
+  pub now_long : length now ≡ image_words (setup_for o).capacity
+  pub kept_long : length kept ≡ image_words (setup_for o).capacity
+  pub drawn : ℕ
+  pub reached : IsReached (setup_for o) (state_of o) (now ++ (kept ++ (drawn ∷ []))) views

@@ -1,0 +1,5 @@
+pub mod SeatViews
+pub mod Reached
+pub mod Rule
+pub mod Plays
+pub mod AtTable

@@ -1,0 +1,24 @@
+-- What an opened heap comes to.
+use Rattle.std.specs.Prelude.{◌≡◌, ℕ, ◌<◌, List, get_or, set, length}
+use Rattle.core_model.specs.declared.event.Event.{Event}
+use Rattle.core_model.specs.Cells.{cell_at}
+use Rattle.core_model.specs.Effects.{learn}
+use Rattle.core_model.specs.Guards.{IsOwn, MayStep}
+use Rattle.core_model.specs.Memory.{memory_of}
+use Rattle.core_model.specs.Orders.{AreReordered}
+use Rattle.core_model.specs.Steps.{TableState, words_after, seat_after}
+use Rattle.core_model.specs.View.{Setup, View}
+
+-- the view of a seat that has recorded what loads see of a word
+abbrev pub learned : View → ℕ → ℕ → View
+learned v word value = record v { volatile = learn v.volatile word value }
+
+-- the words and the views that a state comes to by events of its seats, won or lost, and by own words that they read and record; the views may stand in any order
+pub data IsReached (k : Setup) (start : TableState) : List ℕ → List View → Type 0 where
+  at_opening : IsReached k start start.words start.views
+  by_event : (words : List ℕ) (views : List View) (i : ℕ) (v : View) (event : Event) → IsReached k start words views → i < length views → get_or views i v ≡ v
+      → MayStep (memory_of k.capacity words) v event
+      → IsReached k start (words_after k words v event) (set views i (seat_after (memory_of k.capacity words) v event))
+  by_record : (words : List ℕ) (views : List View) (i : ℕ) (v : View) (word : ℕ) → IsReached k start words views → i < length views → get_or views i v ≡ v
+      → IsOwn v (cell_at k.capacity word) → IsReached k start words (set views i (learned v word (get_or words word 0)))
+  in_another_order : (words : List ℕ) (old new : List View) → IsReached k start words old → AreReordered old new → IsReached k start words new

@@ -1,0 +1,38 @@
+-- What a seat of the table stands for.
+use Rattle.std.specs.Prelude.{◌≡◌, List, [], ◌∷◌, ◌++◌, get_or}
+use Rattle.core_model.specs.View.{View}
+use Rattle.core_model.specs.Opening.{setup_of, plain_view}
+
+-- the views of the seats that it stands for: one, where it is a single seat; none, where it was joined in another
+abbrev pub SeatViews : Type 0
+SeatViews = List View
+
+-- the views of all seats, in their order
+abbrev pub all_views : List SeatViews → List View
+all_views [] = []
+all_views (group ∷ groups) = group ++ all_views groups
+
+-- it stands for a single seat, with this view
+abbrev pub IsSingle : SeatViews → View → Type 0
+IsSingle group v = group ≡ v ∷ []
+
+-- the view of a seat that has nothing, of a heap without words
+abbrev pub nobody : View
+nobody = plain_view (setup_of [] 0) [] []
+
+-- the view of a single seat
+abbrev pub view_in : SeatViews → View
+view_in group = get_or group 0 nobody
+
+-- what goes to a new seat of the table, and what stays
+abbrev pub first_view : SeatViews → SeatViews
+first_view [] = []
+first_view (v ∷ group) = v ∷ []
+
+abbrev pub other_views : SeatViews → SeatViews
+other_views [] = []
+other_views (v ∷ group) = group
+
+-- the views of another seat of the table come before its own
+abbrev pub joined_views : SeatViews → SeatViews → SeatViews
+joined_views mine theirs = theirs ++ mine

@@ -1,0 +1,18 @@
+//! The words of a shared heap in a table of atomic words, and the steps of its seats there: each
+//! changes one word, and is one event of the core.
+#![tactic(auto)]
+
+mod closing;
+mod laws;
+mod opening;
+mod plays;
+mod rule;
+mod shared;
+mod steps;
+
+pub use closing::{close_table, fresh_seat, join};
+pub use laws::what_a_heap_comes_to_is_sound;
+pub use opening::{open_table, split_first};
+pub use rule::{Known, TableSeat};
+pub use shared::Shared;
+pub use steps::{draw, exchange, learn, look, raise, read, store};

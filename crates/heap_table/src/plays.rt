@@ -1,0 +1,186 @@
+//! The atomic steps on a word of the shared table, each as the event that it is told to be.
+
+ghost use Rattle.std.specs.Prelude.{◌≡◌, ◌<◌, ◌+◌, ◌%◌, ◌^◌, ◌==◌, max};
+ghost use prog.Atomic.{either};
+ghost use Rattle.core_model.specs.Cells.{cell_at};
+ghost use Rattle.core_model.specs.Guards.{IsOwn};
+ghost use Rattle.core_model.specs.View.{View};
+ghost use Rattle.heap_table.specs.SeatViews.{IsSingle};
+ghost use Rattle.heap_table.specs.Plays.{Did, DidStore, DidRead, DidLearn, IsStepAt};
+ghost use Rattle.heap_table.specs.Rule.{setup_for};
+
+use crate::rule::{Known, TableSeat, Words};
+use atomic_table::Play;
+use core_model::Event;
+use std::marker::{Brand, PhantomData};
+
+/// An event, for the proof alone.
+pub trait ProofEvent {
+    ghost use Rattle.core_model.specs.declared.event.Event.{Event};
+
+    ghost event: { Event };
+}
+
+impl ProofEvent for Brand {
+    ghost use Rattle.core_model.specs.declared.event.Event.TheVariants.{LookUsed};
+
+    ghost event = { LookUsed };
+}
+
+/// What a step that tells the word that it found tells its caller: that it was this event.
+pub struct StepIs<J: ProofEvent> {
+    marker: PhantomData<J>,
+}
+
+impl<J: ProofEvent> Play<u8, Known> for StepIs<J> {
+    ghost use Rattle.heap_table.specs.Plays.{Did};
+
+    ghost then = { λ _ me found after. Did J.event me found after };
+}
+
+/// What a store tells its caller: that it was this event.
+pub struct StoreIs<J: ProofEvent> {
+    marker: PhantomData<J>,
+}
+
+impl<J: ProofEvent> Play<u8, Known> for StoreIs<J> {
+    ghost use Rattle.heap_table.specs.Plays.{DidStore};
+
+    ghost then = { λ _ me _ after. DidStore J.event me after };
+}
+
+/// What a read that is no event tells its caller.
+pub struct Reads;
+
+impl Play<u8, Known> for Reads {
+    ghost use Rattle.heap_table.specs.Plays.{DidRead};
+
+    ghost then = { λ step me found after. DidRead step.word me found after };
+}
+
+/// Reads a word, and changes nothing.
+pub(crate) fn read_as(shared: &Words, seat: &mut TableSeat, place: usize) -> u64
+    requires table { seat.old.table_id ≡ shared.now.table_id }
+    requires inside { place < shared.now.table_id.words }
+    requires single { (v : View) × IsSingle seat.old.me.0 v
+        × (v.setup ≡ setup_for shared.now.key) }
+    ensures did { DidRead place seat.old.me result seat.new.me }
+    ensures table { seat.new.table_id ≡ seat.old.table_id }
+{
+    shared.load::<Reads>(seat, place)
+}
+
+/// What a read that is recorded tells its caller.
+pub struct Learns;
+
+impl Play<u8, Known> for Learns {
+    ghost use Rattle.heap_table.specs.Plays.{DidLearn};
+
+    ghost then = { λ step me found after. DidLearn step.word me found after };
+}
+
+/// Reads a word of the seat's own, and records it in its view.
+pub(crate) fn learn_as(shared: &Words, seat: &mut TableSeat, word: usize) -> u64
+    requires table { seat.old.table_id ≡ shared.now.table_id }
+    requires inside { word < shared.now.table_id.words }
+    requires own { (v : View) × IsSingle seat.old.me.0 v × (v.setup ≡ setup_for shared.now.key)
+        × IsOwn v (cell_at v.setup.capacity word) }
+    ensures did { DidLearn word seat.old.me result seat.new.me }
+    ensures table { seat.new.table_id ≡ seat.old.table_id }
+{
+    shared.load::<Learns>(seat, word)
+}
+
+/// Loads a word.
+pub(crate) fn load_as<J: ProofEvent>(
+    shared: &Words,
+    seat: &mut TableSeat,
+    place: usize,
+    _event: Event,
+) -> u64
+    requires table { seat.old.table_id ≡ shared.now.table_id }
+    requires told { J.event ≡ _event }
+    requires inside { place < shared.now.table_id.words }
+    requires step { (v : View) × IsSingle seat.old.me.0 v
+        × IsStepAt shared.now.key v _event place (λ n. n) }
+    ensures did { Did _event seat.old.me result seat.new.me }
+    ensures table { seat.new.table_id ≡ seat.old.table_id }
+{
+    shared.load::<StepIs<J>>(seat, place)
+}
+
+/// Adds 1 to a word.
+pub(crate) fn draw_as<J: ProofEvent>(
+    shared: &Words,
+    seat: &mut TableSeat,
+    place: usize,
+    _event: Event,
+) -> u64
+    requires table { seat.old.table_id ≡ shared.now.table_id }
+    requires told { J.event ≡ _event }
+    requires inside { place < shared.now.table_id.words }
+    requires step { (v : View) × IsSingle seat.old.me.0 v
+        × IsStepAt shared.now.key v _event place (λ n. (n + 1) % 2 ^ 64) }
+    ensures did { Did _event seat.old.me result seat.new.me }
+    ensures table { seat.new.table_id ≡ seat.old.table_id }
+{
+    shared.fetch_add::<StepIs<J>>(seat, place, 1)
+}
+
+/// Raises a word to a value, where it is less.
+pub(crate) fn raise_as<J: ProofEvent>(
+    shared: &Words,
+    seat: &mut TableSeat,
+    place: usize,
+    value: u64,
+    _event: Event,
+) -> u64
+    requires table { seat.old.table_id ≡ shared.now.table_id }
+    requires told { J.event ≡ _event }
+    requires inside { place < shared.now.table_id.words }
+    requires step { (v : View) × IsSingle seat.old.me.0 v
+        × IsStepAt shared.now.key v _event place (λ n. max n value) }
+    ensures did { Did _event seat.old.me result seat.new.me }
+    ensures table { seat.new.table_id ≡ seat.old.table_id }
+{
+    shared.fetch_max::<StepIs<J>>(seat, place, value)
+}
+
+/// Exchanges a word that is still as it was seen, and tells what it was.
+pub(crate) fn exchange_as<J: ProofEvent>(
+    shared: &Words,
+    seat: &mut TableSeat,
+    place: usize,
+    seen: u64,
+    new: u64,
+    _event: Event,
+) -> u64
+    requires table { seat.old.table_id ≡ shared.now.table_id }
+    requires told { J.event ≡ _event }
+    requires inside { place < shared.now.table_id.words }
+    requires step { (v : View) × IsSingle seat.old.me.0 v
+        × IsStepAt shared.now.key v _event place (λ n. either (n == seen) new n) }
+    ensures did { Did _event seat.old.me result seat.new.me }
+    ensures table { seat.new.table_id ≡ seat.old.table_id }
+{
+    shared.compare_exchange::<StepIs<J>>(seat, place, seen, new)
+}
+
+/// Stores to a word.
+pub(crate) fn store_as<J: ProofEvent>(
+    shared: &Words,
+    seat: &mut TableSeat,
+    place: usize,
+    value: u64,
+    _event: Event,
+)
+    requires table { seat.old.table_id ≡ shared.now.table_id }
+    requires told { J.event ≡ _event }
+    requires inside { place < shared.now.table_id.words }
+    requires step { (v : View) × IsSingle seat.old.me.0 v
+        × IsStepAt shared.now.key v _event place (λ _. value) }
+    ensures did { DidStore _event seat.old.me seat.new.me }
+    ensures table { seat.new.table_id ≡ seat.old.table_id }
+{
+    shared.store::<StoreIs<J>>(seat, place, value);
+}
