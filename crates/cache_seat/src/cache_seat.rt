@@ -3,7 +3,7 @@
 ghost use Rattle.std.specs.Prelude.{◌≡◌, ◌<◌, ℕ, None, Some, Contains, OnOk, IfErr};
 ghost use Rattle.std.proofs.Props.{props};
 ghost use Rattle.heap_model.specs.Geometry.{roots};
-ghost use Rattle.heap_rule.specs.Plays.{HasSoundState};
+ghost use Rattle.heap_table.specs.Plays.{HasSoundState};
 ghost use Rattle.heap_rule.specs.Seated.{IsSeatOf};
 
 use heap_rule::{Seat, Shared};

@@ -18,8 +18,9 @@ use Rattle.core_model.proofs.GiveLemmas as gives
 use Rattle.core_model.proofs.SoundLemmas.{batched}
 use Rattle.crash_core.specs.declared.owners.SeatNotes.{SeatNotes}
 use Rattle.crash_core.proofs.GiveSteps.{empty_group}
-use Rattle.heap_rule.specs.Plays.{HasSoundState, IsEvent}
-use Rattle.heap_rule.specs.Seated.{Fits, IsKeptOf, IsExchange}
+use Rattle.heap_table.specs.Plays.{HasSoundState, IsEvent}
+use Rattle.heap_rule.specs.Seated.{Fits, IsKeptOf}
+use Rattle.heap_table.specs.AtTable.{IsExchange}
 use Rattle.heap_rule.specs.Shown.{CanGive}
 use Rattle.heap_rule.proofs.FreshLemmas.{hit, missed}
 use Rattle.heap_rule.proofs.GuardLemmas.{give_may}

@@ -27,7 +27,7 @@ use Rattle.heap_rule.specs.declared.owned.Change.TheVariants as change
 use Rattle.heap_rule.specs.declared.owned.Owned.{Owned}
 use Rattle.heap_rule.specs.Changed.{IsChanged, FitsChange}
 use Rattle.heap_rule.specs.Owned.{OwnedParts, HasOwned, most_blocks, parts_of}
-use Rattle.heap_rule.specs.Plays.{HasSoundState, IsEvent}
+use Rattle.heap_table.specs.Plays.{HasSoundState, IsEvent}
 use Rattle.heap_rule.specs.Stacks.{IsRestacked}
 use Rattle.heap_rule.specs.Shown.{CanFree, CanLift, CanCut, CanHoldLarge}
 use Rattle.heap_rule.proofs.OwnedShifts.{alloc_owned, free_owned, lift_owned, cut_owned, large_owned, split_owned}

@@ -10,8 +10,8 @@ use Rattle.core_model.specs.Sound.{Each, Sound}
 use Rattle.core_model.specs.View.{Setup, View, one_if_some}
 use Rattle.heap_rule.specs.Images.{HasRecorded, IsImageOf}
 use Rattle.heap_rule.specs.Left.{IsCloseOf, IsCrashOf}
-use Rattle.heap_rule.specs.Plays.{HasSoundState}
-use Rattle.heap_rule.specs.Seats.{IsClosedSound}
+use Rattle.heap_table.specs.Plays.{HasSoundState}
+use Rattle.heap_table.specs.AtTable.{IsClosedSound}
 use Rattle.heap_rule.proofs.ImageLemmas.{volatile_is, durable_is}
 use Rattle.heap_rule.proofs.SeatImageLemmas.{state_recorded}
 

@@ -15,7 +15,7 @@ use Rattle.core_model.proofs.HeldLemmas.{crash_names, closed_names}
 use Rattle.heap_model.proofs.HeaderLemmas.{header_lasts}
 use Rattle.core_model.proofs.PlaceLemmas.{and_both, cell_at_index, cell_there, index_at, not-eq, pick, skip}
 use Rattle.heap_rule.specs.Left.{HasDurableRecords, HasFixedWordsButState, HasTransients, HasVolatileRecords, IsCloseOf, IsCrashOf, Lasts, an_info, a_root, a_data, MayBeLeft, mixed, crashed, closed, MixesLasting}
-use Rattle.heap_rule.specs.Plays.{HasSoundState}
+use Rattle.heap_table.specs.Plays.{HasSoundState}
 use Rattle.heap_rule.proofs.SeatImageLemmas.{fixed_below, image_fixed, image_header, image_mixes, image_names, kept_recorded, now_recorded}
 use Rattle.heap_rule.proofs.SettleLemmas.{own_index, own_there}
 

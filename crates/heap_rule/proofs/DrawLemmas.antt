@@ -16,7 +16,7 @@ use Rattle.core_model.proofs.SpanLemmas.{block_of}
 use Rattle.core_model.proofs.TotalLemmas.{eq-eqb-one}
 use Rattle.heap_model.specs.Counting.{times}
 use Rattle.heap_rule.specs.Fences.{SettlesOwn, is_own, not_own, SettlesEarly, no_store, a_store}
-use Rattle.heap_rule.specs.Plays.{HasSoundState, IsEvent}
+use Rattle.heap_table.specs.Plays.{HasSoundState, IsEvent}
 use Rattle.heap_rule.specs.Shown.{Shows, ShowsDurable, ShowsEmpty, by_claim, by_anchor, by_look, ShowsLinks, CanShift, Can}
 use Rattle.heap_rule.specs.Seated.{SeatView}
 use Rattle.heap_rule.proofs.SettleLemmas.{own_below}

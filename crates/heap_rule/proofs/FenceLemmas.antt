@@ -13,7 +13,7 @@ use Rattle.core_model.proofs.FrameLemmas.{times_append}
 use Rattle.core_model.proofs.QuietLemmas.{own_same}
 use Rattle.core_model.proofs.TotalLemmas.{eq-eqb-one, ne-eqb-none}
 use Rattle.heap_rule.specs.Fences.{Owns, Settles, IsRecordedDurable, KeepsRecords, IsSeatFence, SettlesOwn, is_own, not_own}
-use Rattle.heap_rule.specs.Plays.{IsEvent}
+use Rattle.heap_table.specs.Plays.{IsEvent}
 use Rattle.heap_rule.specs.Seated.{SeatView}
 use Rattle.heap_rule.proofs.SettleLemmas.{own_there, own_index, own_below}
 use Rattle.heap_rule.proofs.ViewLemmas.{shown}

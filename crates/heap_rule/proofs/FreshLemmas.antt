@@ -6,7 +6,7 @@ use Rattle.core_model.specs.Effects.{seen, cleared, taken_fresh}
 use Rattle.crash_core.specs.declared.owners.SeatNotes.{SeatNotes}
 use Rattle.crash_core.specs.declared.owners.Seen.{Seen}
 use Rattle.crash_core.specs.Standing.{snapshot}
-use Rattle.heap_rule.specs.Plays.{HasSoundState, IsEvent}
+use Rattle.heap_table.specs.Plays.{HasSoundState, IsEvent}
 use Rattle.heap_rule.specs.Seated.{IsKeptOf}
 use Rattle.heap_rule.proofs.SeatLemmas.{keep_fits}
 

@@ -13,7 +13,7 @@ use Rattle.core_model.specs.View.{View, of_class, times_block}
 use Rattle.core_model.specs.Effects.{class_blocks, first_of, last_of}
 use Rattle.core_model.specs.Guards.{MayCut, MayFree, MayLift, MayHoldLarge, MayShift}
 use Rattle.core_model.proofs.OwnerLemmas.{in_lists_total}
-use Rattle.heap_rule.specs.Plays.{HasSoundState}
+use Rattle.heap_table.specs.Plays.{HasSoundState}
 use Rattle.heap_rule.specs.Shown.{CanCut, CanFree, CanLift, CanHoldLarge, CanShift}
 use Rattle.heap_rule.proofs.ViewLemmas.{shown, shown_durable, below_capacity, block_class, block_cell, empty_shown, blocks_walk, info_there}
 use Rattle.crash_core.proofs.LiftSteps.{last_there}

@@ -1,14 +1,10 @@
-pub mod JointLemmas
-pub mod DealLemmas
 pub mod OpeningLemmas
 pub mod ClosingLemmas
 pub mod ImageLemmas
-pub mod RuleLemmas
 pub mod ViewLemmas
 pub mod GuardLemmas
 pub mod GuardShiftLemmas
 pub mod ShownLemmas
-pub mod StepLemmas
 pub mod SeatLemmas
 pub mod FreshLemmas
 pub mod HeadLemmas

@@ -1,37 +1,20 @@
 -- What the rule says of an opened heap, and how its seats are dealt out.
-use Rattle.std.proofs.Common.{◌≡◌, ℕ, zero, suc, ◌+◌, ◌<◌, ◌≤◌, List, [], ◌∷◌, ◌++◌, false, replicate, get_or, length, refl, ap, sym, subst, ◌∙◌, arith}
+use Rattle.std.proofs.Common.{◌≡◌, ℕ, zero, suc, ◌+◌, ◌<◌, List, [], ◌∷◌, ◌++◌, false, replicate, get_or, length, refl, ap, sym, subst, ◌∙◌, arith}
 use Rattle.std.proofs.lemmas.List.{append-nil}
 use Rattle.atomic_table.specs.Seated.{TableId}
 use Rattle.atomic_table.specs.Table.{Me}
-use Rattle.heap_model.specs.Rest.{IsReady}
 use Rattle.line_memory.proofs.StepLemmas.{unmarked}
-use Rattle.core_model.specs.Opening.{AreOwners, tabulate}
+use Rattle.core_model.specs.Opening.{tabulate}
 use Rattle.core_model.specs.View.{View}
 use Rattle.line_memory.specs.Marks.{mark_at}
 use Rattle.core_model.specs.Sound.{Sound}
 use Rattle.core_model.proofs.OpenLemmas.{length_tabulate, tabulate_at}
-use Rattle.core_model.proofs.OpenedLemmas.{opened}
 use Rattle.crash_core.proofs.OpenedCore.{new_seat, no_caches}
-use Rattle.heap_rule.specs.Joint.{Joint, first_view, other_views}
-use Rattle.heap_rule.specs.Rule.{Opening, HasAllSeats, HasOpenedWords, setup_for, most_seats, first_joint, opened_view_of}
-use Rattle.heap_rule.specs.Seated.{SharedView, SeatView, IsSingleSeat}
+use Rattle.heap_table.specs.SeatViews.{SeatViews, first_view, other_views}
+use Rattle.heap_table.specs.Rule.{Opening, IsOpened, setup_for, state_of, opened_views, opened_view_of}
+use Rattle.heap_table.specs.AtTable.{SharedView}
+use Rattle.heap_rule.specs.Seated.{SeatView, IsSingleSeat}
 use Rattle.heap_rule.specs.Seats.{AreOpenedSeats, dealt_seats}
-
--- a heap at rest keeps the rule at the opening
-pub opened_keeps : (o : Opening) (words : List ℕ) → IsReady o.words o.held → AreOwners o.held o.seats o.block_owners o.root_owners → o.seats ≤ most_seats → o.budget < 1099511627776
-    → words ≡ o.words ++ (o.words ++ (0 ∷ [])) → HasAllSeats o words (first_joint o ∷ [])
-opened_keeps o words ready owners few low are = record {
-  sound = subst (Sound (setup_for o) words) (sym (append-nil (first_joint o)))
-      (subst (λ ws. Sound (setup_for o) ws (first_joint o)) (sym are) (opened o.words o.held o.budget o.seats o.block_owners o.root_owners ready owners));
-  count = ap length (append-nil (first_joint o)) ∙ length_tabulate (opened_view_of o) 0 o.seats;
-  few = few;
-  low = low;
-}
-
--- what goes and what stays is all
-pub both_parts : (joint : Joint) → first_view joint ++ other_views joint ≡ joint
-both_parts [] = refl
-both_parts (v ∷ joint) = refl
 
 pub first_dealt : (views : ℕ → View) (i n m : ℕ) → n ≡ suc m → first_view (tabulate views i n) ≡ views i ∷ []
 first_dealt views i n m some = ap (λ k. first_view (tabulate views i k)) some
@@ -58,16 +41,16 @@ one_more table views words n seat same view_is stores marks =
       is = λ j. record { table = same j; view = view_at j; stores = stores j; marks = marks j }
 
 -- a seat as it is opened
-pub is_seat : (o : Opening) (i capacity budget : ℕ) (me : Me ℕ Joint) → HasOpenedWords o → i < o.seats → me ≡ (opened_view_of o i ∷ [], []) → capacity ≡ (setup_for o).capacity → budget ≡ (setup_for o).budget → IsSingleSeat me new_seat capacity budget
+pub is_seat : (o : Opening) (i capacity budget : ℕ) (me : Me ℕ SeatViews) → IsOpened o → i < o.seats → me ≡ (opened_view_of o i ∷ [], []) → capacity ≡ (setup_for o).capacity → budget ≡ (setup_for o).budget → IsSingleSeat me new_seat capacity budget
 is_seat o i capacity budget me is less me_is capacity_is budget_is = subst (λ m. IsSingleSeat m new_seat capacity budget) (sym me_is) (record {
   single = refl;
   no_slots = refl;
   kept = record {
     has = record {
-      words = is.words;
-      views = first_joint o;
+      words = (state_of o).words;
+      views = opened_views o;
       seat = i;
-      sound = subst (Sound (setup_for o) is.words) (append-nil (first_joint o)) is.keeps.sound;
+      sound = subst (Sound (setup_for o) (state_of o).words) (append-nil (opened_views o)) is.sound;
       count = length_tabulate (opened_view_of o) 0 o.seats;
       below = (let l = length_tabulate (opened_view_of o) 0 o.seats in omega arith);
       at = tabulate_at (opened_view_of o) 0 o.seats i (opened_view_of o i) less ∙ ap (opened_view_of o) (let e : 0 + i ≡ i = omega arith in e);
@@ -78,17 +61,17 @@ is_seat o i capacity budget me is less me_is capacity_is budget_is = subst (λ m
   };
   capacity_is = capacity_is;
   budget_is = budget_is;
-  low = is.keeps.low;
+  low = is.low;
 })
 
 -- the seats that were dealt out are those of the heap
-pub are_opened : (shared : SharedView) (views : ℕ → View) (words : ℕ) (seats : List SeatView) → ((i : ℕ) → i < shared.seats → (views i).setup ≡ shared.setup) → seats ≡ dealt_seats shared.table views words shared.seats
+pub are_opened : (shared : SharedView) (views : ℕ → View) (words : ℕ) (seats : List SeatView) → ((i : ℕ) → i < shared.opening.seats → (views i).setup ≡ setup_for shared.opening) → seats ≡ dealt_seats shared.table views words shared.opening.seats
     → AreOpenedSeats shared views seats
 are_opened shared views words seats setups are = record {
-  count = ap length are ∙ length_tabulate S 0 shared.seats;
+  count = ap length are ∙ length_tabulate S 0 shared.opening.seats;
   each = λ i seat below at.
-      let less : i < shared.seats = (let l = ap length are ∙ length_tabulate S 0 shared.seats in omega arith) in
-      let is : S i ≡ seat = ap S (let e : i ≡ 0 + i = omega arith in e) ∙ sym (tabulate_at S 0 shared.seats i seat less) ∙ ap (λ l. get_or l i seat) (sym are) ∙ at in (
+      let less : i < shared.opening.seats = (let l = ap length are ∙ length_tabulate S 0 shared.opening.seats in omega arith) in
+      let is : S i ≡ seat = ap S (let e : i ≡ 0 + i = omega arith in e) ∙ sym (tabulate_at S 0 shared.opening.seats i seat less) ∙ ap (λ l. get_or l i seat) (sym are) ∙ at in (
         record {
           table = ap (λ (s : SeatView). s.table) (sym is);
           setup = ap (λ (s : SeatView). s.view.setup) (sym is) ∙ setups i less;
@@ -103,15 +86,7 @@ are_opened shared views words seats setups are = record {
   S : ℕ → SeatView
   S i = record { table = shared.table; view = views i; stores = []; marks = replicate words false }
 
-pub opened_seats : (table : TableId) (key o : Opening) (words : ℕ) (seats : List SeatView) → key ≡ o → seats ≡ dealt_seats table (opened_view_of key) words o.seats
-    → AreOpenedSeats (record { table = table; setup = setup_for key; seats = key.seats }) (opened_view_of o) seats
-opened_seats table key o words seats same are = are_opened (record { table = table; setup = setup_for key; seats = key.seats }) (opened_view_of o) words seats
-    (λ i less. ap setup_for (sym same))
-    (are ∙ ap (λ k. dealt_seats table (opened_view_of k) words o.seats) same ∙ ap (λ (k : Opening). dealt_seats table (opened_view_of o) words k.seats) (sym same))
-
--- the key of the table, which is made of the same parts, keeps the rule too
-pub key_keeps : (key o : Opening) (words : List ℕ) → key.words ≡ o.words → key.held ≡ o.held → key.block_owners ≡ o.block_owners → key.root_owners ≡ o.root_owners → key.seats ≡ o.seats → key.budget ≡ o.budget
-    → HasAllSeats o words (first_joint o ∷ []) → HasAllSeats key words (first_joint key ∷ [])
-key_keeps key o words words_are held block_owners root_owners seats budget keeps = subst (λ k. HasAllSeats k words (first_joint k ∷ [])) (sym same) keeps where
-  same : key ≡ o
-  same = λ j. record { words = words_are j; held = held j; block_owners = block_owners j; root_owners = root_owners j; seats = seats j; budget = budget j }
+pub opened_seats : (shared : SharedView) (o : Opening) (words : ℕ) (seats : List SeatView) → shared.opening ≡ o → seats ≡ dealt_seats shared.table (opened_view_of shared.opening) words shared.opening.seats
+    → AreOpenedSeats shared (opened_view_of o) seats
+opened_seats shared o words seats same are = are_opened shared (opened_view_of o) words seats (λ i less. ap setup_for (sym same))
+    (are ∙ ap (λ k. dealt_seats shared.table (opened_view_of k) words shared.opening.seats) same)

@@ -27,8 +27,8 @@ use Rattle.crash_core.proofs.PickedLemmas.{roots_of}
 use Rattle.heap_rule.specs.declared.owned.Stake.TheVariants as stake
 use Rattle.heap_rule.specs.declared.owned.Owned.{Owned}
 use Rattle.heap_rule.specs.Owned.{most_blocks, stake_for, opened_parts, parts_of, OwnedParts, IsStake, HasOwned, times_had}
-use Rattle.heap_rule.specs.Rule.{opening_of, opened_view_of}
-use Rattle.heap_rule.specs.Plays.{HasSoundState}
+use Rattle.heap_table.specs.Rule.{opening_of, opened_view_of}
+use Rattle.heap_table.specs.Plays.{HasSoundState}
 use Rattle.heap_rule.specs.Stacks.{AreStacks}
 use Rattle.heap_rule.proofs.ViewLemmas.{block_below}
 

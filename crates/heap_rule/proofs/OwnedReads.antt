@@ -28,7 +28,7 @@ use Rattle.heap_rule.specs.declared.owned.Stake.{Stake}
 use Rattle.heap_rule.specs.declared.owned.Stake.TheVariants as stake
 use Rattle.heap_rule.specs.declared.owned.Owned.{Owned}
 use Rattle.heap_rule.specs.Owned.{unclassed_in, classed_in, class_in, large_in, count_in, IsStake, HasOwned, parts_of}
-use Rattle.heap_rule.specs.Plays.{HasSoundState}
+use Rattle.heap_table.specs.Plays.{HasSoundState}
 use Rattle.heap_rule.proofs.OwnedSteps.{class_kept, taken_below}
 use Rattle.heap_rule.proofs.ShiftLemmas.{span_below}
 use Rattle.heap_rule.proofs.ViewLemmas.{block_cut, block_class, block_below, block_range}

@@ -20,7 +20,7 @@ use Rattle.heap_rule.specs.declared.owned.Owned.{Owned}
 use Rattle.heap_rule.specs.declared.stacks.Stack.{Stack}
 use Rattle.heap_rule.specs.Stacks.{AreStacks, IsRestacked}
 use Rattle.heap_rule.specs.Owned.{OwnedParts, parts_of, IsStake, IsStaking, IsMarking, AreClasses, HasOwned, times_had}
-use Rattle.heap_rule.specs.Plays.{HasSoundState}
+use Rattle.heap_table.specs.Plays.{HasSoundState}
 use Rattle.heap_rule.specs.Shown.{CanFree, CanLift, CanCut, CanHoldLarge}
 use Rattle.heap_rule.proofs.BlockMarks.{marked_alike, marked_more, alloc_times, alloc_classes, lift_times, lift_classes, free_times, free_classes, cached_times, cached_classes}
 use Rattle.heap_rule.proofs.OwnedLemmas.{cut_stakes, large_stakes, split_stakes}

@@ -31,7 +31,7 @@ use Rattle.heap_rule.specs.declared.owned.Owned.{Owned}
 use Rattle.heap_rule.specs.declared.stacks.Stack.{Stack}
 use Rattle.heap_rule.specs.Stacks.{IsRestacked}
 use Rattle.heap_rule.specs.Owned.{listed, OwnedParts, parts_of, IsStake, IsStaking, IsMarking, AreClasses, HasOwned, times_had}
-use Rattle.heap_rule.specs.Plays.{HasSoundState, IsEvent}
+use Rattle.heap_table.specs.Plays.{HasSoundState, IsEvent}
 use Rattle.heap_rule.proofs.BlockMarks.{marked_more, marked_less, cached_times, cached_classes}
 use Rattle.heap_rule.proofs.ChainLemmas.{chain_length, chain_first}
 use Rattle.heap_rule.proofs.FreshLemmas.{hit, missed}

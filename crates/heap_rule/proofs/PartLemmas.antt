@@ -5,7 +5,8 @@ use Rattle.core_model.specs.Effects.{drew, learn, look, lost, seen, seen_word, s
 use Rattle.core_model.specs.View.{View}
 use Rattle.heap_rule.specs.Parts.{KeepsParts}
 use Rattle.heap_rule.specs.Fences.{IsSeatFence}
-use Rattle.heap_rule.specs.Plays.{IsEvent, learned}
+use Rattle.heap_table.specs.Plays.{IsEvent}
+use Rattle.heap_table.specs.Reached.{learned}
 use Rattle.heap_rule.specs.Seated.{SeatView}
 use Rattle.heap_rule.proofs.LeftLemmas.{fresh_lost, pop_lost, push_lost, take_all_lost, give_lost}
 

@@ -12,7 +12,7 @@ use Rattle.core_model.specs.View.{View, times_raw, times_block}
 use Rattle.core_model.proofs.OwnLemmas.{one_at_most}
 use Rattle.core_model.proofs.SoundLemmas.{taken}
 use Rattle.core_model.proofs.TotalLemmas.{total_at}
-use Rattle.heap_rule.specs.Plays.{HasSoundState, IsEvent}
+use Rattle.heap_table.specs.Plays.{HasSoundState, IsEvent}
 use Rattle.heap_rule.specs.Shown.{Shows}
 use Rattle.heap_rule.proofs.SettleLemmas.{own_there, own_index, own_below}
 use Rattle.heap_rule.proofs.ViewLemmas.{block_cut, shown}

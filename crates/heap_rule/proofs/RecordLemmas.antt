@@ -15,7 +15,7 @@ use Rattle.core_model.specs.View.{Setup, View, known, no_batch, times_claimed, t
 use Rattle.core_model.proofs.PlaceLemmas.{cell_at_index, not-lt}
 use Rattle.core_model.proofs.QuietLemmas.{own_same}
 use Rattle.core_model.proofs.TotalLemmas.{total_at}
-use Rattle.heap_rule.specs.Plays.{IsEvent}
+use Rattle.heap_table.specs.Plays.{IsEvent}
 use Rattle.heap_rule.specs.Records.{IsOn, KeepsRecord}
 use Rattle.heap_rule.proofs.RawLemmas.{store_durable, store_volatile}
 use Rattle.heap_rule.proofs.SettleLemmas.{own_index}

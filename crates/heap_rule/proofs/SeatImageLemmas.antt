@@ -15,7 +15,7 @@ use Rattle.core_model.proofs.HeaderLemmas.{mixture_header}
 use Rattle.core_model.proofs.HeldLemmas.{firm}
 use Rattle.core_model.proofs.PlaceLemmas.{pick}
 use Rattle.heap_rule.specs.Images.{Agrees, HasPickedRecords, HasRecorded, IsImageOf, HasFixedWords, MixesRecorded}
-use Rattle.heap_rule.specs.Plays.{HasSoundState}
+use Rattle.heap_table.specs.Plays.{HasSoundState}
 use Rattle.heap_rule.proofs.SettleLemmas.{own_there, own_index, own_below}
 use Rattle.heap_rule.proofs.ViewLemmas.{shown, shown_durable}
 

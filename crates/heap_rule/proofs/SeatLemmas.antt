@@ -9,10 +9,11 @@ use Rattle.crash_core.specs.declared.owners.SeatNotes.{SeatNotes}
 use Rattle.core_model.specs.Effects.{used_up}
 use Rattle.crash_core.specs.Standing.{HasNotes}
 use Rattle.heap_rule.specs.declared.owned.Owned.{Owned}
-use Rattle.heap_rule.specs.Plays.{HasSoundState, IsEvent}
-use Rattle.heap_rule.specs.Seated.{SharedView, Fits, IsKeptOf, IsSingleSeat, IsWholeSeat, IsAt}
-use Rattle.heap_rule.specs.Joint.{Joint, view_in}
-use Rattle.heap_rule.proofs.StepLemmas.{has_after}
+use Rattle.heap_table.specs.Plays.{HasSoundState, IsEvent}
+use Rattle.heap_table.specs.AtTable.{SharedView, IsAt}
+use Rattle.heap_rule.specs.Seated.{Fits, IsKeptOf, IsSingleSeat, IsWholeSeat}
+use Rattle.heap_table.specs.SeatViews.{SeatViews, view_in}
+use Rattle.heap_table.proofs.StepLemmas.{has_after}
 
 pub keep_fits : (notes : SeatNotes) (v w : View) → w ≡ v → HasSoundState w → Fits notes v → IsKeptOf notes w
 keep_fits notes v w same has fits = subst (λ u. HasSoundState u → IsKeptOf notes u) (sym same) (λ h. record { has = h; notes_are = fits.notes_are; caches = fits.caches; batch = fits.batch }) has
@@ -47,7 +48,7 @@ looked_link notes v w found kept event has = keep_fits _ _ w event.after has (re
 })
 
 -- a seat after an event, once what is kept of it is that of the new view
-pub seat_after : (me me' : Me ℕ Joint) (notes notes' : SeatNotes) (capacity : ℕ) {budget : ℕ} (event : Event) (found : ℕ) (shared : SharedView) (table : TableId) → IsSingleSeat me notes capacity budget → IsAt shared table me' (view_in me'.0)
+pub seat_after : (me me' : Me ℕ SeatViews) (notes notes' : SeatNotes) (capacity : ℕ) {budget : ℕ} (event : Event) (found : ℕ) (shared : SharedView) (table : TableId) → IsSingleSeat me notes capacity budget → IsAt shared table me' (view_in me'.0)
     → IsEvent event (view_in me.0) found (view_in me'.0) → IsKeptOf notes' (view_in me'.0) → IsSingleSeat me' notes' capacity budget
 seat_after me me' notes notes' capacity event found shared table old at event_is kept =
     let same : (view_in me'.0).setup ≡ (view_in me.0).setup = (has_after event (view_in me.0) found (view_in me'.0) event_is).1 in record {
@@ -78,5 +79,5 @@ loaded notes v w word found kept event has = keep_fits _ _ w event.after has (re
 })
 
 -- a seat that stands for the same views
-pub whole_at : (me me' : Me ℕ Joint) (notes : SeatNotes) (owned : Owned) (marks : List Bool) (capacity budget : ℕ) → me' ≡ me → IsWholeSeat me notes owned marks capacity budget → IsWholeSeat me' notes owned marks capacity budget
+pub whole_at : (me me' : Me ℕ SeatViews) (notes : SeatNotes) (owned : Owned) (marks : List Bool) (capacity budget : ℕ) → me' ≡ me → IsWholeSeat me notes owned marks capacity budget → IsWholeSeat me' notes owned marks capacity budget
 whole_at me me' notes owned marks capacity budget same whole = subst (λ m. IsWholeSeat m notes owned marks capacity budget) (sym same) whole

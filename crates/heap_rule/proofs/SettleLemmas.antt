@@ -14,14 +14,16 @@ use Rattle.core_model.specs.Guards.{IsOwn, MayStep}
 use Rattle.core_model.proofs.PlaceLemmas.{pick, cell_there, index_at, index_within}
 use Rattle.core_model.proofs.QuietLemmas.{own_same}
 use Rattle.crash_core.specs.declared.owners.SeatNotes.{SeatNotes}
-use Rattle.heap_rule.specs.Plays.{HasSoundState, IsEvent, learned}
+use Rattle.heap_table.specs.Plays.{HasSoundState, IsEvent}
+use Rattle.heap_table.specs.Reached.{learned}
 use Rattle.atomic_table.specs.Seated.{TableId}
 use Rattle.atomic_table.specs.Table.{Me}
-use Rattle.heap_rule.specs.Joint.{Joint, view_in}
-use Rattle.heap_rule.specs.Seated.{SharedView, IsKeptOf, IsSingleSeat, IsAt, IsStore}
+use Rattle.heap_table.specs.SeatViews.{SeatViews, view_in}
+use Rattle.heap_table.specs.AtTable.{SharedView, IsAt, IsStore}
+use Rattle.heap_rule.specs.Seated.{IsKeptOf, IsSingleSeat}
 use Rattle.heap_rule.specs.Shown.{Can}
 use Rattle.heap_rule.proofs.SeatLemmas.{keep_fits}
-use Rattle.heap_rule.proofs.StepLemmas.{has_after}
+use Rattle.heap_table.proofs.StepLemmas.{has_after}
 use Rattle.heap_rule.proofs.ViewLemmas.{shown}
 use Rattle.heap_rule.proofs.ShownLemmas.{may_of}
 
@@ -60,7 +62,7 @@ settled_kept notes v w word value found kept event has = keep_fits _ _ w event.a
   batch = kept.batch;
 })
 
-pub settled_seat : (me me' : Me ℕ Joint) (notes : SeatNotes) (capacity : ℕ) {budget : ℕ} (word value found : ℕ) (shared : SharedView) (table : TableId) → IsSingleSeat me notes capacity budget → IsAt shared table me' (view_in me'.0)
+pub settled_seat : (me me' : Me ℕ SeatViews) (notes : SeatNotes) (capacity : ℕ) {budget : ℕ} (word value found : ℕ) (shared : SharedView) (table : TableId) → IsSingleSeat me notes capacity budget → IsAt shared table me' (view_in me'.0)
     → IsEvent (Settle word) (learned (view_in me.0) word value) found (view_in me'.0) → IsSingleSeat me' notes capacity budget
 settled_seat me me' notes capacity word value found shared table old at event =
     let same : (view_in me'.0).setup ≡ (view_in me.0).setup = (has_after (Settle word) (learned (view_in me.0) word value) found (view_in me'.0) event).1 in record {

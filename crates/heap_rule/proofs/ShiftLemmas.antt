@@ -24,7 +24,7 @@ use Rattle.crash_core.proofs.LiftSteps.{first_append, last_append, length_append
 use Rattle.crash_core.proofs.SplitSteps.{no_span}
 use Rattle.crash_core.proofs.MoveSteps.{no_cache, rest_length, rest_first}
 use Rattle.crash_core.proofs.WordLemmas.{entry_is, read_is}
-use Rattle.heap_rule.specs.Plays.{HasSoundState}
+use Rattle.heap_table.specs.Plays.{HasSoundState}
 use Rattle.heap_rule.specs.Seated.{IsKeptOf, FitsShift}
 use Rattle.heap_rule.specs.Shown.{CanFree, CanCut}
 use Rattle.heap_rule.proofs.ChainLemmas.{info_read}

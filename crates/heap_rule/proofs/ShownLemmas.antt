@@ -8,7 +8,7 @@ use Rattle.core_model.specs.View.{View, one_if_some}
 use Rattle.core_model.specs.Effects.{place_of}
 use Rattle.core_model.specs.Guards.{IsReadyFor}
 use Rattle.core_model.proofs.SoundLemmas.{in_length}
-use Rattle.heap_rule.specs.Plays.{HasSoundState, May}
+use Rattle.heap_table.specs.Plays.{HasSoundState, May}
 use Rattle.heap_rule.specs.Shown.{Can, IsShownFor}
 use Rattle.heap_rule.proofs.GuardLemmas.{store_may, push_may, give_may}
 use Rattle.heap_rule.proofs.GuardShiftLemmas.{shift_may}

@@ -10,7 +10,7 @@ use Rattle.core_model.proofs.PlaceLemmas.{cell_at_index, index_at, cell_there}
 use Rattle.crash_core.specs.declared.owners.Group.{Group}
 use Rattle.crash_core.specs.declared.owners.SeatNotes.{SeatNotes}
 use Rattle.crash_core.specs.Standing.{HasCaches, HasBatch}
-use Rattle.heap_rule.specs.Plays.{HasSoundState, IsEvent}
+use Rattle.heap_table.specs.Plays.{HasSoundState, IsEvent}
 use Rattle.heap_rule.specs.Seated.{Fits, IsKeptOf}
 use Rattle.heap_rule.proofs.SeatLemmas.{keep_fits}
 use Rattle.heap_rule.proofs.ViewLemmas.{block_cell}

@@ -8,7 +8,7 @@ use Rattle.core_model.specs.Effects.{drew, stopped, shifted}
 use Rattle.core_model.proofs.PlaceLemmas.{pick, skip, not-lt}
 use Rattle.crash_core.proofs.TickSteps.{going_on}
 use Rattle.crash_core.specs.declared.owners.SeatNotes.{SeatNotes}
-use Rattle.heap_rule.specs.Plays.{HasSoundState, IsEvent}
+use Rattle.heap_table.specs.Plays.{HasSoundState, IsEvent}
 use Rattle.heap_rule.specs.Seated.{IsKeptOf, FitsShift}
 use Rattle.heap_rule.proofs.SeatLemmas.{keep_fits}
 

@@ -6,7 +6,7 @@ use Rattle.core_model.specs.declared.event.Shift.TheVariants.{Cut, Alloc, Free, 
 use Rattle.core_model.specs.Effects.{drew, seen, shifted, stopped}
 use Rattle.core_model.specs.Memory.{Memory, memory_of}
 use Rattle.core_model.specs.View.{View, one_if_some}
-use Rattle.heap_rule.specs.Plays.{HasSoundState, IsEvent}
+use Rattle.heap_table.specs.Plays.{HasSoundState, IsEvent}
 use Rattle.heap_rule.specs.Tickets.{after_ticket, next_of}
 use Rattle.heap_rule.proofs.ToldLemmas.{draws_before, parts_alone}
 

@@ -9,7 +9,7 @@ use Rattle.core_model.specs.Memory.{Memory, memory_of}
 use Rattle.core_model.specs.View.{View, one_if_some}
 use Rattle.core_model.specs.Effects.{shifted, drew, stopped}
 use Rattle.core_model.proofs.TotalLemmas.{total_at}
-use Rattle.heap_rule.specs.Plays.{IsEvent}
+use Rattle.heap_table.specs.Plays.{IsEvent}
 use Rattle.heap_rule.specs.Shown.{Shows}
 use Rattle.heap_rule.proofs.SettleLemmas.{own_there}
 use Rattle.heap_rule.proofs.ViewLemmas.{shown}

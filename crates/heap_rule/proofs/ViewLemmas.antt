@@ -20,7 +20,7 @@ use Rattle.core_model.proofs.SoundLemmas.{taken}
 use Rattle.core_model.proofs.OwnerLemmas.{in_lists_total}
 use Rattle.crash_core.proofs.ChainSteps.{cut_range}
 use Rattle.crash_core.proofs.FreeSteps.{short, list_at_most}
-use Rattle.heap_rule.specs.Plays.{HasSoundState}
+use Rattle.heap_table.specs.Plays.{HasSoundState}
 use Rattle.heap_rule.specs.Shown.{Shows, ShowsDurable, ShowsEmpty, by_claim, by_anchor, by_look, ShowsLinks}
 
 -- a block of a superblock of the image begins in the image

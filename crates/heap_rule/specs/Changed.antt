@@ -12,7 +12,7 @@ use Rattle.heap_rule.specs.declared.owned.Change.{Change}
 use Rattle.heap_rule.specs.declared.owned.Change.TheVariants as change
 use Rattle.heap_rule.specs.declared.owned.Owned.{Owned}
 use Rattle.heap_rule.specs.Owned.{IsMarking, IsStaking, HasOwned, parts_of}
-use Rattle.heap_rule.specs.Plays.{HasSoundState}
+use Rattle.heap_table.specs.Plays.{HasSoundState}
 use Rattle.heap_rule.specs.Stacks.{HasStack, IsRestacked}
 
 -- a superblock of the image that may be cut for the class

@@ -5,7 +5,7 @@ use Rattle.std.proofs.Common.{inl, ap, arith}
 use Rattle.line_memory.specs.Marks.{mark_at}
 use Rattle.core_model.specs.Cells.{info_cell, link_cell}
 use Rattle.core_model.specs.View.{View, known}
-use Rattle.heap_rule.specs.Joint.{nobody, first_view, other_views, joined_views}
+use Rattle.heap_table.specs.SeatViews.{nobody}
 use Rattle.heap_rule.specs.Seated.{SeatView, Tells, HasNewStore}
 use Rattle.heap_rule.specs.Shown.{Shows, ShowsEmpty, CanAnchor, CanPush, CanStore, as_empty, as_full, as_free, by_claim, by_anchor}
 
@@ -79,13 +79,3 @@ seventeenth = refl
 
 pub mark_gone : mark_at (slice_set (false ∷ true ∷ []) 1 false) 1 ≡ false
 mark_gone = refl
-
--- a seat of the table gives the first of its views to a new seat, and takes them in again
-pub gives_first : first_view (seat ∷ claims ∷ []) ≡ seat ∷ []
-gives_first = refl
-
-pub keeps_others : other_views (seat ∷ claims ∷ []) ≡ claims ∷ []
-keeps_others = refl
-
-pub takes_in : joined_views (claims ∷ []) (seat ∷ []) ≡ seat ∷ claims ∷ []
-takes_in = refl

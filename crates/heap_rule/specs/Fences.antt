@@ -8,7 +8,7 @@ use Rattle.core_model.specs.declared.event.Event.TheVariants.{Settle}
 use Rattle.core_model.specs.Cells.{cell_at}
 use Rattle.core_model.specs.Guards.{IsOwn}
 use Rattle.core_model.specs.View.{View, known}
-use Rattle.heap_rule.specs.Plays.{IsEvent}
+use Rattle.heap_table.specs.Plays.{IsEvent}
 use Rattle.heap_rule.specs.Seated.{SeatView, KeepsStores}
 use Rattle.heap_rule.specs.Shown.{Shows, ShowsDurable}
 

@@ -7,7 +7,7 @@ use Rattle.core_model.specs.Cells.{Cell, cell_at}
 use Rattle.core_model.specs.Guards.{IsOwn}
 use Rattle.core_model.specs.Held.{volatile_image, durable_image}
 use Rattle.core_model.specs.View.{Setup, View, known}
-use Rattle.heap_rule.specs.Plays.{HasSoundState}
+use Rattle.heap_table.specs.Plays.{HasSoundState}
 
 -- the words that no step changes are as they were opened
 pub record HasFixedWords (k : Setup) (image : Image) : Type 0 where

@@ -8,7 +8,7 @@ use Rattle.core_model.specs.Guards.{IsOwn}
 use Rattle.core_model.specs.Held.{volatile_image, durable_image}
 use Rattle.core_model.specs.View.{Setup, View}
 use Rattle.heap_rule.specs.Images.{Agrees, IsImageOf}
-use Rattle.heap_rule.specs.Plays.{HasSoundState}
+use Rattle.heap_table.specs.Plays.{HasSoundState}
 
 -- what a crash may leave of some sound state in which a seat has the view
 pub record IsCrashOf (v : View) (image : Image) : Type 0 where

@@ -1,6 +1,3 @@
-pub mod Joint
-pub mod Rule
-pub mod Plays
 pub mod Shown
 pub mod Seated
 pub mod Seats

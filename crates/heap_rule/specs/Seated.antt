@@ -1,27 +1,23 @@
 -- What contracts see of the shared heap and of a seat, and what a seat keeps beside its place at the table.
-use Rattle.std.specs.Prelude.{◌≡◌, ◌<◌, ℕ, ◌+◌, ◌≢◌, cond, nat_eq, max, Result, MatchResult, Option, None, Some, ⊤, Bool, false, List, [], ◌∷◌, length, take, slice_set}
+use Rattle.std.specs.Prelude.{◌≡◌, ◌<◌, ℕ, ◌+◌, ◌≢◌, Result, MatchResult, Option, None, Some, ⊤, Bool, false, List, [], ◌∷◌, length, take, slice_set}
 use Rattle.heap_model.specs.Geometry.{image_words}
 use Rattle.atomic_table.specs.Seated.{TableId}
 use Rattle.atomic_table.specs.Table.{Me}
 use Rattle.core_model.specs.declared.event.Event.{Event}
 use Rattle.core_model.specs.declared.event.Shift.{Shift}
 use Rattle.line_memory.specs.declared.memory.Stopped.{Stopped}
-use Rattle.core_model.specs.Effects.{place_of, left_there, shifted, drew}
-use Rattle.core_model.specs.Memory.{Memory, memory_of, tickets}
-use Rattle.core_model.specs.View.{Setup, View}
+use Rattle.core_model.specs.Effects.{shifted, drew}
+use Rattle.core_model.specs.Memory.{memory_of}
+use Rattle.core_model.specs.View.{View}
 use Rattle.core_model.specs.Steps.{found_by}
 use Rattle.crash_core.specs.declared.owners.SeatNotes.{SeatNotes}
 use Rattle.crash_core.specs.Standing.{HasNotes, HasCaches, HasBatch}
 use Rattle.heap_rule.specs.declared.owned.Owned.{Owned}
 use Rattle.heap_rule.specs.Owned.{HasOwned, parts_of}
-use Rattle.heap_rule.specs.Joint.{Joint, IsSingle, view_in}
-use Rattle.heap_rule.specs.Plays.{HasSoundState}
-
--- which table it is, what is the same of all its seats, and for how many it was opened
-pub record SharedView : Type 0 where
-  pub table : TableId
-  pub setup : Setup
-  pub seats : ℕ
+use Rattle.heap_table.specs.SeatViews.{SeatViews, IsSingle, view_in}
+use Rattle.heap_table.specs.Plays.{HasSoundState}
+use Rattle.heap_table.specs.AtTable.{SharedView}
+use Rattle.heap_table.specs.Rule.{setup_for}
 
 -- which table it is at, and its view; the words of its last sixteen stores, the latest first; and by word, whether it is marked as written back
 pub record SeatView : Type 0 where
@@ -43,7 +39,7 @@ pub record HasNewStore (word : ℕ) (v w : SeatView) : Type 0 where
 -- the seat is one of this heap
 pub record IsSeatOf (shared : SharedView) (seat : SeatView) : Type 0 where
   pub table : seat.table ≡ shared.table
-  pub setup : seat.view.setup ≡ shared.setup
+  pub setup : seat.view.setup ≡ setup_for shared.opening
 
 -- notes, caches and batch of a view, whatever state has it
 pub record Fits (notes : SeatNotes) (v : View) : Type 0 where
@@ -64,7 +60,7 @@ pub record IsKeptOf (notes : SeatNotes) (v : View) : Type 0 where
   pub batch : HasBatch notes.batch v.batch
 
 -- a single seat at the table, of a heap of the layout's capacity and of the budget, and what is kept of it
-pub record IsSingleSeat (me : Me ℕ Joint) (notes : SeatNotes) (capacity budget : ℕ) : Type 0 where
+pub record IsSingleSeat (me : Me ℕ SeatViews) (notes : SeatNotes) (capacity budget : ℕ) : Type 0 where
   pub single : IsSingle me.0 (view_in me.0)
   pub no_slots : me.1 ≡ []
   pub kept : IsKeptOf notes (view_in me.0)
@@ -73,35 +69,10 @@ pub record IsSingleSeat (me : Me ℕ Joint) (notes : SeatNotes) (capacity budget
   pub low : (view_in me.0).setup.budget < 1099511627776
 
 -- the same, with what tells which words are its own, and with a mark for each word
-pub record IsWholeSeat (me : Me ℕ Joint) (notes : SeatNotes) (owned : Owned) (marks : List Bool) (capacity budget : ℕ) : Type 0 where
+pub record IsWholeSeat (me : Me ℕ SeatViews) (notes : SeatNotes) (owned : Owned) (marks : List Bool) (capacity budget : ℕ) : Type 0 where
   pub seat : IsSingleSeat me notes capacity budget
   pub marks_long : length marks ≡ image_words capacity
   pub own : HasOwned owned (parts_of (view_in me.0))
-
--- the seat stands at the table of this heap for a single seat with the view, which some sound state has
-pub record IsAt (shared : SharedView) (table : TableId) (me : Me ℕ Joint) (v : View) : Type 0 where
-  pub table_is : table ≡ shared.table
-  pub single : IsSingle me.0 v
-  pub no_slots : me.1 ≡ []
-  pub setup : v.setup ≡ shared.setup
-  pub has : HasSoundState v
-
--- what the event leaves of the word that it finds: the word itself; the next ticket; the greater of it and a value; in each state that has the view, a new word, where it is the one that was seen, and a value
-abbrev pub IsLook : Event → Type 0
-IsLook event = (m : Memory) (v : View) (found : ℕ) → left_there m v event found ≡ found
-
-abbrev pub IsDraw : Event → Type 0
-IsDraw event = (v : View) → (place_of v event ≡ tickets) × ((m : Memory) (found : ℕ) → left_there m v event found ≡ found + 1)
-
-abbrev pub IsRaise : Event → View → ℕ → Type 0
-IsRaise event v value = (m : Memory) (found : ℕ) → left_there m v event found ≡ max found value
-
-abbrev pub IsExchange : Event → View → ℕ → ℕ → Type 0
-IsExchange event v seen new = (s : HasSoundState v) (found : ℕ) → found ≡ found_by (memory_of v.setup.capacity s.words) v event
-    → left_there (memory_of v.setup.capacity s.words) v event found ≡ cond (nat_eq found seen) new found
-
-abbrev pub IsStore : Event → View → ℕ → Type 0
-IsStore event v value = (s : HasSoundState v) (found : ℕ) → left_there (memory_of v.setup.capacity s.words) v event found ≡ value
 
 -- an exchange tells that it was done exactly where the word was as it was seen, and else the word
 abbrev pub Tells : ℕ → ℕ → Result ⊤ ℕ → Type 0

@@ -1,12 +1,11 @@
 -- All the seats of a shared heap, as it is opened and as it is closed.
-use Rattle.std.specs.Prelude.{◌≡◌, ℕ, ◌<◌, false, replicate, List, [], ◌∷◌, ◌++◌, Contains, length, get_or, map}
+use Rattle.std.specs.Prelude.{◌≡◌, ℕ, ◌<◌, false, replicate, List, [], Contains, length, get_or, map}
 use Rattle.atomic_table.specs.Seated.{TableId}
-use Rattle.heap_model.specs.Geometry.{image_words}
 use Rattle.line_memory.specs.Marks.{mark_at}
 use Rattle.core_model.specs.Opening.{tabulate}
-use Rattle.core_model.specs.Sound.{Sound}
-use Rattle.core_model.specs.View.{Setup, View}
-use Rattle.heap_rule.specs.Seated.{SharedView, SeatView, IsSeatOf}
+use Rattle.core_model.specs.View.{View}
+use Rattle.heap_table.specs.AtTable.{SharedView}
+use Rattle.heap_rule.specs.Seated.{SeatView, IsSeatOf}
 
 -- a seat that has stored nothing yet, and marked nothing
 pub record HasNoStores (seat : SeatView) : Type 0 where
@@ -15,25 +14,17 @@ pub record HasNoStores (seat : SeatView) : Type 0 where
 
 -- the seats that a heap was opened for, in their order, each with its view
 pub record AreOpenedSeats (shared : SharedView) (views : ℕ → View) (seats : List SeatView) : Type 0 where
-  pub count : length seats ≡ shared.seats
+  pub count : length seats ≡ shared.opening.seats
   pub each : (i : ℕ) (seat : SeatView) → i < length seats → get_or seats i seat ≡ seat
       → IsSeatOf shared seat × (seat.view ≡ views i) × HasNoStores seat
 
 -- all the seats of a heap, in any order
 pub record AreSeatsOf (shared : SharedView) (seats : List SeatView) : Type 0 where
-  pub count : length seats ≡ shared.seats
+  pub count : length seats ≡ shared.opening.seats
   pub each : (seat : SeatView) → Contains seats seat → IsSeatOf shared seat
 
 abbrev pub views_of : List SeatView → List View
 views_of seats = map (λ (seat : SeatView). seat.view) seats
-
--- the volatile words of an image and the durable ones, with some ticket word, are sound with these seats
-pub record IsClosedSound (k : Setup) (now kept : List ℕ) (views : List View) : Type 0 where
-  pub now_long : length now ≡ image_words k.capacity
-  pub kept_long : length kept ≡ image_words k.capacity
-  pub drawn : ℕ
-  pub sound : Sound k (now ++ (kept ++ (drawn ∷ []))) views
-  pub count : length views ≡ k.seats
 
 -- the first seats of a table, in their order, each with its view
 abbrev pub dealt_seats : TableId → (ℕ → View) → ℕ → ℕ → List SeatView

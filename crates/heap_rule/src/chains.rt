@@ -1,4 +1,15 @@
 //! The steps of a seat that exchange an anchor.
+//!
+//! Linearization point: the one exchange of the anchor. From there on all free blocks are in the
+//! seat's cache (take-all), or the batch is in front of the chain (give). The loads of first words
+//! after a take-all are of words that are the seat's own by then.
+//!
+//! A lost race changes nothing of the heap: the ticket and the look at the anchor are used up, the
+//! anchor that was found is told, and the caller draws and looks again.
+//!
+//! An anchor that came back may be taken for the old one: it names the first free block and how many
+//! there are, and the new anchor and the link of the batch depend on these alone. The chain behind
+//! it is read after the exchange, and not before.
 
 ghost use Rattle.std.specs.Prelude.{◌≡◌, ◌≢◌, ◌<◌, ◌≤◌, ◌+◌, ◌-◌, ◌/◌, ℕ, drop, length, Some};
 ghost use Rattle.heap_model.specs.Geometry.{start_word};
@@ -8,9 +19,10 @@ ghost use Rattle.core_model.specs.declared.event.Event.TheVariants.{TakeAll, Giv
 ghost use Rattle.core_model.specs.Effects.{seen_word, claim_class, given_anchor, first_of};
 ghost use Rattle.core_model.specs.View.{of_class};
 ghost use Rattle.core_model.specs.Sound.{IsCutBlock};
-ghost use Rattle.heap_rule.specs.Plays.{IsEvent};
-ghost use Rattle.heap_rule.specs.Joint.{view_in};
-ghost use Rattle.heap_rule.specs.Seated.{IsAt, KeepsStores, IsSeatOf, Tells};
+ghost use Rattle.heap_table.specs.Plays.{IsEvent};
+ghost use Rattle.heap_table.specs.SeatViews.{view_in};
+ghost use Rattle.heap_table.specs.AtTable.{IsAt};
+ghost use Rattle.heap_rule.specs.Seated.{KeepsStores, IsSeatOf, Tells};
 ghost use Rattle.heap_rule.specs.Shown.{Can};
 
 use crate::owned::{Stake, mark_all};
@@ -24,6 +36,7 @@ use core_model::Event;
 use crash_core::{
     Cache, Group, NO_BATCH, SeatNotes, anchor_after_give, anchor_after_take_all, first_free,
 };
+use heap_table::{Shared, TableSeat, exchange, read};
 use size_table::{SizeClass, blocks_of};
 use super_block::{Geometry, block_words};
 

@@ -11,7 +11,7 @@ ghost use Rattle.core_model.specs.Sound.{Each};
 ghost use Rattle.core_model.specs.View.{Setup, View, one_if_some};
 ghost use Rattle.heap_rule.specs.Images.{HasRecorded, IsImageOf, HasFixedWords};
 ghost use Rattle.heap_rule.specs.Left.{IsCloseOf, IsCrashOf};
-ghost use Rattle.heap_rule.specs.Seats.{IsClosedSound};
+ghost use Rattle.heap_table.specs.AtTable.{IsClosedSound};
 
 /// Of each own word a seat has recorded what a close left: the volatile value and the durable one.
 pub fn a_closed_heap_has_the_recorded_words()

@@ -3,13 +3,13 @@
 ghost use Rattle.std.specs.Prelude.{◌≡◌, ℕ, None, Some};
 ghost use Rattle.core_model.specs.declared.event.Event.TheVariants.{Tick};
 ghost use Rattle.heap_rule.specs.Fences.{SettlesEarly};
-ghost use Rattle.heap_rule.specs.Plays.{IsEvent};
+ghost use Rattle.heap_table.specs.Plays.{IsEvent};
 ghost use Rattle.heap_rule.specs.Seated.{SeatView, KeepsStores, IsSeatOf, TellsDraw};
 ghost use Rattle.heap_rule.specs.Shown.{Can};
 
 use crate::seat::Seat;
-use crate::shared::Shared;
 use core_model::Shift;
+use heap_table::Shared;
 use line_memory::{Chance, Stopped};
 
 impl Seat {

@@ -7,7 +7,7 @@ ghost use Rattle.heap_rule.specs.Seated.{KeepsStores, IsSeatOf};
 ghost use Rattle.heap_rule.specs.Shown.{Can};
 
 use crate::seat::Seat;
-use crate::shared::Shared;
+use heap_table::Shared;
 use super_block::LINE_WORDS;
 
 impl Seat {

@@ -1,18 +1,25 @@
 //! The steps of a seat on the mark below which superblocks have been taken.
+//!
+//! Linearization point: the one exchange of the mark, from which on the superblocks are the seat's;
+//! for the durable mark its raise, which is never lost.
+//!
+//! A lost race changes nothing of the heap: the ticket and the mark that was read are used up, the
+//! mark that was found is told, and the caller draws and looks again.
+//!
+//! The mark only rises, so it never comes back: where it is as it was read, nothing was taken since.
 
 ghost use Rattle.std.specs.Prelude.{ℕ};
 ghost use Rattle.core_model.specs.declared.event.Event.TheVariants.{TakeFresh, KeepUsed};
 ghost use Rattle.core_model.specs.Effects.{seen};
-ghost use Rattle.heap_rule.specs.Plays.{IsEvent};
+ghost use Rattle.heap_table.specs.Plays.{IsEvent};
 ghost use Rattle.heap_rule.specs.Seated.{KeepsStores, IsSeatOf, Tells};
 ghost use Rattle.heap_rule.specs.Shown.{Can};
 
 use crate::owned::{Stake, stake_range};
 use crate::seat::Seat;
-use crate::shared::Shared;
-use crate::steps::{exchange, raise};
 use core_model::Event;
 use crash_core::{SeatNotes, Seen};
+use heap_table::{Shared, exchange, raise};
 use super_block::USED_WORD;
 
 impl Seat {

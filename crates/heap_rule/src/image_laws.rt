@@ -11,7 +11,7 @@ ghost use Rattle.core_model.specs.Held.{IsHeld};
 ghost use Rattle.core_model.specs.View.{View};
 ghost use Rattle.heap_rule.specs.Images.{HasPickedRecords, IsImageOf, HasFixedWords, MixesRecorded};
 ghost use Rattle.heap_rule.specs.Left.{HasDurableRecords, HasFixedWordsButState, HasTransients, HasVolatileRecords, IsCloseOf, IsCrashOf, MayBeLeft, MixesLasting};
-ghost use Rattle.heap_rule.specs.Plays.{HasSoundState};
+ghost use Rattle.heap_table.specs.Plays.{HasSoundState};
 
 /// Each image of a seat names each block that the seat holds, has one of the two recorded values of
 /// each own word, and has the words that no step changes as they were opened: so its header is

@@ -14,10 +14,10 @@ ghost use Rattle.core_model.specs.declared.event.Shift.{Shift};
 ghost use Rattle.core_model.specs.Cells.{cell_at};
 ghost use Rattle.core_model.specs.Held.{AreHeldOnce, IsHeldBy, IsFirm};
 ghost use Rattle.core_model.specs.View.{Setup, View};
-ghost use Rattle.heap_rule.specs.Joint.{Joint, all_views};
-ghost use Rattle.heap_rule.specs.Plays.{HasSoundState, IsEvent};
-ghost use Rattle.heap_rule.specs.Rule.{HasAllSeats, Opening, setup_for};
-ghost use Rattle.heap_rule.specs.Seats.{IsClosedSound};
+ghost use Rattle.heap_table.specs.SeatViews.{SeatViews, all_views};
+ghost use Rattle.heap_table.specs.Plays.{HasSoundState, IsEvent};
+ghost use Rattle.heap_table.specs.Rule.{HasAllSeats, Opening, setup_for};
+ghost use Rattle.heap_table.specs.AtTable.{IsClosedSound};
 ghost use Rattle.heap_rule.specs.Shown.{Shows};
 
 /// What a step tells of the heap: in the state in which it was taken, each mixed image names each
@@ -67,7 +67,7 @@ pub fn a_closed_heap_names_each_held_block()
 /// No block is held twice: of the seats of a shared heap between any two steps of any of them, of
 /// each sound state in which a seat has its view, and of the seats of a closed heap.
 pub fn no_block_is_held_twice()
-    ensures shared { (o : Opening) (words : List ℕ) (joints : List Joint)
+    ensures shared { (o : Opening) (words : List ℕ) (joints : List SeatViews)
         → HasAllSeats o words joints
         → AreHeldOnce (setup_for o).capacity (all_views joints) }
     ensures state { (v : View) → (has : HasSoundState v)

@@ -16,15 +16,11 @@ mod opening;
 mod own_words;
 mod owned;
 mod owned_opening;
-mod plays;
 mod reads;
-mod rule;
 mod seat;
-mod shared;
 mod shifts;
 mod stacks;
 mod step_laws;
-mod steps;
 mod stores;
 mod ticks;
 mod told;
@@ -37,6 +33,7 @@ pub use closed_laws::{
     a_closed_heap_has_the_recorded_words, a_crash_or_a_close_of_a_closed_heap_is_one_of_each_seat,
 };
 pub use closing::close_shared;
+pub use heap_table::Shared;
 pub use image_laws::{
     a_close_leaves_a_seat_its_blocks_and_words, a_crash_leaves_a_seat_its_blocks_and_words,
     a_crash_may_leave_any_heads_anchors_and_links, an_image_of_a_seat_has_its_blocks_and_words,
@@ -47,7 +44,6 @@ pub use laws::{
 };
 pub use opening::open_shared;
 pub use seat::Seat;
-pub use shared::Shared;
 pub use step_laws::{
     a_draw_leaves_its_change_or_a_stop, a_lost_exchange_answers_the_word_that_it_found,
     a_seen_used_is_within_the_capacity, a_step_of_a_seat_is_one_of_the_core,

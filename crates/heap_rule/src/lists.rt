@@ -1,18 +1,27 @@
 //! The steps of a seat that exchange the head of a list.
+//!
+//! Linearization point: the one exchange of the head. From there on the descriptor is the seat's
+//! (pop), or in front of the list for all seats (push).
+//!
+//! A lost race changes nothing of the heap: the ticket and the look at the head are used up, the
+//! head that was found is told, and the caller draws and looks again.
+//!
+//! A head that came back: it counts its pops. With as many as were seen, no descriptor has left the
+//! list, so the first one is still in it and its link is as it was read. A push may take a head that
+//! came back: its link leads to the first descriptor that this head names, which is all it needs.
 
 ghost use Rattle.std.specs.Prelude.{ℕ};
 ghost use Rattle.core_model.specs.declared.event.Event.TheVariants.{Pop, Push};
 ghost use Rattle.core_model.specs.Effects.{seen_word};
-ghost use Rattle.heap_rule.specs.Plays.{IsEvent};
+ghost use Rattle.heap_table.specs.Plays.{IsEvent};
 ghost use Rattle.heap_rule.specs.Seated.{KeepsStores, IsSeatOf, Tells};
 ghost use Rattle.heap_rule.specs.Shown.{Can};
 
 use crate::owned::Stake;
 use crate::seat::Seat;
-use crate::shared::Shared;
-use crate::steps::exchange;
 use core_model::Event;
 use crash_core::{SeatNotes, Seen, head_after_pop, head_after_push, head_first};
+use heap_table::{Shared, exchange};
 use super_block::HEAD_WORD;
 
 impl Seat {

@@ -1,15 +1,14 @@
 //! The steps of a seat that read a word.
 
 ghost use Rattle.core_model.specs.declared.event.Event.TheVariants.{Load, LookUsed, LookHead, LookLink, LookAnchor};
-ghost use Rattle.heap_rule.specs.Plays.{IsEvent};
+ghost use Rattle.heap_table.specs.Plays.{IsEvent};
 ghost use Rattle.heap_rule.specs.Seated.{KeepsStores, IsSeatOf};
 ghost use Rattle.heap_rule.specs.Shown.{Can};
 
 use crate::seat::Seat;
-use crate::shared::Shared;
-use crate::steps::look;
 use core_model::Event;
 use crash_core::{SeatNotes, Seen, head_first};
+use heap_table::{Shared, look};
 use super_block::{HEAD_WORD, USED_WORD};
 
 impl Seat {

@@ -9,8 +9,8 @@ ghost use Rattle.core_model.specs.Held.{IsHeld};
 ghost use Rattle.heap_rule.specs.Seated.{IsSeatOf};
 
 use crate::seat::Seat;
-use crate::shared::Shared;
 use crash_core::{Part, part_at};
+use heap_table::Shared;
 use size_table::SizeClass;
 use super_block::{Block, LAST_CLASS, SUPERBLOCK_WORDS, WORD_BYTES, block_words};
 

@@ -8,8 +8,7 @@ ghost use Rattle.heap_rule.specs.Seated.{IsSeatOf};
 ghost use Rattle.heap_rule.specs.Shown.{CanFree, CanCut};
 
 use crate::seat::Seat;
-use crate::shared::Shared;
-use crate::steps::read;
+use heap_table::{Shared, read};
 use size_table::SizeClass;
 use super_block::SUPERBLOCK_WORDS;
 

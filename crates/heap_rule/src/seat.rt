@@ -1,8 +1,8 @@
 //! A seat of a shared heap: one thread's part of it.
 
 use crate::owned::Owned;
-use crate::rule::Bare;
 use crash_core::SeatNotes;
+use heap_table::TableSeat;
 use line_memory::{Pending, RecentStores};
 use std::marker::Model;
 use super_block::Geometry;
@@ -10,7 +10,7 @@ use super_block::Geometry;
 /// A seat of a shared heap.
 #[derive(Drop)]
 pub struct Seat {
-    pub(crate) bare: Bare,
+    pub(crate) bare: TableSeat,
     pub(crate) notes: SeatNotes,
     pub(crate) geometry: Geometry,
     pub(crate) budget: u64,
@@ -20,7 +20,7 @@ pub struct Seat {
 }
 
 impl Model for Seat {
-    ghost use Rattle.heap_rule.specs.Joint.{view_in};
+    ghost use Rattle.heap_table.specs.SeatViews.{view_in};
     ghost use Rattle.heap_rule.specs.Seated.{SeatView, IsWholeSeat};
 
     ghost Value = { SeatView };

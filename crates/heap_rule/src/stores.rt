@@ -6,7 +6,7 @@ ghost use Rattle.core_model.specs.Guards.{IsOwn};
 ghost use Rattle.heap_rule.specs.Seated.{IsSeatOf};
 
 use crate::seat::Seat;
-use crate::shared::Shared;
+use heap_table::Shared;
 
 impl Seat {
     /// The word of one of the last sixteen stores, 0 for the latest; none where there was no such

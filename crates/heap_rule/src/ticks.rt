@@ -3,16 +3,15 @@
 ghost use Rattle.std.specs.Prelude.{◌≡◌, ℕ, Some, None};
 ghost use Rattle.core_model.specs.declared.event.Event.TheVariants.{Tick};
 ghost use Rattle.heap_rule.specs.Changed.{FitsChange};
-ghost use Rattle.heap_rule.specs.Plays.{IsEvent};
+ghost use Rattle.heap_table.specs.Plays.{IsEvent};
 ghost use Rattle.heap_rule.specs.Seated.{KeepsStores, IsSeatOf, FitsShift, TellsDraw};
 ghost use Rattle.heap_rule.specs.Shown.{Can};
 
 use crate::owned::Change;
 use crate::seat::Seat;
-use crate::shared::Shared;
-use crate::steps::draw;
 use core_model::{Event, Shift};
 use crash_core::SeatNotes;
+use heap_table::{Shared, draw};
 use line_memory::Stopped;
 
 impl Seat {

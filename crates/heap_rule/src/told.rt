@@ -3,11 +3,11 @@
 ghost use Rattle.std.specs.Prelude.{◌≡◌, length, None};
 ghost use Rattle.core_model.specs.Effects.{first_of};
 ghost use Rattle.core_model.specs.View.{of_class};
-ghost use Rattle.heap_rule.specs.Plays.{HasSoundState};
+ghost use Rattle.heap_table.specs.Plays.{HasSoundState};
 ghost use Rattle.heap_rule.specs.Seated.{IsSeatOf};
 
 use crate::seat::Seat;
-use crate::shared::Shared;
+use heap_table::Shared;
 use size_table::SizeClass;
 
 impl Seat {

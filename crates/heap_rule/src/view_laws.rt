@@ -15,7 +15,7 @@ ghost use Rattle.core_model.specs.Memory.{durable_used, memory_of, used};
 ghost use Rattle.core_model.specs.View.{View, times_block, times_large, times_raw};
 ghost use Rattle.heap_rule.specs.Held.{IsPlacedBelow};
 ghost use Rattle.heap_rule.specs.Left.{Lasts};
-ghost use Rattle.heap_rule.specs.Plays.{HasSoundState, IsEvent};
+ghost use Rattle.heap_table.specs.Plays.{HasSoundState, IsEvent};
 ghost use Rattle.heap_rule.specs.Shown.{Shows, ShowsDurable};
 
 /// A superblock that a seat has claimed without a class is claimed once and lies in the image, and

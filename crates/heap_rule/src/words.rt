@@ -2,15 +2,14 @@
 
 ghost use Rattle.std.specs.Prelude.{ℕ};
 ghost use Rattle.core_model.specs.declared.event.Event.TheVariants.{Store, Settle};
-ghost use Rattle.heap_rule.specs.Plays.{IsEvent};
+ghost use Rattle.heap_table.specs.Plays.{IsEvent};
 ghost use Rattle.heap_rule.specs.Seated.{KeepsStores, IsSeatOf, HasNewStore};
 ghost use Rattle.heap_rule.specs.Shown.{Can};
 
 use crate::seat::Seat;
-use crate::shared::Shared;
-use crate::steps::{learn, store};
 use core_model::Event;
 use crash_core::SeatNotes;
+use heap_table::{Shared, learn, store};
 
 impl Seat {
     /// Stores to a word of its own.

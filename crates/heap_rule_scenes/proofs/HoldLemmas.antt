@@ -14,7 +14,7 @@ use Rattle.core_model.specs.View.{Setup, View, of_class}
 use Rattle.core_model.proofs.FrameLemmas.{below_is, below_not, times_append, times_steps}
 use Rattle.core_model.proofs.TotalLemmas.{eq-eqb-one}
 use Rattle.heap_rule.specs.Fences.{Settles}
-use Rattle.heap_rule.specs.Plays.{HasSoundState}
+use Rattle.heap_table.specs.Plays.{HasSoundState}
 use Rattle.heap_rule.specs.Shown.{Can}
 use Rattle.heap_rule_tests.specs.Large.{AreClaimed, HasLarge, HasSplit}
 use Rattle.heap_rule_tests.specs.Pops.{HasPopped}

@@ -11,7 +11,7 @@ use Rattle.core_model.proofs.BlockLemmas.{first_there}
 use Rattle.core_model.proofs.TotalLemmas.{eq-eqb-one}
 use Rattle.crash_core.proofs.LiftSteps.{last_append}
 use Rattle.heap_rule.specs.Parts.{KeepsParts}
-use Rattle.heap_rule.specs.Plays.{HasSoundState}
+use Rattle.heap_table.specs.Plays.{HasSoundState}
 use Rattle.heap_rule.specs.Shown.{CanLift, Shows}
 use Rattle.heap_rule.proofs.ViewLemmas.{block_range}
 use Rattle.heap_rule_tests.specs.declared.refusal.NotDone.{NotDone}

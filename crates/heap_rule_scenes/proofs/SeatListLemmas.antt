@@ -10,7 +10,8 @@ use Rattle.heap_model.specs.Geometry.{roots, lists}
 use Rattle.core_model.specs.Opening.{opened_view}
 use Rattle.core_model.specs.View.{Setup, View, of_class}
 use Rattle.core_model.proofs.OpenedHeldLemmas.{owns_root}
-use Rattle.heap_rule.specs.Seated.{SharedView, SeatView, IsSeatOf}
+use Rattle.heap_table.specs.AtTable.{SharedView}
+use Rattle.heap_rule.specs.Seated.{SeatView, IsSeatOf}
 use Rattle.heap_rule.specs.Seats.{AreOpenedSeats, AreSeatsOf}
 use Rattle.heap_rule_scenes.specs.Scenes.{HaveNoSpareBlocks, HasNoSpareBlocks, OwnRoots}
 
@@ -35,7 +36,7 @@ none_among (suc n) zero = refl
 none_among (suc n) (suc i) = none_among n i
 
 -- two seats are all seats of a heap of two
-pub pair_of : (shared : SharedView) (first second : SeatView) → shared.seats ≡ 2 → IsSeatOf shared first → IsSeatOf shared second → AreSeatsOf shared (first ∷ second ∷ [])
+pub pair_of : (shared : SharedView) (first second : SeatView) → shared.opening.seats ≡ 2 → IsSeatOf shared first → IsSeatOf shared second → AreSeatsOf shared (first ∷ second ∷ [])
 pair_of shared first second two one other = record { count = sym two; each = λ s p. by_index s p.0 p.1 p.2 } where
   by_index : (s : SeatView) (j : ℕ) → j < 2 → get_or (first ∷ second ∷ []) j s ≡ s → IsSeatOf shared s
   by_index s zero less at = subst (IsSeatOf shared) at one
@@ -54,7 +55,7 @@ opened_fresh shared setup held block_owners root_owners seats opened = record {
 
 -- the only seat of a heap has all roots
 pub opened_alone : (shared : SharedView) (setup : Setup) (held : List Block) (block_owners owners : List ℕ) (seats : List SeatView) → AreOpenedSeats shared (opened_view setup held block_owners owners) seats
-    → shared.seats ≡ 1 → length owners ≡ roots → ((owner : ℕ) → Contains owners owner → owner < 1) → OwnRoots seats
+    → shared.opening.seats ≡ 1 → length owners ≡ roots → ((owner : ℕ) → Contains owners owner → owner < 1) → OwnRoots seats
 opened_alone shared setup held block_owners owners seats opened one long below = record {
   each = λ seat p root inside. subst (λ (v : View). 0 < times root v.roots) (sym (opened.each p.0 seat p.1 p.2).1)
       ((owns_root p.0 roots owners root).1 (inside, is_first root (p.0 + 1) inside ∙ (let count = opened.count in let less = p.1 in omega arith)));

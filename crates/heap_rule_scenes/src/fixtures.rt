@@ -87,7 +87,7 @@ pub fn pair(
     budget: u64,
 ) -> Result<(Shared, Seat, Seat, Vec<Seat>), Fail>
     requires budget { budget < 1099511627776 }
-    ensures count { IfOk result (λ r. r.0.seats ≡ 2) }
+    ensures count { IfOk result (λ r. r.0.opening.seats ≡ 2) }
     ensures first { IfOk result (λ r. IsSeatOf r.0 r.1) }
     ensures second { IfOk result (λ r. IsSeatOf r.0 r.2) }
     ensures first_fresh { IfOk result (λ r. HasNoSpareBlocks r.1.view) }
@@ -114,7 +114,7 @@ pub fn close_pair(
     second: Seat,
     mut seats: Vec<Seat>,
 ) -> Result<Closed, AllocError>
-    requires count { shared.seats ≡ 2 }
+    requires count { shared.opening.seats ≡ 2 }
     requires first { IsSeatOf shared first }
     requires second { IsSeatOf shared second }
     requires none { seats.items ≡ [] }

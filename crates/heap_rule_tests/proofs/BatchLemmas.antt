@@ -16,7 +16,7 @@ use Rattle.core_model.proofs.PlaceLemmas.{and_is, cell_at_index, not-eq, pick}
 use Rattle.core_model.proofs.QuietLemmas.{own_same}
 use Rattle.crash_core.proofs.OwnDecision.{within_word}
 use Rattle.heap_rule.specs.Parts.{KeepsParts}
-use Rattle.heap_rule.specs.Plays.{HasSoundState, IsEvent}
+use Rattle.heap_table.specs.Plays.{HasSoundState, IsEvent}
 use Rattle.heap_rule.specs.Shown.{Can, CanGive, CanStore, Shows}
 use Rattle.heap_rule.proofs.LeftLemmas.{draw_done, give_lost, give_won}
 use Rattle.heap_rule.proofs.PartLemmas.{left_as, one_more}

@@ -8,7 +8,7 @@ use Rattle.core_model.specs.declared.event.Shift.TheVariants.{Alloc}
 use Rattle.core_model.specs.Effects.{after_alloc, class_blocks, drew, first_of}
 use Rattle.core_model.specs.View.{Setup, View, of_class}
 use Rattle.core_model.proofs.TotalLemmas.{eq-eqb-one}
-use Rattle.heap_rule.specs.Plays.{HasSoundState, IsEvent}
+use Rattle.heap_table.specs.Plays.{HasSoundState, IsEvent}
 use Rattle.heap_rule.proofs.LeftLemmas.{draw_done}
 use Rattle.heap_rule.proofs.PartLemmas.{left_as}
 use Rattle.heap_rule_tests.specs.Caches.{HasAllocated, HasFilled, FillsNone}

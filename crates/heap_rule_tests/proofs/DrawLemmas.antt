@@ -6,7 +6,7 @@ use Rattle.core_model.specs.Effects.{stopped}
 use Rattle.std.specs.Bool.{⊤}
 use Rattle.line_memory.specs.declared.memory.Stopped.{Stopped}
 use Rattle.core_model.specs.View.{View, one_if_some}
-use Rattle.heap_rule.specs.Plays.{HasSoundState, IsEvent}
+use Rattle.heap_table.specs.Plays.{HasSoundState, IsEvent}
 use Rattle.heap_rule.specs.Seated.{SeatView, TellsDraw}
 use Rattle.heap_rule.proofs.LeftLemmas.{draw_done, draw_stops}
 use Rattle.heap_rule.proofs.PartLemmas.{left_as, none_changed}

@@ -21,7 +21,7 @@ use Rattle.core_model.proofs.TotalLemmas.{eq-eqb-one}
 use Rattle.crash_core.proofs.FreeSteps.{list_at_most}
 use Rattle.crash_core.proofs.OwnDecision.{in_classes_word}
 use Rattle.heap_rule.specs.Parts.{KeepsParts}
-use Rattle.heap_rule.specs.Plays.{HasSoundState, IsEvent}
+use Rattle.heap_table.specs.Plays.{HasSoundState, IsEvent}
 use Rattle.heap_rule.specs.Shown.{Can, CanFree, CanStore, Shows}
 use Rattle.heap_rule.proofs.LeftLemmas.{draw_frees}
 use Rattle.crash_core.proofs.LiftSteps.{last_there}

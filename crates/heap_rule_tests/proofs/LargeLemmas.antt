@@ -11,7 +11,7 @@ use Rattle.core_model.specs.Effects.{after_large, after_split, cleared, drew, le
 use Rattle.core_model.specs.View.{Setup, View, times_raw}
 use Rattle.core_model.proofs.PlaceLemmas.{pick}
 use Rattle.heap_rule.specs.Parts.{KeepsParts}
-use Rattle.heap_rule.specs.Plays.{IsEvent}
+use Rattle.heap_table.specs.Plays.{IsEvent}
 use Rattle.heap_rule.specs.Shown.{CanHoldLarge, CanJoin, Shows, ShowsDurable, by_claim}
 use Rattle.heap_rule.proofs.LeftLemmas.{draw_done}
 use Rattle.heap_rule.proofs.PartLemmas.{left_as, none_changed}

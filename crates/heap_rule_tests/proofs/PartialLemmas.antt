@@ -14,7 +14,7 @@ use Rattle.core_model.specs.View.{View, of_class, one_if_some, times_classed}
 use Rattle.core_model.proofs.QuietLemmas.{own_same}
 use Rattle.core_model.proofs.TotalLemmas.{total_at}
 use Rattle.heap_rule.specs.Parts.{KeepsParts}
-use Rattle.heap_rule.specs.Plays.{IsEvent}
+use Rattle.heap_table.specs.Plays.{IsEvent}
 use Rattle.heap_rule.specs.Shown.{Can, by_look}
 use Rattle.heap_rule.proofs.ChainLemmas.{chain_length}
 use Rattle.heap_rule.proofs.LeftLemmas.{take_all_lost, take_all_won}

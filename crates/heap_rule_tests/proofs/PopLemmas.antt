@@ -5,7 +5,7 @@ use Rattle.core_model.specs.declared.event.Event.TheVariants.{Pop}
 use Rattle.core_model.specs.Effects.{before, claimed, cleared, drew, lost, popped, seen_of, seen_word, won}
 use Rattle.core_model.specs.View.{Claim, Setup, Snapshot, View}
 use Rattle.heap_rule.specs.Parts.{KeepsParts}
-use Rattle.heap_rule.specs.Plays.{IsEvent}
+use Rattle.heap_table.specs.Plays.{IsEvent}
 use Rattle.heap_rule.proofs.LeftLemmas.{pop_won, pop_lost}
 use Rattle.heap_rule.proofs.PartLemmas.{one_more}
 use Rattle.heap_rule_tests.specs.declared.refusal.NotDone.{NotDone}

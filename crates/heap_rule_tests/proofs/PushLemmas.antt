@@ -20,7 +20,7 @@ use Rattle.core_model.proofs.SoundLemmas.{taken}
 use Rattle.core_model.proofs.QuietLemmas.{own_same}
 use Rattle.core_model.proofs.TotalLemmas.{total_at, eq-eqb-one}
 use Rattle.heap_rule.specs.Parts.{KeepsParts}
-use Rattle.heap_rule.specs.Plays.{HasSoundState, IsEvent}
+use Rattle.heap_table.specs.Plays.{HasSoundState, IsEvent}
 use Rattle.heap_rule.specs.Shown.{Can, CanList, CanStore, Shows, ShowsEmpty, by_claim, by_anchor, as_free, of_its_class}
 use Rattle.heap_rule.proofs.LeftLemmas.{push_won, push_lost}
 use Rattle.heap_rule.proofs.PartLemmas.{one_more}

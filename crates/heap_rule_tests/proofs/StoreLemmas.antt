@@ -7,7 +7,7 @@ use Rattle.core_model.specs.Guards.{IsOwn}
 use Rattle.core_model.specs.View.{View}
 use Rattle.core_model.proofs.QuietLemmas.{own_same}
 use Rattle.heap_rule.specs.Parts.{KeepsParts}
-use Rattle.heap_rule.specs.Plays.{IsEvent}
+use Rattle.heap_table.specs.Plays.{IsEvent}
 use Rattle.heap_rule.specs.Shown.{Can, CanAnchor, as_empty, as_full, CanStore, ShowsEmpty, by_claim, by_anchor, by_look, Shows}
 use Rattle.heap_rule.proofs.RawLemmas.{load_shown, store_shown}
 use Rattle.heap_rule.proofs.ToldLemmas.{load_told}

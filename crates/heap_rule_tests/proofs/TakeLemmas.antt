@@ -4,7 +4,7 @@ use Rattle.core_model.specs.declared.event.Event.TheVariants.{TakeFresh}
 use Rattle.core_model.specs.Effects.{drew, learn_fresh, lost, seen, steps, taken_fresh}
 use Rattle.core_model.specs.View.{Setup, View}
 use Rattle.heap_rule.specs.Parts.{KeepsParts}
-use Rattle.heap_rule.specs.Plays.{IsEvent}
+use Rattle.heap_table.specs.Plays.{IsEvent}
 use Rattle.heap_rule.proofs.LeftLemmas.{fresh_won, fresh_lost}
 use Rattle.heap_rule.proofs.PartLemmas.{one_more}
 use Rattle.heap_rule_tests.specs.declared.refusal.NotDone.{NotDone}

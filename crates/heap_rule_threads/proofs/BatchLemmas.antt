@@ -10,7 +10,7 @@ use Rattle.core_model.proofs.OwnerLemmas.{in_lists_total}
 use Rattle.core_model.proofs.PlaceLemmas.{pick}
 use Rattle.core_model.proofs.TotalLemmas.{eq-eqb-one}
 use Rattle.heap_rule.specs.Parts.{KeepsParts}
-use Rattle.heap_rule.specs.Plays.{HasSoundState}
+use Rattle.heap_table.specs.Plays.{HasSoundState}
 use Rattle.heap_rule.specs.Shown.{CanLift}
 use Rattle.heap_rule.proofs.ViewLemmas.{block_range}
 use Rattle.heap_rule_tests.specs.declared.refusal.NotDone.{NotDone}

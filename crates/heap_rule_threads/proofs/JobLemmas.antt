@@ -11,7 +11,8 @@ use Rattle.core_model.specs.Opening.{opened_view}
 use Rattle.core_model.specs.View.{Setup, View, of_class}
 use Rattle.core_model.proofs.OpenedHeldLemmas.{owns_root}
 use Rattle.crash_core.proofs.PickedLemmas.{total_append}
-use Rattle.heap_rule.specs.Seated.{SharedView, SeatView}
+use Rattle.heap_table.specs.AtTable.{SharedView}
+use Rattle.heap_rule.specs.Seated.{SeatView}
 use Rattle.heap_rule.specs.Seats.{AreOpenedSeats}
 use Rattle.heap_rule_threads.specs.declared.jobs.Report.{Report}
 use Rattle.heap_rule_threads.specs.declared.slots.Slot.{Slot}

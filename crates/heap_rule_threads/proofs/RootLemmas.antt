@@ -7,7 +7,7 @@ use Rattle.core_model.specs.Effects.{drew, learn, stored, used_up}
 use Rattle.core_model.specs.View.{View}
 use Rattle.core_model.proofs.PlaceLemmas.{cell_at_index}
 use Rattle.heap_rule.specs.Fences.{IsSeatFence, IsLineMarked, Settles, SettlesEarly, is_own, not_own, no_store, a_store}
-use Rattle.heap_rule.specs.Plays.{IsEvent}
+use Rattle.heap_table.specs.Plays.{IsEvent}
 use Rattle.heap_rule.specs.Seated.{SeatView}
 use Rattle.heap_rule.proofs.PartLemmas.{drawn, none_changed}
 use Rattle.heap_rule_tests.specs.Draws.{HasDrawn}

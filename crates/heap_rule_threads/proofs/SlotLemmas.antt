@@ -4,7 +4,7 @@ use Rattle.std.proofs.lemmas.List.Elements.{All-get_or, All-set, All-weaker}
 use Rattle.heap_model.specs.Counting.{one_if, times, without}
 use Rattle.core_model.specs.View.{View, of_class}
 use Rattle.core_model.proofs.TotalLemmas.{eq-eqb-one, total_at, total_set}
-use Rattle.heap_rule.specs.Plays.{HasSoundState}
+use Rattle.heap_table.specs.Plays.{HasSoundState}
 use Rattle.heap_rule_threads.specs.declared.slots.HeldBlock.{HeldBlock}
 use Rattle.heap_rule_threads.specs.declared.slots.Slot.{Slot}
 use Rattle.heap_rule_threads.specs.Hands.{AreSlots, HoldsSame, IsRoot, IsSlot, KeepsClaims, Turns, times_held}

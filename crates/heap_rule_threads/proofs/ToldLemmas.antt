@@ -9,7 +9,8 @@ use Rattle.core_model.specs.Sound.{Sound}
 use Rattle.core_model.specs.View.{Setup, View, of_class, times_block}
 use Rattle.crash_core.proofs.FreeSteps.{list_at_most}
 use Rattle.heap_rule.specs.Seated.{SeatView}
-use Rattle.heap_rule.specs.Seats.{IsClosedSound, views_of}
+use Rattle.heap_table.specs.AtTable.{IsClosedSound}
+use Rattle.heap_rule.specs.Seats.{views_of}
 use Rattle.heap_rule_threads.specs.declared.jobs.Report.{Report}
 use Rattle.heap_rule_threads.specs.Jobs.{AreApart, AreTold, times_seated}
 

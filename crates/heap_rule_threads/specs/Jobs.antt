@@ -8,7 +8,8 @@ use Rattle.heap_model.specs.Image.{Image}
 use Rattle.heap_model.specs.Sizes.{words_of_class}
 use Rattle.line_memory.specs.ClosedWords.{ClosedWords}
 use Rattle.core_model.specs.View.{of_class}
-use Rattle.heap_rule.specs.Seated.{SharedView, SeatView, IsSeatOf}
+use Rattle.heap_table.specs.AtTable.{SharedView}
+use Rattle.heap_rule.specs.Seated.{SeatView, IsSeatOf}
 use Rattle.heap_rule_threads.specs.declared.jobs.Report.{Report}
 use Rattle.heap_rule_threads.specs.declared.slots.Slot.{Slot}
 use Rattle.heap_rule_threads.specs.declared.working.Job.{Job}

@@ -50,6 +50,7 @@ pub record IsClosedSound (k : Setup) (now kept : List ℕ) (views : List View) :
   pub kept_long : length kept ≡ image_words k.capacity
   pub drawn : ℕ
   pub sound : Sound k (now ++ (kept ++ (drawn ∷ []))) views
+  pub count : length views ≡ k.seats
 
 -- the volatile words of an image and the durable ones, with some ticket word, are what the opened heap came to, with these views
 pub record IsClosedReached (o : Opening) (now kept : List ℕ) (views : List View) : Type 0 where

@@ -3,3 +3,4 @@ pub mod Reached
 pub mod Rule
 pub mod Plays
 pub mod AtTable
+pub mod Examples

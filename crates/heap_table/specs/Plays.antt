@@ -12,12 +12,13 @@ use Rattle.heap_table.specs.Reached.{learned}
 use Rattle.heap_table.specs.SeatViews.{SeatViews, IsSingle, all_views}
 use Rattle.heap_table.specs.Rule.{Opening, HasAllSeats, setup_for}
 
--- a sound state in which a seat has the view
+-- a sound state of all seats that the heap was opened for, in which one has the view
 pub record HasSoundState (v : View) : Type 0 where
   pub words : List ℕ
   pub views : List View
   pub seat : ℕ
   pub sound : Sound v.setup words views
+  pub count : length views ≡ v.setup.seats
   pub below : seat < length views
   pub at : get_or views seat v ≡ v
 

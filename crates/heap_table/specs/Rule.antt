@@ -31,7 +31,7 @@ opening_of heap owners seats budget = record {
 }
 
 abbrev pub setup_for : Opening → Setup
-setup_for o = setup_of o.words o.budget
+setup_for o = setup_of o.words o.budget o.seats
 
 -- the words and the views at the opening: the heap's words, volatile and durable the same, no ticket drawn, and each seat has what it owns
 abbrev pub state_of : Opening → TableState

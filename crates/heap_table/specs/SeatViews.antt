@@ -18,7 +18,7 @@ IsSingle group v = group ≡ v ∷ []
 
 -- the view of a seat that has nothing, of a heap without words
 abbrev pub nobody : View
-nobody = plain_view (setup_of [] 0) [] []
+nobody = plain_view (setup_of [] 0 0) [] []
 
 -- the view of a single seat
 abbrev pub view_in : SeatViews → View

@@ -13,7 +13,7 @@ use Rattle.core_model.specs.View.{Batch, Claim, Setup, View, no_batch, of_class,
 use Rattle.core_model.proofs.OwnLemmas.{one_at_most}
 use Rattle.core_model.proofs.PlaceLemmas.{not-lt, skip}
 use Rattle.core_model.proofs.TotalLemmas.{eq-eqb-one, total_at}
-use Rattle.heap_rule.specs.Plays.{HasSoundState}
+use Rattle.heap_table.specs.Plays.{HasSoundState}
 use Rattle.heap_rule.specs.Shown.{CanList, as_free, by_look, of_its_class}
 use Rattle.seat_lists.specs.Pops.{with_claim}
 use Rattle.seat_lists.specs.Pushes.{HasPushed, without_claim_of}

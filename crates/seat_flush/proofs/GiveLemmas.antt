@@ -18,7 +18,7 @@ use Rattle.core_model.proofs.PlaceLemmas.{and_is, cell_at_index, pick}
 use Rattle.crash_core.proofs.LiftSteps.{last_there}
 use Rattle.crash_core.proofs.OwnDecision.{within_word}
 use Rattle.heap_rule.specs.Fences.{Owns}
-use Rattle.heap_rule.specs.Plays.{HasSoundState, IsEvent}
+use Rattle.heap_table.specs.Plays.{HasSoundState, IsEvent}
 use Rattle.heap_rule.specs.Seated.{Tells}
 use Rattle.heap_rule.specs.Shown.{Can, CanGive, CanStore, Shows}
 use Rattle.heap_rule.proofs.LeftLemmas.{give_lost, give_won}

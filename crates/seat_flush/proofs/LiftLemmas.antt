@@ -22,7 +22,7 @@ use Rattle.core_model.proofs.TotalLemmas.{eq-eqb-one}
 use Rattle.crash_core.proofs.LiftSteps.{last_there}
 use Rattle.crash_core.proofs.OwnDecision.{in_classes_word}
 use Rattle.heap_rule.specs.Fences.{Owns}
-use Rattle.heap_rule.specs.Plays.{HasSoundState, IsEvent}
+use Rattle.heap_table.specs.Plays.{HasSoundState, IsEvent}
 use Rattle.heap_rule.specs.Seated.{TellsDraw}
 use Rattle.heap_rule.specs.Shown.{Can, CanLift, Shows}
 use Rattle.heap_rule.proofs.RawLemmas.{load_shown}

@@ -15,7 +15,7 @@ use Rattle.core_model.specs.View.{times_own}
 use Rattle.core_model.proofs.QuietLemmas.{own_same}
 use Rattle.core_model.proofs.StepLemmas.{Parts as CoreParts}
 use Rattle.heap_rule.specs.Fences.{Owns}
-use Rattle.heap_rule.specs.Plays.{IsEvent}
+use Rattle.heap_table.specs.Plays.{IsEvent}
 use Rattle.heap_rule.specs.Seated.{Tells}
 use Rattle.heap_rule.proofs.LeftLemmas.{pop_won, pop_lost}
 use Rattle.seat_lists.specs.declared.pops.Pop.{Pop as PopAnswer}

@@ -17,7 +17,7 @@ use Rattle.core_model.proofs.PlaceLemmas.{cell_at_index}
 use Rattle.core_model.proofs.SoundLemmas.{taken}
 use Rattle.core_model.proofs.TotalLemmas.{total_at}
 use Rattle.heap_rule.specs.Fences.{Owns}
-use Rattle.heap_rule.specs.Plays.{HasSoundState, IsEvent}
+use Rattle.heap_table.specs.Plays.{HasSoundState, IsEvent}
 use Rattle.heap_rule.specs.Seated.{Tells}
 use Rattle.heap_rule.specs.Shown.{Can, CanList, CanStore, Shows, ShowsEmpty, by_claim, by_anchor, by_look, as_free, of_its_class}
 use Rattle.heap_rule.proofs.LeftLemmas.{push_won, push_lost}

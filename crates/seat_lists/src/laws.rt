@@ -2,7 +2,7 @@
 
 ghost use Rattle.std.specs.Prelude.{◌≡◌, ◌≢◌, ◌<◌, ℕ, get_or, length};
 ghost use Rattle.core_model.specs.View.{View, times_claimed};
-ghost use Rattle.heap_rule.specs.Plays.{HasSoundState};
+ghost use Rattle.heap_table.specs.Plays.{HasSoundState};
 
 /// A superblock that a seat has claimed is in no other seat's hand.
 pub fn a_claimed_superblock_is_in_one_hand()

@@ -25,7 +25,7 @@ use Rattle.core_model.proofs.PlaceLemmas.{and_is, cell_at_index, pick}
 use Rattle.core_model.proofs.TotalLemmas.{eq-eqb-one}
 use Rattle.crash_core.proofs.OwnDecision.{in_classes_word}
 use Rattle.heap_rule.specs.Images.{IsImageOf, HasPickedRecords}
-use Rattle.heap_rule.specs.Plays.{HasSoundState}
+use Rattle.heap_table.specs.Plays.{HasSoundState}
 use Rattle.heap_rule.proofs.SeatImageLemmas.{image_mixes, image_names, picked_image}
 use Rattle.core_model.proofs.OwnLemmas.{one_at_most}
 use Rattle.core_model.proofs.TotalLemmas.{total_at}

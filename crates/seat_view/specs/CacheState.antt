@@ -7,7 +7,7 @@ use Rattle.heap_seat.specs.declared.fault.Looks.{Looks}
 use Rattle.heap_seat.specs.declared.look.Look.{Look}
 use Rattle.heap_seat.specs.View.{View as HeapView}
 use Rattle.core_model.specs.View.{LastLook, Span, View}
-use Rattle.heap_rule.specs.Plays.{HasSoundState}
+use Rattle.heap_table.specs.Plays.{HasSoundState}
 use Rattle.steps.specs.Rows.{next_of}
 use Rattle.steps.specs.Words.{left_at, seen_at}
 

@@ -18,7 +18,7 @@ use Rattle.core_model.specs.Steps.{memory_after, seat_after, words_after}
 use Rattle.core_model.specs.View.{LastLook, Setup, View, no_batch, times_own}
 use Rattle.core_model.proofs.FrameLemmas.{with_other}
 use Rattle.core_model.proofs.MemoryLemmas.{same-true}
-use Rattle.heap_rule.specs.Plays.{IsEvent}
+use Rattle.heap_table.specs.Plays.{IsEvent}
 use Rattle.steps.specs.Alone.{IsSteady, Steady}
 
 -- no other seat has won an exchange

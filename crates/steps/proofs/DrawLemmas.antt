@@ -7,9 +7,9 @@ use Rattle.core_model.specs.Effects.{drew, shifted, stopped}
 use Rattle.core_model.specs.Memory.{memory_of}
 use Rattle.core_model.specs.View.{View}
 use Rattle.line_memory.specs.declared.memory.Stopped.{Stopped}
-use Rattle.heap_rule.specs.Fences.{Owns}
-use Rattle.heap_rule.specs.Plays.{HasSoundState, IsEvent}
-use Rattle.heap_rule.specs.Seated.{TellsDraw}
+use Rattle.heap_rule.specs.Fences.{Owns, SettlesEarly, a_store, is_own, no_store, not_own}
+use Rattle.heap_table.specs.Plays.{HasSoundState, IsEvent}
+use Rattle.heap_rule.specs.Seated.{SeatView, TellsDraw}
 use Rattle.heap_rule.proofs.LeftLemmas.{draw_done, draw_stops}
 use Rattle.heap_rule.proofs.TicketLemmas.{rises}
 use Rattle.heap_rule.proofs.ToldLemmas.{drawn_told, stop_told}

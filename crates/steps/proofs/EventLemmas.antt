@@ -8,7 +8,7 @@ use Rattle.core_model.specs.Cells.{link_cell, cell_at}
 use Rattle.core_model.specs.Effects.{before, claimed, cleared, given, learn, lost, popped, pushed, pushed_raw, pushed_classed, seen_of, seen_word, trimmed, used_up, without_claim, won}
 use Rattle.core_model.specs.View.{View, no_batch}
 use Rattle.core_model.proofs.PlaceLemmas.{skip, not-lt}
-use Rattle.heap_rule.specs.Plays.{IsEvent}
+use Rattle.heap_table.specs.Plays.{IsEvent}
 use Rattle.heap_rule.proofs.LeftLemmas.{pop_lost, push_lost, give_lost}
 use Rattle.steps.specs.Rows.{Row}
 use Rattle.steps.specs.Words.{IsHeldWord, times_held}

@@ -5,7 +5,7 @@ use Rattle.core_model.specs.Cells.{data_cell}
 use Rattle.core_model.specs.Memory.{memory_of}
 use Rattle.core_model.specs.View.{View, times_held, times_in_classes, times_own, times_within}
 use Rattle.core_model.proofs.HeldOnceLemmas as once
-use Rattle.heap_rule.specs.Plays.{HasSoundState}
+use Rattle.heap_table.specs.Plays.{HasSoundState}
 
 pub own_once : (v : View) → HasSoundState v → (word : ℕ) → times_own v (data_cell word) ≤ 1
 own_once v s word = once.own_once v.setup (memory_of v.setup.capacity s.words) s.views s.sound.good s.seat v s.below s.at (data_cell word)

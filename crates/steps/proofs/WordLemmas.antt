@@ -9,7 +9,7 @@ use Rattle.core_model.specs.Effects.{learn, trimmed}
 use Rattle.core_model.specs.Memory.{memory_of}
 use Rattle.core_model.specs.View.{Setup, View, known, times_own, times_in_classes, times_large}
 use Rattle.heap_rule.specs.Fences.{Owns}
-use Rattle.heap_rule.specs.Plays.{HasSoundState, IsEvent}
+use Rattle.heap_table.specs.Plays.{HasSoundState, IsEvent}
 use Rattle.heap_rule.proofs.RawLemmas.{volatile_long, durable_long}
 use Rattle.heap_rule.proofs.RecordLemmas.{only_at}
 use Rattle.heap_rule.proofs.SettleLemmas.{own_below, own_index, own_there}

@@ -3,7 +3,7 @@ use Rattle.std.specs.Prelude.{◌≡◌, ◌⊎◌, ℕ}
 use Rattle.core_model.specs.declared.event.Event.TheVariants.{Settle}
 use Rattle.core_model.specs.View.{View}
 use Rattle.heap_rule.specs.Fences.{Owns}
-use Rattle.heap_rule.specs.Plays.{IsEvent}
+use Rattle.heap_table.specs.Plays.{IsEvent}
 
 -- nothing, or an own word is settled
 abbrev pub Settles : View → View → Type 0

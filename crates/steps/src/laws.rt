@@ -7,7 +7,7 @@ ghost use Rattle.core_model.specs.Memory.{Memory, memory_of};
 ghost use Rattle.core_model.specs.Sound.{Good, Sound};
 ghost use Rattle.core_model.specs.Steps.{found_by, memory_after, seat_after};
 ghost use Rattle.core_model.specs.View.{Setup, View};
-ghost use Rattle.heap_rule.specs.Plays.{IsEvent};
+ghost use Rattle.heap_table.specs.Plays.{IsEvent};
 ghost use Rattle.steps.specs.Alone.{Steady};
 
 /// A seat that is alone loses no exchange, and its last looks say what the words are as long as it

@@ -1,6 +1,6 @@
 use Rattle.std.proofs.Common.{◌≡◌, ◌<◌, drop, get_or, length, take}
 use Rattle.core_model.specs.View.{of_class}
-use Rattle.heap_rule.specs.Joint.{view_in}
+use Rattle.heap_table.specs.SeatViews.{view_in}
 use Rattle.heap_rule.proofs.chains.load_cache.Given as goal
 
 abbrev pub invariant-loop-step : goal.invariant-loop-step

@@ -4,8 +4,8 @@ use Rattle.heap_rule.proofs.closing.gather.Given as goal
 
 abbrev pub invariant-loop-seat : goal.invariant-loop-seat
 invariant-loop-seat l = record {
-  table : l.last.table_id ≡ l.shared.table_id;
-  seats : AreAtTable l.shared.table_id l.seats.items;
+  table : l.last.table_id ≡ l.shared.table;
+  seats : AreAtTable l.shared.table l.seats.items;
   views : views_of l.seats.items ++ l.last.me.0 ≡ views_of l.fn.seats.items;
 }
 

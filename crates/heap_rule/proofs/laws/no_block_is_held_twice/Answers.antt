@@ -1,6 +1,6 @@
 use Rattle.std.proofs.Common.{[], ◌∷◌, ◌++◌}
-use Rattle.heap_rule.specs.Joint.{all_views}
-use Rattle.heap_rule.specs.Rule.{setup_for}
+use Rattle.heap_table.specs.SeatViews.{all_views}
+use Rattle.heap_table.specs.Rule.{setup_for}
 use Rattle.core_model.proofs.HeldOnceLemmas.{held_once}
 use Rattle.heap_rule.proofs.laws.no_block_is_held_twice.Goals as goal
 

@@ -2,7 +2,7 @@ use Rattle.std.proofs.Common.{ℕ, sym, subst, arith}
 use Rattle.heap_model.specs.Geometry.{anchor_word}
 use Rattle.core_model.specs.declared.event.Event.TheVariants.{Store}
 use Rattle.heap_rule.specs.Shown.{Can}
-use Rattle.heap_rule.specs.Plays.{IsEvent}
+use Rattle.heap_table.specs.Plays.{IsEvent}
 use Rattle.heap_rule.proofs.RawLemmas.{raw_inside}
 use Rattle.heap_rule_tests.proofs.CutLemmas.{can_begin, begun_left}
 use Rattle.heap_rule_tests.proofs.cuts.begin.Goals as goal

@@ -1,7 +1,7 @@
 use Rattle.std.proofs.Common.{ℕ, sym, subst, arith}
 use Rattle.core_model.specs.declared.event.Event.TheVariants.{Store, Settle}
 use Rattle.heap_rule.specs.Shown.{Can}
-use Rattle.heap_rule.specs.Plays.{IsEvent}
+use Rattle.heap_table.specs.Plays.{IsEvent}
 use Rattle.heap_rule.proofs.RawLemmas.{raw_inside}
 use Rattle.heap_rule_tests.proofs.CutLemmas.{can_class, can_settle, class_left}
 use Rattle.heap_rule_tests.proofs.cuts.set_info.Goals as goal

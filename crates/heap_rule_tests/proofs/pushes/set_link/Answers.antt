@@ -1,7 +1,7 @@
 use Rattle.std.proofs.Common.{ℕ, sym, subst, arith}
 use Rattle.core_model.specs.declared.event.Event.TheVariants.{Store}
 use Rattle.heap_rule.specs.Shown.{Can}
-use Rattle.heap_rule.specs.Plays.{IsEvent}
+use Rattle.heap_table.specs.Plays.{IsEvent}
 use Rattle.heap_rule_tests.proofs.PushLemmas.{can_set_link, link_inside, link_set}
 use Rattle.heap_rule_tests.proofs.pushes.set_link.Goals as goal
 

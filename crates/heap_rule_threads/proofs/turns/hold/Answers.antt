@@ -3,7 +3,7 @@ use Rattle.heap_model.specs.Counting.{times}
 use Rattle.heap_model.specs.Geometry.{largest_capacity_fits}
 use Rattle.core_model.specs.View.{View, of_class}
 use Rattle.core_model.proofs.OwnerLemmas.{in_lists_total}
-use Rattle.heap_rule.specs.Plays.{HasSoundState}
+use Rattle.heap_table.specs.Plays.{HasSoundState}
 use Rattle.heap_rule.proofs.ViewLemmas.{block_range}
 use Rattle.heap_rule_threads.proofs.turns.hold.Goals as goal
 

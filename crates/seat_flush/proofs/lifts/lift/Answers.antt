@@ -1,6 +1,6 @@
 use Rattle.std.proofs.Common.{ℕ, sym, subst}
 use Rattle.core_model.specs.declared.event.Event.TheVariants.{Load}
-use Rattle.heap_rule.specs.Plays.{IsEvent}
+use Rattle.heap_table.specs.Plays.{IsEvent}
 use Rattle.std.specs.Prelude.{OnOk}
 use Rattle.seat_flush.specs.Lifts.{HasLifted}
 use Rattle.seat_flush.proofs.LiftLemmas.{can_load, lift_row, lift_stopped, lift_told, x_can, x_going}

@@ -1,7 +1,7 @@
 use Rattle.std.proofs.Common.{◌<◌, ℕ, sym, subst, ◌∙◌}
 use Rattle.core_model.specs.declared.event.Event.TheVariants.{Store}
 use Rattle.heap_rule.specs.Shown.{Can}
-use Rattle.heap_rule.specs.Plays.{IsEvent}
+use Rattle.heap_table.specs.Plays.{IsEvent}
 use Rattle.seat_lists.proofs.PushLemmas.{can_set_link, inside, link_row, link_set}
 use Rattle.seat_lists.proofs.pushes.set_link.Goals as goal
 

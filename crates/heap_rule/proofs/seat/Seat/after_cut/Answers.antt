@@ -1,4 +1,4 @@
-use Rattle.heap_rule.specs.Plays.{HasSoundState}
+use Rattle.heap_table.specs.Plays.{HasSoundState}
 use Rattle.heap_rule.proofs.ChangeLemmas.{cut_change}
 use Rattle.std.proofs.Common.{ap, subst, ◌∙◌}
 use Rattle.heap_model.specs.Geometry.{start_word}

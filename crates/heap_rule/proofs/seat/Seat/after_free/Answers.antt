@@ -1,6 +1,6 @@
 use Rattle.std.proofs.Common.{subst, arith}
-use Rattle.heap_rule.specs.Joint.{view_in}
-use Rattle.heap_rule.specs.Plays.{HasSoundState}
+use Rattle.heap_table.specs.SeatViews.{view_in}
+use Rattle.heap_table.specs.Plays.{HasSoundState}
 use Rattle.heap_rule.specs.Seated.{SeatView, IsKeptOf}
 use Rattle.heap_rule.proofs.ChangeLemmas.{free_change}
 use Rattle.heap_rule.proofs.ShiftLemmas.{count_fits, free_fits}

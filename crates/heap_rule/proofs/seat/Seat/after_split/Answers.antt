@@ -1,6 +1,6 @@
 use Rattle.std.proofs.Common.{◌-◌, ◌/◌, ap, subst, ◌∙◌}
 use Rattle.heap_model.specs.Geometry.{start_word}
-use Rattle.heap_rule.specs.Plays.{HasSoundState}
+use Rattle.heap_table.specs.Plays.{HasSoundState}
 use Rattle.heap_rule.specs.Seated.{SeatView, IsKeptOf}
 use Rattle.heap_rule.proofs.ChangeLemmas.{split_change}
 use Rattle.heap_rule.proofs.ShiftLemmas.{split_fits}

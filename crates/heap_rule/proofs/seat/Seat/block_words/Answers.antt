@@ -4,7 +4,7 @@ use Rattle.heap_model.specs.Sizes.{IsClass, words_of_class}
 use Rattle.core_model.specs.Held.{IsHeld}
 use Rattle.crash_core.proofs.WordLemmas.{entry_is}
 use Rattle.heap_rule.specs.declared.owned.Stake.TheVariants as stake
-use Rattle.heap_rule.specs.Joint.{view_in}
+use Rattle.heap_table.specs.SeatViews.{view_in}
 use Rattle.heap_rule.specs.Owned.{count_in}
 use Rattle.heap_rule.specs.Seated.{SeatView}
 use Rattle.heap_rule.proofs.OwnedReads.{block_there}

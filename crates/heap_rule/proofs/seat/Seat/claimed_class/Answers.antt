@@ -1,7 +1,7 @@
 use Rattle.std.proofs.Common.{◌<◌, sym, subst, ap, ◌∙◌, arith}
 use Rattle.core_model.specs.View.{times_classed}
 use Rattle.core_model.specs.Effects.{claim_class}
-use Rattle.heap_rule.specs.Joint.{view_in}
+use Rattle.heap_table.specs.SeatViews.{view_in}
 use Rattle.heap_rule.specs.Seated.{SeatView}
 use Rattle.heap_rule.proofs.OwnedReads.{classed_below, claim_of}
 use Rattle.heap_rule.proofs.seat.Seat.claimed_class.Goals as goal

@@ -2,7 +2,7 @@ use Rattle.std.proofs.Common.{◌-◌, ◌/◌, ◌≡◌, get_or, ap, sym, subs
 use Rattle.heap_model.specs.Geometry.{start_word}
 use Rattle.heap_model.specs.Sizes.{IsClass}
 use Rattle.crash_core.proofs.WordLemmas.{entry_is}
-use Rattle.heap_rule.specs.Joint.{view_in}
+use Rattle.heap_table.specs.SeatViews.{view_in}
 use Rattle.heap_rule.specs.Seated.{SeatView}
 use Rattle.heap_rule.specs.Shown.{CanFree}
 use Rattle.heap_rule.proofs.ShiftLemmas.{free_own, free_class}

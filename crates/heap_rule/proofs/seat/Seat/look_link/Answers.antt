@@ -4,7 +4,7 @@ use Rattle.heap_model.specs.Words.{head_first}
 use Rattle.core_model.specs.declared.event.Event.TheVariants.{LookLink}
 use Rattle.core_model.specs.Effects.{seen_word}
 use Rattle.crash_core.specs.Standing.{snapshot}
-use Rattle.heap_rule.specs.Joint.{view_in}
+use Rattle.heap_table.specs.SeatViews.{view_in}
 use Rattle.heap_rule.specs.Owned.{parts_of}
 use Rattle.heap_rule.proofs.HeadLemmas.{before_is}
 use Rattle.heap_rule.proofs.OwnedSteps.{quiet}
@@ -17,8 +17,8 @@ look-found-requires-clause-place c = let is = ap seen_word (c.self.invariant.sea
 
 pub invariant_of-self : goal.invariant_of-self
 invariant_of-self c = record {
-  seat = seat_after c.self.inside.bare.me c.look-found.new.bare.me c.self.inside.notes _ c.self.inside.geometry.capacity LookLink c.look-found.result c.args.shared.now c.look-found.new.bare.table_id c.self.invariant.seat c.look-found.ensures.at c.look-found.ensures.event
-      (looked_link c.self.inside.notes (view_in c.self.inside.bare.me.0) (view_in c.look-found.new.bare.me.0) c.look-found.result c.self.invariant.seat.kept c.look-found.ensures.event c.look-found.ensures.at.has);
+  seat = seat_after c.self.inside.bare.me c.look-found.new.seat.me c.self.inside.notes _ c.self.inside.geometry.capacity LookLink c.look-found.result c.args.shared.now c.look-found.new.seat.table_id c.self.invariant.seat c.look-found.ensures.at c.look-found.ensures.event
+      (looked_link c.self.inside.notes (view_in c.self.inside.bare.me.0) (view_in c.look-found.new.seat.me.0) c.look-found.result c.self.invariant.seat.kept c.look-found.ensures.event c.look-found.ensures.at.has);
   marks_long = c.self.invariant.marks_long;
-  own = quiet c.self.inside.owned (view_in c.self.inside.bare.me.0) (view_in c.look-found.new.bare.me.0) (ap parts_of c.look-found.ensures.event.after) c.self.invariant.own;
+  own = quiet c.self.inside.owned (view_in c.self.inside.bare.me.0) (view_in c.look-found.new.seat.me.0) (ap parts_of c.look-found.ensures.event.after) c.self.invariant.own;
 }

@@ -1,7 +1,7 @@
 use Rattle.std.proofs.Common.{◌≡◌, ◌↔◌, true, false, sym, subst, arith}
 use Rattle.core_model.specs.Cells.{cell_at, data_cell}
 use Rattle.core_model.specs.Guards.{IsOwn}
-use Rattle.heap_rule.specs.Joint.{view_in}
+use Rattle.heap_table.specs.SeatViews.{view_in}
 use Rattle.heap_rule.specs.Seated.{SeatView}
 use Rattle.heap_rule.proofs.OwnedReads.{own_word, no_own_word, root_own, info_own, link_own}
 use Rattle.heap_rule.proofs.seat.Seat.owns.Goals as goal

@@ -6,9 +6,11 @@ use Rattle.core_model.specs.declared.event.Event.TheVariants.{Settle}
 use Rattle.core_model.specs.Effects.{place_of}
 use Rattle.core_model.specs.Memory.{table_index}
 use Rattle.core_model.specs.View.{View}
-use Rattle.heap_rule.specs.Joint.{view_in}
-use Rattle.heap_rule.specs.Plays.{May, IsEvent, learned}
-use Rattle.heap_rule.specs.Seated.{SeatView, IsStore}
+use Rattle.heap_table.specs.SeatViews.{view_in}
+use Rattle.heap_table.specs.Plays.{May, IsEvent}
+use Rattle.heap_table.specs.Reached.{learned}
+use Rattle.heap_rule.specs.Seated.{SeatView}
+use Rattle.heap_table.specs.AtTable.{IsStore}
 use Rattle.heap_rule.specs.Shown.{Can}
 use Rattle.heap_rule.proofs.ShownLemmas.{may_of}
 use Rattle.heap_rule.proofs.SettleLemmas.{own_below, settle_place, settle_can, settle_store, settled_seat, settled_event}
@@ -39,15 +41,15 @@ store-requires-clause-store c =
 
 pub invariant_of-self : goal.invariant_of-self
 invariant_of-self c = record {
-  seat = settled_seat c.self.inside.bare.me c.store.new.bare.me c.self.inside.notes c.self.inside.geometry.capacity c.args.word c.learn-value.result c.store.ensures.event.0 c.args.shared.now c.store.new.bare.table_id c.self.invariant.seat c.store.ensures.at
-      (subst (λ v. IsEvent (Settle c.args.word) v c.store.ensures.event.0 (view_in c.store.new.bare.me.0)) c.learn-value.ensures.view c.store.ensures.event.1);
+  seat = settled_seat c.self.inside.bare.me c.store.new.seat.me c.self.inside.notes c.self.inside.geometry.capacity c.args.word c.learn-value.result c.store.ensures.event.0 c.args.shared.now c.store.new.seat.table_id c.self.invariant.seat c.store.ensures.at
+      (subst (λ v. IsEvent (Settle c.args.word) v c.store.ensures.event.0 (view_in c.store.new.seat.me.0)) c.learn-value.ensures.view c.store.ensures.event.1);
   marks_long = c.self.invariant.marks_long;
-  own = quiet c.self.inside.owned (view_in c.self.inside.bare.me.0) (view_in c.store.new.bare.me.0) (ap parts_of (subst (λ v. IsEvent (Settle c.args.word) v c.store.ensures.event.0 (view_in c.store.new.bare.me.0)) c.learn-value.ensures.view c.store.ensures.event.1).after) c.self.invariant.own;
+  own = quiet c.self.inside.owned (view_in c.self.inside.bare.me.0) (view_in c.store.new.seat.me.0) (ap parts_of (subst (λ v. IsEvent (Settle c.args.word) v c.store.ensures.event.0 (view_in c.store.new.seat.me.0)) c.learn-value.ensures.view c.store.ensures.event.1).after) c.self.invariant.own;
 }
 
 pub returns-clause-event : goal.returns-clause-event
 returns-clause-event c =
     let can = subst (λ (s : SeatView). Can s.view (Settle c.args.word)) (sym c.self.view_is) c.requires.can in
-    let done = settled_event (view_in c.self.inside.bare.me.0) (view_in c.store.new.bare.me.0) c.args.word c.learn-value.result c.store.ensures.event.0 c.learn-value.ensures.found.0 c.learn-value.ensures.found.1 can
-    (subst (λ v. IsEvent (Settle c.args.word) v c.store.ensures.event.0 (view_in c.store.new.bare.me.0)) c.learn-value.ensures.view c.store.ensures.event.1) in
-    (done.0, subst (λ (s : SeatView). IsEvent (Settle c.args.word) s.view done.0 (view_in c.store.new.bare.me.0)) c.self.view_is done.1)
+    let done = settled_event (view_in c.self.inside.bare.me.0) (view_in c.store.new.seat.me.0) c.args.word c.learn-value.result c.store.ensures.event.0 c.learn-value.ensures.found.0 c.learn-value.ensures.found.1 can
+    (subst (λ v. IsEvent (Settle c.args.word) v c.store.ensures.event.0 (view_in c.store.new.seat.me.0)) c.learn-value.ensures.view c.store.ensures.event.1) in
+    (done.0, subst (λ (s : SeatView). IsEvent (Settle c.args.word) s.view done.0 (view_in c.store.new.seat.me.0)) c.self.view_is done.1)

@@ -1,6 +1,6 @@
 use Rattle.std.proofs.Common.{◌≤◌, sym, subst, ap, ◌∙◌, arith}
 use Rattle.core_model.specs.Effects.{span_count}
-use Rattle.heap_rule.specs.Joint.{view_in}
+use Rattle.heap_table.specs.SeatViews.{view_in}
 use Rattle.heap_rule.specs.Seated.{SeatView}
 use Rattle.heap_rule.proofs.OwnedReads.{span_of}
 use Rattle.heap_rule.proofs.ShiftLemmas.{span_below}

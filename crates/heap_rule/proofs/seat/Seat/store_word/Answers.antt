@@ -2,7 +2,7 @@ use Rattle.std.proofs.Common.{ap, length, length-set, false, ◌∙◌, arith}
 use Rattle.heap_rule.proofs.SettleLemmas.{own_below}
 use Rattle.std.proofs.Common.{sym, subst}
 use Rattle.core_model.specs.declared.event.Event.TheVariants.{Store}
-use Rattle.heap_rule.specs.Joint.{view_in}
+use Rattle.heap_table.specs.SeatViews.{view_in}
 use Rattle.heap_rule.specs.Seated.{SeatView}
 use Rattle.heap_rule.specs.Shown.{Can}
 use Rattle.heap_rule.proofs.ShownLemmas.{may_of}
@@ -18,10 +18,10 @@ pub invariant_of-self : goal.invariant_of-self
 invariant_of-self c =
     let can = subst (λ (s : SeatView). Can s.view (Store c.args.word c.args.value)) (sym c.self.view_is) c.requires.can in
     record {
-      seat = seat_after c.self.inside.bare.me c.store.new.bare.me c.self.inside.notes _ c.self.inside.geometry.capacity (Store c.args.word c.args.value) c.store.ensures.event.0 c.args.shared.now c.store.new.bare.table_id c.self.invariant.seat c.store.ensures.at c.store.ensures.event.1
-          (word_stored c.self.inside.notes (view_in c.self.inside.bare.me.0) (view_in c.store.new.bare.me.0) c.args.word c.args.value c.store.ensures.event.0 c.stored.result c.self.invariant.seat.kept c.store.ensures.event.1 c.store.ensures.at.has can.shown.0 c.stored.ensures);
+      seat = seat_after c.self.inside.bare.me c.store.new.seat.me c.self.inside.notes _ c.self.inside.geometry.capacity (Store c.args.word c.args.value) c.store.ensures.event.0 c.args.shared.now c.store.new.seat.table_id c.self.invariant.seat c.store.ensures.at c.store.ensures.event.1
+          (word_stored c.self.inside.notes (view_in c.self.inside.bare.me.0) (view_in c.store.new.seat.me.0) c.args.word c.args.value c.store.ensures.event.0 c.stored.result c.self.invariant.seat.kept c.store.ensures.event.1 c.store.ensures.at.has can.shown.0 c.stored.ensures);
       marks_long = ap length c.unmark.ensures ∙ length-set c.self.inside.pending c.args.word false ∙ c.self.invariant.marks_long;
-      own = store_owned c.self.inside.owned (view_in c.self.inside.bare.me.0) (view_in c.store.new.bare.me.0) c.args.word c.args.value c.store.ensures.event.0 c.self.invariant.own c.store.ensures.event.1 can.shown.0;
+      own = store_owned c.self.inside.owned (view_in c.self.inside.bare.me.0) (view_in c.store.new.seat.me.0) c.args.word c.args.value c.store.ensures.event.0 c.self.invariant.own c.store.ensures.event.1 can.shown.0;
     }
 
 pub unmark-requires : goal.unmark-requires

@@ -7,7 +7,7 @@ use Rattle.heap_model.specs.Words.{anchor_first}
 use Rattle.core_model.specs.declared.event.Event.TheVariants.{TakeAll}
 use Rattle.core_model.specs.Effects.{seen_word, claim_class}
 use Rattle.crash_core.specs.Standing.{snapshot}
-use Rattle.heap_rule.specs.Joint.{view_in}
+use Rattle.heap_table.specs.SeatViews.{view_in}
 use Rattle.heap_rule.specs.Seated.{SeatView}
 use Rattle.core_model.specs.View.{of_class}
 use Rattle.heap_model.specs.Counting.{times}
@@ -22,22 +22,22 @@ pub invariant_of-self : goal.invariant_of-self
 invariant_of-self c =
     let is = ap seen_word (c.self.invariant.seat.kept.notes_are.seen_anchor ∙ ap snapshot c.in-Some.is) in
     record {
-      seat = seat_after c.self.inside.bare.me c.exchange-found.new.bare.me c.self.inside.notes _ c.self.inside.geometry.capacity (TakeAll c.args.d) c.exchange-found.result c.args.shared.now c.exchange-found.new.bare.table_id c.self.invariant.seat c.exchange-found.ensures.at c.exchange-found.ensures.event
-          (take_all_lost c.self.inside.notes (view_in c.self.inside.bare.me.0) (view_in c.exchange-found.new.bare.me.0) c.args.d c.exchange-found.result c.in-Some.anchor.word c.self.invariant.seat.kept c.exchange-found.ensures.event c.exchange-found.ensures.at.has is c.if-found-anchor.true);
+      seat = seat_after c.self.inside.bare.me c.exchange-found.new.seat.me c.self.inside.notes _ c.self.inside.geometry.capacity (TakeAll c.args.d) c.exchange-found.result c.args.shared.now c.exchange-found.new.seat.table_id c.self.invariant.seat c.exchange-found.ensures.at c.exchange-found.ensures.event
+          (take_all_lost c.self.inside.notes (view_in c.self.inside.bare.me.0) (view_in c.exchange-found.new.seat.me.0) c.args.d c.exchange-found.result c.in-Some.anchor.word c.self.invariant.seat.kept c.exchange-found.ensures.event c.exchange-found.ensures.at.has is c.if-found-anchor.true);
       marks_long = c.self.invariant.marks_long;
-      own = take_lost c.self.inside.owned (view_in c.self.inside.bare.me.0) (view_in c.exchange-found.new.bare.me.0) c.args.d c.exchange-found.result c.in-Some.anchor.word c.self.invariant.own c.exchange-found.ensures.event is c.if-found-anchor.true;
+      own = take_lost c.self.inside.owned (view_in c.self.inside.bare.me.0) (view_in c.exchange-found.new.seat.me.0) c.args.d c.exchange-found.result c.in-Some.anchor.word c.self.invariant.own c.exchange-found.ensures.event is c.if-found-anchor.true;
     }
 
 pub load_cache-requires-clause-count : goal.load_cache-requires-clause-count
 load_cache-requires-clause-count c =
     let is = ap seen_word (c.self.invariant.seat.kept.notes_are.seen_anchor ∙ ap snapshot c.in-Some.is) in
-    taken_count (view_in c.self.inside.bare.me.0) (view_in c.exchange-found.new.bare.me.0) c.args.d c.exchange-found.result c.exchange-found.ensures.event (c.if-found-anchor.false ∙ sym is) c.args.class.number c.anchor_count-count.result c.in-Some.anchor.word
+    taken_count (view_in c.self.inside.bare.me.0) (view_in c.exchange-found.new.seat.me.0) c.args.d c.exchange-found.result c.exchange-found.ensures.event (c.if-found-anchor.false ∙ sym is) c.args.class.number c.anchor_count-count.result c.in-Some.anchor.word
     (c.requires.class ∙ ap (λ (s : SeatView). claim_class c.args.d s.view.classed) (sym c.self.view_is)) c.anchor_count-count.ensures is
 
 pub load_cache-requires-clause-first : goal.load_cache-requires-clause-first
 load_cache-requires-clause-first c =
     let is = ap seen_word (c.self.invariant.seat.kept.notes_are.seen_anchor ∙ ap snapshot c.in-Some.is) in
-    taken_first (view_in c.self.inside.bare.me.0) (view_in c.exchange-found.new.bare.me.0) c.args.d c.exchange-found.result c.exchange-found.ensures.event (c.if-found-anchor.false ∙ sym is) c.args.class.number c.first_free-first.result c.anchor_count-count.result c.in-Some.anchor.word
+    taken_first (view_in c.self.inside.bare.me.0) (view_in c.exchange-found.new.seat.me.0) c.args.d c.exchange-found.result c.exchange-found.ensures.event (c.if-found-anchor.false ∙ sym is) c.args.class.number c.first_free-first.result c.anchor_count-count.result c.in-Some.anchor.word
     (c.requires.class ∙ ap (λ (s : SeatView). claim_class c.args.d s.view.classed) (sym c.self.view_is)) c.anchor_count-count.ensures is
     (c.first_free-first.ensures ∙ ap (λ n. start_word n c.args.d + anchor_first c.in-Some.anchor.word * words_of_class c.args.class.number) c.self.invariant.seat.capacity_is)
 

@@ -7,7 +7,7 @@ use Rattle.core_model.specs.declared.event.Event.TheVariants.{Give}
 use Rattle.core_model.specs.Effects.{seen_word, given_anchor}
 use Rattle.core_model.specs.Sound.{IsCutBlock}
 use Rattle.crash_core.specs.Standing.{snapshot}
-use Rattle.heap_rule.specs.Joint.{view_in}
+use Rattle.heap_table.specs.SeatViews.{view_in}
 use Rattle.heap_rule.specs.Seated.{SeatView}
 use Rattle.heap_rule.specs.Shown.{Can}
 use Rattle.heap_rule.proofs.ShownLemmas.{may_of}
@@ -65,10 +65,10 @@ pub invariant_of-self : goal.invariant_of-self
 invariant_of-self c =
     let is = ap seen_word (c.self.invariant.seat.kept.notes_are.seen_anchor ∙ ap snapshot c.in-Some.is) in
     record {
-      seat = seat_after c.self.inside.bare.me c.exchange-found.new.bare.me c.self.inside.notes _ c.self.inside.geometry.capacity (Give c.args.d) c.exchange-found.result c.args.shared.now c.exchange-found.new.bare.table_id c.self.invariant.seat c.exchange-found.ensures.at c.exchange-found.ensures.event
-          (give_lost c.self.inside.notes (view_in c.self.inside.bare.me.0) (view_in c.exchange-found.new.bare.me.0) c.args.d c.exchange-found.result c.in-Some.anchor.word c.self.invariant.seat.kept c.exchange-found.ensures.event c.exchange-found.ensures.at.has is c.if-found-anchor.true);
+      seat = seat_after c.self.inside.bare.me c.exchange-found.new.seat.me c.self.inside.notes _ c.self.inside.geometry.capacity (Give c.args.d) c.exchange-found.result c.args.shared.now c.exchange-found.new.seat.table_id c.self.invariant.seat c.exchange-found.ensures.at c.exchange-found.ensures.event
+          (give_lost c.self.inside.notes (view_in c.self.inside.bare.me.0) (view_in c.exchange-found.new.seat.me.0) c.args.d c.exchange-found.result c.in-Some.anchor.word c.self.invariant.seat.kept c.exchange-found.ensures.event c.exchange-found.ensures.at.has is c.if-found-anchor.true);
       marks_long = c.self.invariant.marks_long;
-      own = give_lost_own c.self.inside.owned (view_in c.self.inside.bare.me.0) (view_in c.exchange-found.new.bare.me.0) c.args.d c.exchange-found.result c.in-Some.anchor.word c.self.invariant.own c.exchange-found.ensures.event is c.if-found-anchor.true;
+      own = give_lost_own c.self.inside.owned (view_in c.self.inside.bare.me.0) (view_in c.exchange-found.new.seat.me.0) c.args.d c.exchange-found.result c.in-Some.anchor.word c.self.invariant.own c.exchange-found.ensures.event is c.if-found-anchor.true;
     }
 
 pub mark_all-requires : goal.mark_all-requires
@@ -78,8 +78,8 @@ mark_all-requires c = λ b some. let there : 0 < times b (view_in c.self.inside.
 pub invariant_of-self-then-anchor-anchor_after_take_all : goal.invariant_of-self-then-anchor-anchor_after_take_all
 invariant_of-self-then-anchor-anchor_after_take_all c =
     let is = ap seen_word (c.self.invariant.seat.kept.notes_are.seen_anchor ∙ ap snapshot c.in-Some.is) in record {
-      seat = seat_after c.self.inside.bare.me c.exchange-found.new.bare.me c.self.inside.notes _ c.self.inside.geometry.capacity (Give c.args.d) c.exchange-found.result c.args.shared.now c.exchange-found.new.bare.table_id c.self.invariant.seat c.exchange-found.ensures.at c.exchange-found.ensures.event
-          (batch_given c.self.inside.notes (view_in c.self.inside.bare.me.0) (view_in c.exchange-found.new.bare.me.0) c.args.d c.exchange-found.result c.in-Some.anchor.word c.self.invariant.seat.kept c.exchange-found.ensures.event c.exchange-found.ensures.at.has is c.if-found-anchor.false);
+      seat = seat_after c.self.inside.bare.me c.exchange-found.new.seat.me c.self.inside.notes _ c.self.inside.geometry.capacity (Give c.args.d) c.exchange-found.result c.args.shared.now c.exchange-found.new.seat.table_id c.self.invariant.seat c.exchange-found.ensures.at c.exchange-found.ensures.event
+          (batch_given c.self.inside.notes (view_in c.self.inside.bare.me.0) (view_in c.exchange-found.new.seat.me.0) c.args.d c.exchange-found.result c.in-Some.anchor.word c.self.invariant.seat.kept c.exchange-found.ensures.event c.exchange-found.ensures.at.has is c.if-found-anchor.false);
       marks_long = c.self.invariant.marks_long;
       own = give_kept (view_in c.self.inside.bare.me.0) (view_in c.exchange-found.new.bare.me.0) c.args.d c.exchange-found.result c.exchange-found.ensures.event (c.if-found-anchor.false ∙ sym is) c.self.inside.owned c.mark_all.new.blocks c.clear.new.self c.self.invariant.own
           (subst (λ l. IsMarking c.self.inside.owned.blocks.items c.mark_all.new.blocks.items l false) (c.deref.ensures.value ∙ c.self.invariant.own.batch) c.mark_all.ensures) c.clear.ensures.items c.clear.ensures.capacity
@@ -95,8 +95,8 @@ index_mut-requires c =
 pub invariant_of-self-2 : goal.invariant_of-self-2
 invariant_of-self-2 c =
     let is = ap seen_word (c.self.invariant.seat.kept.notes_are.seen_anchor ∙ ap snapshot c.in-Some.is) in record {
-      seat = seat_after c.self.inside.bare.me c.exchange-found.new.bare.me c.self.inside.notes _ c.self.inside.geometry.capacity (Give c.args.d) c.exchange-found.result c.args.shared.now c.exchange-found.new.bare.table_id c.self.invariant.seat c.exchange-found.ensures.at c.exchange-found.ensures.event
-          (batch_given c.self.inside.notes (view_in c.self.inside.bare.me.0) (view_in c.exchange-found.new.bare.me.0) c.args.d c.exchange-found.result c.in-Some.anchor.word c.self.invariant.seat.kept c.exchange-found.ensures.event c.exchange-found.ensures.at.has is c.if-found-anchor.false);
+      seat = seat_after c.self.inside.bare.me c.exchange-found.new.seat.me c.self.inside.notes _ c.self.inside.geometry.capacity (Give c.args.d) c.exchange-found.result c.args.shared.now c.exchange-found.new.seat.table_id c.self.invariant.seat c.exchange-found.ensures.at c.exchange-found.ensures.event
+          (batch_given c.self.inside.notes (view_in c.self.inside.bare.me.0) (view_in c.exchange-found.new.seat.me.0) c.args.d c.exchange-found.result c.in-Some.anchor.word c.self.invariant.seat.kept c.exchange-found.ensures.event c.exchange-found.ensures.at.has is c.if-found-anchor.false);
       marks_long = c.self.invariant.marks_long;
       own = give_full (view_in c.self.inside.bare.me.0) (view_in c.exchange-found.new.bare.me.0) c.args.d c.exchange-found.result c.exchange-found.ensures.event (c.if-found-anchor.false ∙ sym is) c.self.inside.owned c.mark_all.new.blocks c.clear.new.self _ c.listed.result c.self.invariant.own
           (subst (λ l. IsMarking c.self.inside.owned.blocks.items c.mark_all.new.blocks.items l false) (c.deref.ensures.value ∙ c.self.invariant.own.batch) c.mark_all.ensures) c.clear.ensures.items c.clear.ensures.capacity

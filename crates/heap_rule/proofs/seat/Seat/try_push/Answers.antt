@@ -6,7 +6,7 @@ use Rattle.heap_model.specs.Geometry.{largest_capacity_fits}
 use Rattle.core_model.specs.declared.event.Event.TheVariants.{Push}
 use Rattle.core_model.specs.Effects.{seen_word}
 use Rattle.crash_core.specs.Standing.{snapshot}
-use Rattle.heap_rule.specs.Joint.{view_in}
+use Rattle.heap_table.specs.SeatViews.{view_in}
 use Rattle.heap_rule.specs.Seated.{SeatView}
 use Rattle.heap_rule.specs.Shown.{Can}
 use Rattle.heap_rule.proofs.ShownLemmas.{may_of}
@@ -29,18 +29,18 @@ pub invariant_of-self : goal.invariant_of-self
 invariant_of-self c =
     let is = ap seen_word (c.self.invariant.seat.kept.notes_are.seen_head ∙ ap snapshot c.in-Some.is) in
     record {
-      seat = seat_after c.self.inside.bare.me c.exchange-found.new.bare.me c.self.inside.notes _ c.self.inside.geometry.capacity (Push c.args.d) c.exchange-found.result c.args.shared.now c.exchange-found.new.bare.table_id c.self.invariant.seat c.exchange-found.ensures.at c.exchange-found.ensures.event
-          (push_lost c.self.inside.notes (view_in c.self.inside.bare.me.0) (view_in c.exchange-found.new.bare.me.0) c.args.d c.exchange-found.result c.in-Some.head.word c.self.invariant.seat.kept c.exchange-found.ensures.event c.exchange-found.ensures.at.has is c.if-found-head.true);
+      seat = seat_after c.self.inside.bare.me c.exchange-found.new.seat.me c.self.inside.notes _ c.self.inside.geometry.capacity (Push c.args.d) c.exchange-found.result c.args.shared.now c.exchange-found.new.seat.table_id c.self.invariant.seat c.exchange-found.ensures.at c.exchange-found.ensures.event
+          (push_lost c.self.inside.notes (view_in c.self.inside.bare.me.0) (view_in c.exchange-found.new.seat.me.0) c.args.d c.exchange-found.result c.in-Some.head.word c.self.invariant.seat.kept c.exchange-found.ensures.event c.exchange-found.ensures.at.has is c.if-found-head.true);
       marks_long = c.self.invariant.marks_long;
-      own = push_lost_own c.self.inside.owned (view_in c.self.inside.bare.me.0) (view_in c.exchange-found.new.bare.me.0) c.args.d c.exchange-found.result c.in-Some.head.word c.self.invariant.own c.exchange-found.ensures.event is c.if-found-head.true;
+      own = push_lost_own c.self.inside.owned (view_in c.self.inside.bare.me.0) (view_in c.exchange-found.new.seat.me.0) c.args.d c.exchange-found.result c.in-Some.head.word c.self.invariant.own c.exchange-found.ensures.event is c.if-found-head.true;
     }
 
 pub invariant_of-self-2 : goal.invariant_of-self-2
 invariant_of-self-2 c =
     let is = ap seen_word (c.self.invariant.seat.kept.notes_are.seen_head ∙ ap snapshot c.in-Some.is) in
     record {
-      seat = seat_after c.self.inside.bare.me c.exchange-found.new.bare.me c.self.inside.notes _ c.self.inside.geometry.capacity (Push c.args.d) c.exchange-found.result c.args.shared.now c.exchange-found.new.bare.table_id c.self.invariant.seat c.exchange-found.ensures.at c.exchange-found.ensures.event
-          (head_pushed c.self.inside.notes (view_in c.self.inside.bare.me.0) (view_in c.exchange-found.new.bare.me.0) c.args.d c.exchange-found.result c.in-Some.head.word c.cleared.result c.self.invariant.seat.kept c.exchange-found.ensures.event c.exchange-found.ensures.at.has is c.if-found-head.false c.cleared.ensures);
+      seat = seat_after c.self.inside.bare.me c.exchange-found.new.seat.me c.self.inside.notes _ c.self.inside.geometry.capacity (Push c.args.d) c.exchange-found.result c.args.shared.now c.exchange-found.new.seat.table_id c.self.invariant.seat c.exchange-found.ensures.at c.exchange-found.ensures.event
+          (head_pushed c.self.inside.notes (view_in c.self.inside.bare.me.0) (view_in c.exchange-found.new.seat.me.0) c.args.d c.exchange-found.result c.in-Some.head.word c.cleared.result c.self.invariant.seat.kept c.exchange-found.ensures.event c.exchange-found.ensures.at.has is c.if-found-head.false c.cleared.ensures);
       marks_long = c.self.invariant.marks_long;
-      own = pushed_owned c.self.inside.owned (with_item c.self.inside.owned.stakes c.args.d stake.Nothing) (view_in c.self.inside.bare.me.0) (view_in c.exchange-found.new.bare.me.0) c.args.d c.exchange-found.result c.in-Some.head.word c.self.invariant.own c.exchange-found.ensures.event is c.if-found-head.false refl;
+      own = pushed_owned c.self.inside.owned (with_item c.self.inside.owned.stakes c.args.d stake.Nothing) (view_in c.self.inside.bare.me.0) (view_in c.exchange-found.new.seat.me.0) c.args.d c.exchange-found.result c.in-Some.head.word c.self.invariant.own c.exchange-found.ensures.event is c.if-found-head.false refl;
     }

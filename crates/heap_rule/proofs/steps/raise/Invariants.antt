@@ -1,4 +1,0 @@
-use Rattle.heap_rule.proofs.steps.raise.Given as goal
-
-abbrev pub ghosts-raise_as : goal.ghosts-raise_as
-ghosts-raise_as a = record { event = a._event }
