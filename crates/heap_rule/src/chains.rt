@@ -26,11 +26,8 @@ ghost use Rattle.heap_rule.specs.Seated.{KeepsStores, IsSeatOf, Tells};
 ghost use Rattle.heap_rule.specs.Shown.{Can};
 
 use crate::owned::{Stake, mark_all};
-use crate::rule::Bare;
 use crate::seat::Seat;
-use crate::shared::Shared;
 use crate::stacks::Stack;
-use crate::steps::{exchange, read};
 use anchor_word::{anchor_count, unpack};
 use core_model::Event;
 use crash_core::{
@@ -144,7 +141,7 @@ impl Seat {
 /// Loads the blocks of a cache, along which their first words lead, into its stack.
 fn load_cache(
     shared: &Shared,
-    bare: &mut Bare,
+    bare: &mut TableSeat,
     stack: &mut Stack,
     class: SizeClass,
     first: u64,

@@ -63,7 +63,7 @@ module _ (o : Opening) (words slots : List ℕ) (id n : ℕ) (group : SeatViews)
   kept_long = length-take-le n (drop n words) (let l = length-drop n words in omega (arith, long, l)) ∙ half
 
   pub closed_sound : IsClosedSound (setup_for o) (take n words) (take n (drop n words)) group
-  closed_sound = record { now_long = now_long; kept_long = kept_long; drawn = get_or (drop n (drop n words)) 0 0; sound = told (Sound (setup_for o)) keeps.sound }
+  closed_sound = record { now_long = now_long; kept_long = kept_long; drawn = get_or (drop n (drop n words)) 0 0; sound = told (Sound (setup_for o)) keeps.sound; count = count }
 
   pub closed_reached : IsClosedReached o (take n words) (take n (drop n words)) group
   closed_reached = record { now_long = now_long; kept_long = kept_long; drawn = get_or (drop n (drop n words)) 0 0; reached = told (IsReached (setup_for o) (state_of o)) keeps.reached }

@@ -18,7 +18,7 @@ total_append : (f : View → ℕ) (xs ys : List View) → total f (xs ++ ys) ≡
 total_append f [] ys = omega arith
 total_append f (x ∷ xs) ys = let rest = total_append f xs ys in omega arith
 
-length_total : (xs : List View) → length xs ≡ total (λ (v : View). 1) xs
+pub length_total : (xs : List View) → length xs ≡ total (λ (v : View). 1) xs
 length_total [] = refl
 length_total (x ∷ xs) = let rest = length_total xs in omega arith
 

@@ -29,6 +29,7 @@ state_with o words groups id group v setup holds at single = record {
   views = all_views groups;
   seat = offset id groups;
   sound = subst (λ k. Sound k words (all_views groups)) (sym setup) holds.sound;
+  count = holds.count ∙ sym (ap (λ (s : Setup). s.seats) setup);
   below = offset_below groups id group v at single;
   at = at_offset groups id group v at single;
 }
@@ -147,6 +148,7 @@ allowed_learn o count id group slots v word single setup own s holds none at fit
         views = set (all_views s.views) has.seat w;
         seat = has.seat;
         sound = sound;
+        count = length-set (all_views s.views) has.seat w ∙ has.count;
         below = let l = length-set (all_views s.views) has.seat w in let b = has.below in omega arith;
         at = get_or-set_same (all_views s.views) has.seat w w has.below;
       }

@@ -39,6 +39,7 @@ has_after event v found w e = (
     views = set e.before.views e.before.seat w;
     seat = e.before.seat;
     sound = subst (λ k. Sound k (words_after v.setup e.before.words v event) (set e.before.views e.before.seat w)) (sym same) e.kept;
+    count = length-set e.before.views e.before.seat w ∙ e.before.count ∙ sym (ap (λ (s : Setup). s.seats) same);
     below = below;
     at = at;
   },

@@ -30,4 +30,4 @@ returns-clause-next c = subst (λ (s : SeatView). 1 ≤ length (rest_of (of_clas
     (next_read c.self.inside.notes (view_in c.self.inside.bare.me.0) c.self.invariant.seat.kept c.args.class (subst (λ (s : SeatView). MayAlloc s.view c.args.class) (sym c.self.view_is) c.requires.may) c.read.ensures.found.0 c.read.result c.read.ensures.found.1)
 
 pub invariant_of-self : goal.invariant_of-self
-invariant_of-self c = whole_at c.self.inside.bare.me c.read.new.bare.me _ _ _ _ _ c.read.ensures.same c.self.invariant
+invariant_of-self c = whole_at c.self.inside.bare.me c.read.new.seat.me _ _ _ _ _ c.read.ensures.same c.self.invariant

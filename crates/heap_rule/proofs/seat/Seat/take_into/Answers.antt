@@ -45,11 +45,11 @@ pub load_cache-requires-clause-room : goal.load_cache-requires-clause-room
 load_cache-requires-clause-room c =
     let is = ap seen_word (c.self.invariant.seat.kept.notes_are.seen_anchor ∙ ap snapshot c.in-Some.is) in
     let class_is = c.requires.class ∙ ap (λ (s : SeatView). claim_class c.args.d s.view.classed) (sym c.self.view_is) in
-    let n = taken_count (view_in c.self.inside.bare.me.0) (view_in c.exchange-found.new.bare.me.0) c.args.d c.exchange-found.result c.exchange-found.ensures.event (c.if-found-anchor.false ∙ sym is) c.args.class.number c.anchor_count-count.result c.in-Some.anchor.word
+    let n = taken_count (view_in c.self.inside.bare.me.0) (view_in c.exchange-found.new.seat.me.0) c.args.d c.exchange-found.result c.exchange-found.ensures.event (c.if-found-anchor.false ∙ sym is) c.args.class.number c.anchor_count-count.result c.in-Some.anchor.word
     class_is c.anchor_count-count.ensures is in
-    let short = taken_short (view_in c.self.inside.bare.me.0) (view_in c.exchange-found.new.bare.me.0) c.args.d c.exchange-found.result c.exchange-found.ensures.event (c.if-found-anchor.false ∙ sym is) c.args.class.number class_is in
+    let short = taken_short (view_in c.self.inside.bare.me.0) (view_in c.exchange-found.new.seat.me.0) c.args.d c.exchange-found.result c.exchange-found.ensures.event (c.if-found-anchor.false ∙ sym is) c.args.class.number class_is in
     let room = c.self.invariant.own.stacks.room c.args.class.number c.index_mut-stack.result.now (sym c.index_mut-stack.ensures.value) c.args.class.is in
-    subst (λ k. k ≤ length c.index_mut-stack.result.now.blocks.items) (sym n) (subst (λ k. length (of_class (view_in c.exchange-found.new.bare.me.0).caches c.args.class.number) ≤ k) (sym room) short)
+    subst (λ k. k ≤ length c.index_mut-stack.result.now.blocks.items) (sym n) (subst (λ k. length (of_class (view_in c.exchange-found.new.seat.me.0).caches c.args.class.number) ≤ k) (sym room) short)
 
 pub cached-requires : goal.cached-requires
 cached-requires c = c.load_cache.ensures.inside
@@ -58,22 +58,22 @@ pub mark_all-requires : goal.mark_all-requires
 mark_all-requires c =
     let is = ap seen_word (c.self.invariant.seat.kept.notes_are.seen_anchor ∙ ap snapshot c.in-Some.is) in
     let class_is = c.requires.class ∙ ap (λ (s : SeatView). claim_class c.args.d s.view.classed) (sym c.self.view_is) in
-    λ b some. subst (λ n. b < n) (sym c.self.invariant.own.words_long) (taken_inside (view_in c.self.inside.bare.me.0) (view_in c.exchange-found.new.bare.me.0) c.args.d c.exchange-found.result c.exchange-found.ensures.event (c.if-found-anchor.false ∙ sym is) b
-    (subst (λ l. 0 < times b l) (c.cached.ensures ∙ c.load_cache.ensures.loaded ∙ ap (of_class (view_in c.exchange-found.new.bare.me.0).caches) class_is
-    ∙ cache_taken (view_in c.self.inside.bare.me.0) (view_in c.exchange-found.new.bare.me.0) c.args.d c.exchange-found.result c.exchange-found.ensures.event (c.if-found-anchor.false ∙ sym is)) some))
+    λ b some. subst (λ n. b < n) (sym c.self.invariant.own.words_long) (taken_inside (view_in c.self.inside.bare.me.0) (view_in c.exchange-found.new.seat.me.0) c.args.d c.exchange-found.result c.exchange-found.ensures.event (c.if-found-anchor.false ∙ sym is) b
+    (subst (λ l. 0 < times b l) (c.cached.ensures ∙ c.load_cache.ensures.loaded ∙ ap (of_class (view_in c.exchange-found.new.seat.me.0).caches) class_is
+    ∙ cache_taken (view_in c.self.inside.bare.me.0) (view_in c.exchange-found.new.seat.me.0) c.args.d c.exchange-found.result c.exchange-found.ensures.event (c.if-found-anchor.false ∙ sym is)) some))
 
 pub invariant_of-self-2 : goal.invariant_of-self-2
 invariant_of-self-2 c =
     let is = ap seen_word (c.self.invariant.seat.kept.notes_are.seen_anchor ∙ ap snapshot c.in-Some.is) in
     let class_is = c.requires.class ∙ ap (λ (s : SeatView). claim_class c.args.d s.view.classed) (sym c.self.view_is) in
-    let loaded = c.load_cache.ensures.loaded ∙ ap (of_class (view_in c.exchange-found.new.bare.me.0).caches) class_is ∙ cache_taken (view_in c.self.inside.bare.me.0) (view_in c.exchange-found.new.bare.me.0) c.args.d c.exchange-found.result c.exchange-found.ensures.event (c.if-found-anchor.false ∙ sym is) in
-    whole_at c.exchange-found.new.bare.me c.load_cache.new.bare.me _ _ _ _ _ c.load_cache.ensures.same (record {
-      seat = seat_after c.self.inside.bare.me c.exchange-found.new.bare.me c.self.inside.notes _ c.self.inside.geometry.capacity (TakeAll c.args.d) c.exchange-found.result c.args.shared.now c.exchange-found.new.bare.table_id c.self.invariant.seat c.exchange-found.ensures.at c.exchange-found.ensures.event
-          (all_taken c.self.inside.notes (view_in c.self.inside.bare.me.0) (view_in c.exchange-found.new.bare.me.0) c.args.d c.exchange-found.result c.in-Some.anchor.word c.args.class.number (record { first = c.first_free-first.result; count = c.anchor_count-count.result })
+    let loaded = c.load_cache.ensures.loaded ∙ ap (of_class (view_in c.exchange-found.new.seat.me.0).caches) class_is ∙ cache_taken (view_in c.self.inside.bare.me.0) (view_in c.exchange-found.new.seat.me.0) c.args.d c.exchange-found.result c.exchange-found.ensures.event (c.if-found-anchor.false ∙ sym is) in
+    whole_at c.exchange-found.new.seat.me c.load_cache.new.bare.me _ _ _ _ _ c.load_cache.ensures.same (record {
+      seat = seat_after c.self.inside.bare.me c.exchange-found.new.seat.me c.self.inside.notes _ c.self.inside.geometry.capacity (TakeAll c.args.d) c.exchange-found.result c.args.shared.now c.exchange-found.new.seat.table_id c.self.invariant.seat c.exchange-found.ensures.at c.exchange-found.ensures.event
+          (all_taken c.self.inside.notes (view_in c.self.inside.bare.me.0) (view_in c.exchange-found.new.seat.me.0) c.args.d c.exchange-found.result c.in-Some.anchor.word c.args.class.number (record { first = c.first_free-first.result; count = c.anchor_count-count.result })
           c.self.invariant.seat.kept c.exchange-found.ensures.event c.exchange-found.ensures.at.has is c.if-found-anchor.false class_is c.args.class.is
           (c.first_free-first.ensures ∙ ap (λ n. start_word n c.args.d + anchor_first c.in-Some.anchor.word * words_of_class c.args.class.number) c.self.invariant.seat.capacity_is) c.anchor_count-count.ensures);
       marks_long = c.self.invariant.marks_long;
-      own = taken_owned (view_in c.self.inside.bare.me.0) (view_in c.exchange-found.new.bare.me.0) c.args.d c.exchange-found.result c.exchange-found.ensures.event (c.if-found-anchor.false ∙ sym is) c.self.inside.owned c.mark_all.new.blocks _ _ _ c.self.invariant.own
+      own = taken_owned (view_in c.self.inside.bare.me.0) (view_in c.exchange-found.new.seat.me.0) c.args.d c.exchange-found.result c.exchange-found.ensures.event (c.if-found-anchor.false ∙ sym is) c.self.inside.owned c.mark_all.new.blocks _ _ _ c.self.invariant.own
           (subst (λ l. IsMarking c.self.inside.owned.blocks.items c.mark_all.new.blocks.items l true) (c.cached.ensures ∙ loaded) c.mark_all.ensures) (ap (set c.self.inside.owned.classes.items c.args.d) class_is) refl
           (filled_stack c.self.inside.owned.stacks.items _ c.args.class.number c.index_mut-stack.result.now c.load_cache.new.stack _ class_is (has_stack c.self.inside.owned.stacks.items _ c.args.class.number c.self.invariant.own.stacks c.args.class.is).below
           (sym c.index_mut-stack.ensures.value) c.load_cache.ensures.room c.load_cache.ensures.inside loaded);

@@ -81,7 +81,7 @@ invariant_of-self-then-anchor-anchor_after_take_all c =
       seat = seat_after c.self.inside.bare.me c.exchange-found.new.seat.me c.self.inside.notes _ c.self.inside.geometry.capacity (Give c.args.d) c.exchange-found.result c.args.shared.now c.exchange-found.new.seat.table_id c.self.invariant.seat c.exchange-found.ensures.at c.exchange-found.ensures.event
           (batch_given c.self.inside.notes (view_in c.self.inside.bare.me.0) (view_in c.exchange-found.new.seat.me.0) c.args.d c.exchange-found.result c.in-Some.anchor.word c.self.invariant.seat.kept c.exchange-found.ensures.event c.exchange-found.ensures.at.has is c.if-found-anchor.false);
       marks_long = c.self.invariant.marks_long;
-      own = give_kept (view_in c.self.inside.bare.me.0) (view_in c.exchange-found.new.bare.me.0) c.args.d c.exchange-found.result c.exchange-found.ensures.event (c.if-found-anchor.false ∙ sym is) c.self.inside.owned c.mark_all.new.blocks c.clear.new.self c.self.invariant.own
+      own = give_kept (view_in c.self.inside.bare.me.0) (view_in c.exchange-found.new.seat.me.0) c.args.d c.exchange-found.result c.exchange-found.ensures.event (c.if-found-anchor.false ∙ sym is) c.self.inside.owned c.mark_all.new.blocks c.clear.new.self c.self.invariant.own
           (subst (λ l. IsMarking c.self.inside.owned.blocks.items c.mark_all.new.blocks.items l false) (c.deref.ensures.value ∙ c.self.invariant.own.batch) c.mark_all.ensures) c.clear.ensures.items c.clear.ensures.capacity
           (λ e. c.if-anchor-anchor_after_take_all.true (sym c.if-found-anchor.false ∙ e ∙ sym c.anchor_after_take_all.ensures));
     }
@@ -98,7 +98,7 @@ invariant_of-self-2 c =
       seat = seat_after c.self.inside.bare.me c.exchange-found.new.seat.me c.self.inside.notes _ c.self.inside.geometry.capacity (Give c.args.d) c.exchange-found.result c.args.shared.now c.exchange-found.new.seat.table_id c.self.invariant.seat c.exchange-found.ensures.at c.exchange-found.ensures.event
           (batch_given c.self.inside.notes (view_in c.self.inside.bare.me.0) (view_in c.exchange-found.new.seat.me.0) c.args.d c.exchange-found.result c.in-Some.anchor.word c.self.invariant.seat.kept c.exchange-found.ensures.event c.exchange-found.ensures.at.has is c.if-found-anchor.false);
       marks_long = c.self.invariant.marks_long;
-      own = give_full (view_in c.self.inside.bare.me.0) (view_in c.exchange-found.new.bare.me.0) c.args.d c.exchange-found.result c.exchange-found.ensures.event (c.if-found-anchor.false ∙ sym is) c.self.inside.owned c.mark_all.new.blocks c.clear.new.self _ c.listed.result c.self.invariant.own
+      own = give_full (view_in c.self.inside.bare.me.0) (view_in c.exchange-found.new.seat.me.0) c.args.d c.exchange-found.result c.exchange-found.ensures.event (c.if-found-anchor.false ∙ sym is) c.self.inside.owned c.mark_all.new.blocks c.clear.new.self _ c.listed.result c.self.invariant.own
           (subst (λ l. IsMarking c.self.inside.owned.blocks.items c.mark_all.new.blocks.items l false) (c.deref.ensures.value ∙ c.self.invariant.own.batch) c.mark_all.ensures) c.clear.ensures.items c.clear.ensures.capacity
           (c.if-found-anchor.false ∙ c.if-anchor-anchor_after_take_all.false ∙ c.anchor_after_take_all.ensures) (c.listed.ensures ∙ ap listed (c.new-class.ensures ∙ sym c.self.invariant.seat.kept.batch.class)) refl;
     }
