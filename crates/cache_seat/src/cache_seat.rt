@@ -27,14 +27,13 @@ pub struct CacheSeat<'a, C> {
 }
 
 impl<'a, C> Model for CacheSeat<'a, C> {
-    ghost use Rattle.std.specs.Prelude.{[]};
     ghost use Rattle.seat_view.specs.CacheState.{CacheState, no_looks};
 
     ghost Value = { CacheState };
 
     ghost view = { λ s. record {
       view = s.seat.view;
-      marks = [];
+      marks = s.seat.marks;
       small_calls = s.small_calls;
       large_calls = s.large_calls;
       refusals = 0;
@@ -50,7 +49,7 @@ impl<'a, C: Chance> CacheSeat<'a, C> {
     ghost use Rattle.heap_model.specs.Geometry.{roots};
     ghost use Rattle.heap_rule.specs.Seated.{IsSeatOf};
     ghost use Rattle.seat_view.specs.CacheState.{heap_view};
-    ghost use Rattle.heap_seat.specs.Words.{KeepsOwn};
+    ghost use Rattle.heap_seat.specs.Words.{IsOwn, KeepsOwn, KeepsPending};
     ghost use Rattle.core_model.specs.View.{no_batch};
 
     /// Makes a seat of a heap one that allocates.
@@ -75,6 +74,9 @@ impl<'a, C: Chance> CacheSeat<'a, C> {
         requires going { self.old.view.stopped ≡ None }
         requires no_batch { self.old.view.batch ≡ no_batch }
         ensures kept { KeepsOwn (heap_view self.old) (heap_view self.new) }
+        ensures pending { (word : ℕ)
+            → IsOwn (heap_view self.old).held self.old.view.roots word
+            → KeepsPending (heap_view self.old) (heap_view self.new) word }
     {
         let seat = &mut self.seat;
         let done = flush(seat, self.shared, class, &mut self.chance);

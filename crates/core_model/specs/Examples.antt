@@ -7,6 +7,7 @@ use Rattle.core_model.specs.Cells.{Cell, used_cell, head_cell, info_cell, anchor
 use Rattle.core_model.specs.Memory.{Memory, write, volatile_at}
 use Rattle.core_model.specs.View.{Setup, View, LastLook, no_batch, times_own, of_class, known}
 use Rattle.core_model.specs.Effects.{left_there, view_after, chain, steps, learn_fresh}
+use Rattle.core_model.specs.Splitting.{Choice, given_off}
 use Rattle.core_model.specs.Steps.{seat_after}
 
 -- word indices and cells
@@ -140,6 +141,9 @@ has_taken = refl
 pub loses_take : left_there memory (saw_used 0) (TakeFresh 1) 1 ≡ 1
 loses_take = refl
 
+pub has_won : (seat_after memory (saw_used 1) (TakeFresh 1)).wins ≡ 1
+has_won = refl
+
 pub has_lost : (seat_after memory (saw_used 0) (TakeFresh 1)).losses ≡ 1
 has_lost = refl
 
@@ -256,6 +260,9 @@ counts_give = refl
 pub knows_given : (view_after memory (record batched { floor = 0 }) (Give 0) 2).floor ≡ 1
 knows_given = refl
 
+pub counts_give_behind : (view_after memory (record batched { seen_anchor = Some (record { of = 0; word = 17179869185 }) }) (Give 0) 17179869185).gives ≡ 1
+counts_give_behind = refl
+
 -- four words apart, and so many along the links
 pub three_steps : steps 8 4 3 ≡ 8 ∷ 12 ∷ 16 ∷ []
 three_steps = refl
@@ -275,6 +282,17 @@ splits = refl
 
 pub knows_split : (view_after memory (record idle { large = record { first = 1; count = 1 } ∷ [] }) (Tick (Some (Split 9272))) 4).floor ≡ 2
 knows_split = refl
+
+pub split_forgets : (view_after memory (record idle { large = record { first = 1; count = 1 } ∷ []; seen_anchor = Some (record { of = 1; word = 2 }) })
+    (Tick (Some (Split 9272))) 4).seen_anchor ≡ None
+split_forgets = refl
+
+-- a seat that is split off knows the same durable mark
+abbrev everything : Choice
+everything = record { blocks = λ b. true; spans = λ d. true; roots = λ i. true }
+
+pub new_seat_knows : (given_off everything idle).floor ≡ 1
+new_seat_knows = refl
 
 -- what a load, a store and a settling tell of a root
 abbrev with_root : View

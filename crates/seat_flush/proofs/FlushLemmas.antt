@@ -18,12 +18,13 @@ use Rattle.heap_rule.specs.Shown.{CanList, as_free, by_look, of_its_class}
 use Rattle.seat_lists.specs.Pops.{with_claim}
 use Rattle.seat_lists.specs.Pushes.{HasPushed, without_claim_of}
 use Rattle.seat_lists.proofs.PushLemmas.{freely_still}
-use Rattle.seat_flush.specs.Flushes.{HasFlushed, HasFlushedPrefix, HasListed, IsClaimOf, with_cache}
+use Rattle.seat_flush.specs.Flushes.{HasFlushed, HasFlushedPrefix, HasListed, IsClaimOf, flush_costs, with_cache}
 use Rattle.seat_flush.specs.Gives.{HasGiven, HasSeenAnchor, IsBatchOf, given_parts}
 use Rattle.seat_flush.specs.Lifts.{HasLiftedPrefix}
 use Rattle.seat_flush.proofs.LiftLemmas.{cache_set, lifting_batch}
-use Rattle.steps.specs.Rows.{Parts, Row, Stops, parts}
-use Rattle.steps.proofs.RowLemmas.{row_most, row_none, row_then, stops_later}
+use Rattle.seat_rows.specs.Costs.{Costs, IsWithin, no_costs}
+use Rattle.seat_rows.specs.Rows.{Parts, Stops, ViewRow, parts}
+use Rattle.seat_rows.proofs.RowLemmas.{stops_later, view_row_none, view_row_then, view_row_within}
 
 module _ (v : View) (has : HasSoundState v) (class d : ℕ) (claim : IsClaimOf class d v) where
   raw_none : times_raw d v ≡ 0
@@ -111,22 +112,22 @@ module _ (v t x : View) (has : HasSoundState v) (class d last : ℕ) (is : IsCla
   few : length lifted ≤ length (of_class v.caches class)
   few = let all = ap length prefix.lifting.both in let sum = length-append lifted rest in omega arith
 
-  pub prefix_row : {a c e : ℕ} (w : View) → a ≤ 7 → c ≤ 2 → e ≤ 1 → Row a 0 c 0 e t w → Row (9 * length (of_class v.caches class)) 0 (2 * length (of_class v.caches class)) 0 (length (of_class v.caches class)) v w
-  prefix_row w a c e row = let f = few in let s = prefix.lifting.some in
-      row_most (9 * length (of_class v.caches class)) (2 * length (of_class v.caches class)) (length (of_class v.caches class)) v w (row_then v t w prefix.lifting.row row) (omega arith) (omega arith) (omega arith)
+  pub prefix_row : {a : Costs} (w : View) → IsWithin a (record no_costs { draws = 7; wins = 2; gives = 1; moves = 1 }) → ViewRow a t w → ViewRow (flush_costs (length (of_class v.caches class))) v w
+  prefix_row w less row = let f = few in let s = prefix.lifting.some in
+      view_row_within (flush_costs (length (of_class v.caches class))) v w (record { draws = let l = less.draws in omega arith; wins = let l = less.wins in omega arith; gives = let l = less.gives in omega arith; cuts = let l = less.cuts in omega arith; taken = let l = less.taken in omega arith; moves = let l = less.moves in omega arith }) (view_row_then v t w prefix.lifting.row row)
 
-  pub prefix_done : {a c e : ℕ} (w : View) → a ≤ 7 → c ≤ 2 → e ≤ 1 → Row a 0 c 0 e t w → w.stopped ≡ None → parts w ≡ with_cache class rest (parts v) → HasFlushedPrefix class v w
-  prefix_done w a c e row going same = record {
+  pub prefix_done : {a : Costs} (w : View) → IsWithin a (record no_costs { draws = 7; wins = 2; gives = 1; moves = 1 }) → ViewRow a t w → w.stopped ≡ None → parts w ≡ with_cache class rest (parts v) → HasFlushedPrefix class v w
+  prefix_done w less row going same = record {
     ran = prefix.lifting.ran;
     going = going;
     room = prefix.lifting.room;
-    more = let d = row.drew in let m = prefix.lifting.more in omega arith;
+    more = let d = row.passes.more.draws in let m = prefix.lifting.more in omega arith;
     flushed = lifted;
     rest = rest;
     both = prefix.lifting.both;
     some = prefix.lifting.some;
     parts_are = same;
-    row = let s = prefix.lifting.some in row_most (9 * length lifted) (2 * length lifted) (length lifted) v w (row_then v t w prefix.lifting.row row) (omega arith) (omega arith) (omega arith);
+    row = let s = prefix.lifting.some in view_row_within (flush_costs (length lifted)) v w (record { draws = let l = less.draws in omega arith; wins = let l = less.wins in omega arith; gives = let l = less.gives in omega arith; cuts = let l = less.cuts in omega arith; taken = let l = less.taken in omega arith; moves = let l = less.moves in omega arith }) (view_row_then v t w prefix.lifting.row row);
   }
 
 -- how far a flush has come
@@ -137,7 +138,7 @@ pub record Flushing (class : ℕ) (v t : View) : Type 0 where
   pub rest : List ℕ
   pub both : of_class v.caches class ≡ flushed ++ rest
   pub parts_are : parts t ≡ with_cache class rest (parts v)
-  pub row : Row (9 * length flushed) 0 (2 * length flushed) 0 (length flushed) v t
+  pub row : ViewRow (flush_costs (length flushed)) v t
 
 set_own : (lists : List (List ℕ)) (class : ℕ) → set lists class (of_class lists class) ≡ lists
 set_own [] class = refl
@@ -156,7 +157,7 @@ flushing_begins v class going = record {
   rest = of_class v.caches class;
   both = refl;
   parts_are = ap (λ l. record (parts v) { caches = l }) (sym (set_own v.caches class));
-  row = row_none v;
+  row = view_row_none v;
 }
 
 module _ (v t : View) (has : HasSoundState v) (class : ℕ) (is : IsClass class) (flushing : Flushing class v t) where
@@ -169,12 +170,12 @@ module _ (v t : View) (has : HasSoundState v) (class : ℕ) (is : IsClass class)
   few_left : length flushing.flushed + length (of_class t.caches class) ≡ length (of_class v.caches class)
   few_left = let all = ap length flushing.both in let sum = length-append flushing.flushed flushing.rest in let r = ap length flushing_cache in omega arith
 
-  pub flushing_row : Row (9 * length (of_class v.caches class)) 0 (2 * length (of_class v.caches class)) 0 (length (of_class v.caches class)) v t
-  flushing_row = let f = few_left in row_most (9 * length (of_class v.caches class)) (2 * length (of_class v.caches class)) (length (of_class v.caches class)) v t flushing.row (omega arith) (omega arith) (omega arith)
+  pub flushing_row : ViewRow (flush_costs (length (of_class v.caches class))) v t
+  flushing_row = let f = few_left in view_row_within (flush_costs (length (of_class v.caches class))) v t (record { draws = omega arith; wins = omega arith; gives = omega arith; cuts = omega arith; taken = omega arith; moves = omega arith }) flushing.row
 
-  pub flushing_most : (w : View) → Row (9 * length (of_class t.caches class)) 0 (2 * length (of_class t.caches class)) 0 (length (of_class t.caches class)) t w
-      → Row (9 * length (of_class v.caches class)) 0 (2 * length (of_class v.caches class)) 0 (length (of_class v.caches class)) v w
-  flushing_most w row = let f = few_left in row_most (9 * length (of_class v.caches class)) (2 * length (of_class v.caches class)) (length (of_class v.caches class)) v w (row_then v t w flushing.row row) (omega arith) (omega arith) (omega arith)
+  pub flushing_most : (w : View) → ViewRow (flush_costs (length (of_class t.caches class))) t w
+      → ViewRow (flush_costs (length (of_class v.caches class))) v w
+  flushing_most w row = let f = few_left in view_row_within (flush_costs (length (of_class v.caches class))) v w (record { draws = omega arith; wins = omega arith; gives = omega arith; cuts = omega arith; taken = omega arith; moves = omega arith }) (view_row_then v t w flushing.row row)
 
   pub flushing_stops : (w : View) (step : ℕ) → Stops step t w → Stops step v w
   flushing_stops w step stop = stops_later v t w step flushing.ran flushing.going flushing.row stop
@@ -194,11 +195,11 @@ module _ (v t : View) (has : HasSoundState v) (class : ℕ) (is : IsClass class)
     both = flushing.both ∙ ap (λ bs. flushing.flushed ++ bs) (sym flushing_cache ∙ prefix.both) ∙ sym (append_three flushing.flushed prefix.flushed prefix.rest);
     parts_are = prefix.parts_are ∙ ap (with_cache class prefix.rest) flushing.parts_are ∙ ap (λ l. record (parts v) { caches = l }) (set-set v.caches class flushing.rest prefix.rest);
     row = let many = length-append flushing.flushed prefix.flushed in
-        row_most (9 * length (flushing.flushed ++ prefix.flushed)) (2 * length (flushing.flushed ++ prefix.flushed)) (length (flushing.flushed ++ prefix.flushed)) v w (row_then v t w flushing.row prefix.row) (omega arith) (omega arith) (omega arith);
+        view_row_within (flush_costs (length (flushing.flushed ++ prefix.flushed))) v w (record { draws = omega arith; wins = omega arith; gives = omega arith; cuts = omega arith; taken = omega arith; moves = omega arith }) (view_row_then v t w flushing.row prefix.row);
   }
 
 pub flushing_less : (class : ℕ) (t w : View) → HasFlushedPrefix class t w → w.setup.budget - w.draws < t.setup.budget - t.draws
-flushing_less class t w prefix = let same = ap (λ (k : Setup). k.budget) prefix.row.setup in let room = prefix.room in let more = prefix.more in omega arith
+flushing_less class t w prefix = let same = ap (λ (k : Setup). k.budget) prefix.row.passes.setup in let room = prefix.room in let more = prefix.more in omega arith
 
 pub on_ok_then : {A E P Q : Type 0} (result : Result A E) → (P → Q) → OnOk result P → OnOk result Q
 on_ok_then (Ok x) more is = more is

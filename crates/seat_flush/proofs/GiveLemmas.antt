@@ -26,11 +26,12 @@ use Rattle.heap_rule.proofs.RawLemmas.{store_shown}
 use Rattle.heap_rule.proofs.ViewLemmas.{block_below, block_class, block_once, block_range}
 use Rattle.seat_lists.proofs.PopLemmas.{drawn_as}
 use Rattle.seat_flush.specs.Gives.{Gives, GivesSeen, HasGiven, HasLinkedLast, HasNotGiven, HasSeenAnchor, IsBatchOf, anchor_seen, given_parts, with_linked}
-use Rattle.steps.specs.Rows.{HasDrawn, Parts, Row, Stops, parts}
-use Rattle.steps.specs.Words.{IsHeldWord, times_held}
-use Rattle.steps.proofs.OnceLemmas.{not_held}
-use Rattle.steps.proofs.EventLemmas.{give_lost_row, give_row, store_row}
-use Rattle.steps.proofs.RowLemmas.{row_most, row_none, row_then, stops_later}
+use Rattle.seat_rows.specs.Costs.{no_costs, one_draw, one_give}
+use Rattle.seat_rows.specs.Rows.{HasDrawn, Parts, Stops, ViewRow, parts}
+use Rattle.seat_rows.specs.Words.{IsHeldWord, times_held}
+use Rattle.seat_rows.proofs.OnceLemmas.{not_held}
+use Rattle.seat_rows.proofs.EventLemmas.{give_lost_row, give_row}
+use Rattle.seat_rows.proofs.RowLemmas.{stops_later, view_row_none, view_row_then, view_row_within}
 
 pub anchor_looked : (v u w : View) (d anchor : ℕ) → HasDrawn v u → IsEvent (LookAnchor d) u anchor w → HasSeenAnchor d anchor v w
 anchor_looked v u w d anchor drawn event = subst (HasSeenAnchor d anchor v) (sym left) (record { ran = drawn.went; going = drawn.went; room = drawn.room; more = omega arith; parts_are = refl; is_seen = refl }) where
@@ -86,15 +87,15 @@ module _ (v : View) (has : HasSoundState v) (d class last : ℕ) (batch : IsBatc
       let none = not_held v has last (omega arith) in
       let is = ap (times_held v) last_cell in omega arith
 
+  pub last_free : (u : View) → HasDrawn v u → IsHeldWord u last → ⊥
+  last_free u drawn held = last_not_held (let same = ap (λ (x : View). times_held x (cell_at x.setup.capacity last)) drawn.left in omega arith)
+
   module _ (u w : View) (first found : ℕ) (drawn : HasDrawn v u) (event : IsEvent (Store last first) u found w) where
     last_here : cell_at u.setup.capacity last ≡ data_cell last
     last_here = ap (λ (x : View). cell_at x.setup.capacity last) drawn.left ∙ last_cell
 
     last_left : w ≡ record (used_up u) { volatile = learn u.volatile last first; batch = record u.batch { linked = cond (nat_eq last (last_of u.batch.blocks)) false u.batch.linked } }
     last_left = event.after ∙ ap (λ (cell : Cell). stored (record (used_up u) { volatile = learn u.volatile last first }) cell first) last_here
-
-    pub last_row : Row 1 0 0 0 0 v u → Row 1 0 0 0 0 v w
-    last_row row = store_row last first v u w row (last_left ∙ ap (λ (b : Batch). record (used_up u) { volatile = learn u.volatile last first; batch = b }) (sym (ap (λ (x : View). x.batch) last_left))) last_not_held
 
     left_here : w ≡ record (used_up (drawn_as v drawn.ticket u)) { volatile = learn u.volatile last first; batch = record v.batch { linked = false } }
     left_here = last_left
@@ -130,7 +131,7 @@ given_from true zero d ticket v u w going after = subst (HasGiven d zero true v)
 given_from true (suc class) d ticket v u w going after = subst (HasGiven d (suc class) true v) (sym after) (record { going = going; parts_are = refl; durable = λ _. omega arith })
 given_from false class d ticket v u w going after = subst (HasGiven d class false v) (sym after) (record { going = going; parts_are = refl; durable = λ no. absurd (cc) })
 
-module _ (v u w : View) (d found : ℕ) (drawn : HasDrawn v u) (row : Row 1 0 0 0 0 v u) (event : IsEvent (Give d) u found w) where
+module _ (v u w : View) (d found : ℕ) (drawn : HasDrawn v u) (row : ViewRow one_draw v u) (event : IsEvent (Give d) u found w) where
   give_wins : found ≡ seen_word u.seen_anchor → HasGiven d v.batch.class (nat_eq (seen_word v.seen_anchor) full_anchor) v w
   give_wins same = given_from (nat_eq (seen_word v.seen_anchor) full_anchor) v.batch.class d drawn.ticket v u w drawn.went
       (give_won d u w found event same ∙ ap (λ (x : View). given x d) drawn.left)
@@ -143,7 +144,7 @@ module _ (v u w : View) (d found : ℕ) (drawn : HasDrawn v u) (row : Row 1 0 0 
     more = let e = ap (λ (x : View). x.draws) left in omega arith;
     linked = v.batch.linked;
     parts_are = ap parts left;
-    row = row_then v u w row (give_lost_row d u w found event other);
+    row = view_row_then v u w row (give_lost_row d u w found event other);
   } where
     left : w ≡ record (lost (drawn_as v drawn.ticket u) found) { seen_anchor = None }
     left = give_lost d u w found event other ∙ ap (λ (x : View). record (lost x found) { seen_anchor = None }) drawn.left
@@ -151,9 +152,6 @@ module _ (v u w : View) (d found : ℕ) (drawn : HasDrawn v u) (row : Row 1 0 0 
   pub exchanged : (won : Bool) (result : Result ⊤ ℕ) → Tells (seen_word u.seen_anchor) found result → won ≡ is_ok result → GivesSeen d won v w
   exchanged won (Ok x) told is = subst (λ b. GivesSeen d b v w) (sym is) (give_wins told)
   exchanged won (Err x) told is = subst (λ b. GivesSeen d b v w) (sym is) (give_loses told.1)
-
-  pub give_seen_row : Row 1 0 1 0 1 v w
-  give_seen_row = row_then v u w row (give_row d u w found event)
 
 -- the same batch, by its parts
 pub batch_still : (linked : Bool) (v w : View) (d class last : ℕ) → parts w ≡ with_linked linked (parts v) → IsBatchOf d class last v → IsBatchOf d class last w
@@ -198,24 +196,24 @@ given_linked linked false d class p = refl
 pub given_later : (linked : Bool) (v t w : View) (d class : ℕ) (full : Bool) → parts t ≡ with_linked linked (parts v) → HasGiven d class full t w → HasGiven d class full v w
 given_later linked v t w d class full same has = record { going = has.going; parts_are = has.parts_are ∙ ap (given_parts full d class) same ∙ given_linked linked full d class (parts v); durable = has.durable }
 
-pub not_given_later : {n : ℕ} (m : ℕ) (linked : Bool) (v t w : View) → v.stopped ≡ None → v.draws < v.setup.budget → parts t ≡ with_linked linked (parts v) → Row n 0 0 0 0 v t → HasNotGiven m t w → HasNotGiven (n + m) v w
+pub not_given_later : {n : ℕ} (m : ℕ) (linked : Bool) (v t w : View) → v.stopped ≡ None → v.draws < v.setup.budget → parts t ≡ with_linked linked (parts v) → ViewRow (record no_costs { draws = n }) v t → HasNotGiven m t w → HasNotGiven (n + m) v w
 not_given_later m linked v t w ran room same row has = record {
   ran = ran;
   going = has.going;
   room = room;
-  more = let a = row.drew in let b = has.more in omega arith;
+  more = let a = row.passes.more.draws in let b = has.more in omega arith;
   linked = has.linked;
   parts_are = has.parts_are ∙ ap (with_linked has.linked) same;
-  row = row_then v t w row has.row;
+  row = view_row_then v t w row has.row;
 }
 
-pub gives_later : {n : ℕ} (m : ℕ) (linked : Bool) (v t w : View) (d class : ℕ) (answer : Option Bool) → v.stopped ≡ None → v.draws < v.setup.budget → parts t ≡ with_linked linked (parts v) → Row n 0 0 0 0 v t → Gives d class m answer t w → Gives d class (n + m) answer v w
+pub gives_later : {n : ℕ} (m : ℕ) (linked : Bool) (v t w : View) (d class : ℕ) (answer : Option Bool) → v.stopped ≡ None → v.draws < v.setup.budget → parts t ≡ with_linked linked (parts v) → ViewRow (record no_costs { draws = n }) v t → Gives d class m answer t w → Gives d class (n + m) answer v w
 gives_later m linked v t w d class None ran room same row has = not_given_later m linked v t w ran room same row has
 gives_later m linked v t w d class (Some full) ran room same row has = given_later linked v t w d class full same has
 
 -- how far the tries have come
 pub record Giving (d class last : ℕ) (v t : View) : Type 0 where
-  pub row : Row 0 0 0 0 0 v t
+  pub row : ViewRow no_costs v t
   pub linked : Bool
   pub parts_are : parts t ≡ with_linked linked (parts v)
   pub both : t.stopped ≡ None → v.stopped ≡ None
@@ -223,11 +221,11 @@ pub record Giving (d class last : ℕ) (v t : View) : Type 0 where
   pub batch : IsBatchOf d class last t
 
 pub giving_begins : (v : View) (d class last : ℕ) → IsBatchOf d class last v → Giving d class last v v
-giving_begins v d class last batch = record { row = row_none v; linked = v.batch.linked; parts_are = refl; both = λ ran. ran; fresh = inl refl; batch = batch }
+giving_begins v d class last batch = record { row = view_row_none v; linked = v.batch.linked; parts_are = refl; both = λ ran. ran; fresh = inl refl; batch = batch }
 
 pub giving_on : (v t w : View) (d class last : ℕ) → Giving d class last v t → HasNotGiven 3 t w → Giving d class last v w
 giving_on v t w d class last giving missed = record {
-  row = row_most 0 0 0 v w (row_then v t w giving.row missed.row) (omega arith) (omega arith) (omega arith);
+  row = view_row_within no_costs v w (record { draws = omega arith; wins = omega arith; gives = omega arith; cuts = omega arith; taken = omega arith; moves = omega arith }) (view_row_then v t w giving.row missed.row);
   linked = missed.linked;
   parts_are = missed.parts_are ∙ ap (with_linked missed.linked) giving.parts_are;
   both = λ ran. giving.both missed.ran;
@@ -236,7 +234,7 @@ giving_on v t w d class last giving missed = record {
 }
 
 pub giving_less : (t w : View) → HasNotGiven 3 t w → w.setup.budget - w.draws < t.setup.budget - t.draws
-giving_less t w missed = let same = ap (λ (k : Setup). k.budget) missed.row.setup in let room = missed.room in let more = missed.more in omega arith
+giving_less t w missed = let same = ap (λ (k : Setup). k.budget) missed.row.passes.setup in let room = missed.room in let more = missed.more in omega arith
 
 pub giving_stops : (v t w : View) (step d class last : ℕ) → Giving d class last v t → Stops step t w → Stops step v w
 giving_stops v t w step d class last giving stop = elim giving.fresh [
@@ -244,8 +242,8 @@ giving_stops v t w step d class last giving stop = elim giving.fresh [
   | inr going ↦ stops_later v t w step (giving.both going) going giving.row stop
 ]
 
-pub giving_row : (v t w : View) (d class last : ℕ) → Giving d class last v t → Row 3 0 1 0 1 t w → Row 3 0 1 0 1 v w
-giving_row v t w d class last giving row = row_then v t w giving.row row
+pub giving_row : (v t w : View) (d class last : ℕ) → Giving d class last v t → ViewRow (record one_give { draws = 3 }) t w → ViewRow (record one_give { draws = 3 }) v w
+giving_row v t w d class last giving row = view_row_then v t w giving.row row
 
 pub giving_done : (v t w : View) (d class last : ℕ) (full : Bool) → Giving d class last v t → HasGiven d class full t w → HasGiven d class full v w
 giving_done v t w d class last full giving has = given_later giving.linked v t w d class full giving.parts_are has

@@ -27,15 +27,16 @@ use Rattle.heap_rule.specs.Seated.{TellsDraw}
 use Rattle.heap_rule.specs.Shown.{Can, CanLift, Shows}
 use Rattle.heap_rule.proofs.RawLemmas.{load_shown}
 use Rattle.heap_rule.proofs.ViewLemmas.{block_cell, block_range}
-use Rattle.steps.specs.Draws.{Settles}
-use Rattle.steps.specs.Rows.{HasDrawn, Parts, Row, Stops, parts}
-use Rattle.steps.specs.Words.{KeepsWord}
-use Rattle.steps.proofs.DrawLemmas.{early_later, early_words, row_of_stop, shifted_is, stops}
-use Rattle.steps.proofs.EventLemmas.{load_row}
-use Rattle.steps.proofs.RowLemmas.{row_most, row_then, stops_later}
-use Rattle.steps.proofs.WordLemmas.{learned_word, owns_held, word_then}
+use Rattle.seat_rows.specs.Draws.{Settles}
+use Rattle.seat_rows.specs.Costs.{no_costs, one_draw}
+use Rattle.seat_rows.specs.Rows.{HasDrawn, Parts, Stops, ViewRow, parts}
+use Rattle.seat_rows.specs.Words.{KeepsWord}
+use Rattle.seat_rows.proofs.DrawLemmas.{early_words, shifted_is, stops}
+use Rattle.seat_rows.proofs.StoreLemmas.{load_row}
+use Rattle.seat_rows.proofs.RowLemmas.{stops_later, view_row_then, view_row_within}
+use Rattle.seat_rows.proofs.WordLemmas.{learned_word, owns_held, word_then}
 use Rattle.seat_lists.proofs.PopLemmas.{drawn_as, still_owns}
-use Rattle.seat_flush.specs.Lifts.{HasLifted, HasLiftedPrefix, IsLifting, with_lifted}
+use Rattle.seat_flush.specs.Lifts.{HasLifted, HasLiftedPrefix, IsLifting, lift_costs, with_lifted}
 
 first_there : (bs : List ℕ) → 1 ≤ length bs → 0 < times (first_of bs) bs
 first_there [] some = absurd (omega arith)
@@ -84,7 +85,7 @@ module _ (v : View) (has : HasSoundState v) (class : ℕ) (can : CanLift v class
   }
 
 -- the load of the first block's first word
-module _ (v u x : View) (has : HasSoundState v) (class found : ℕ) (can : CanLift v class) (drawn : HasDrawn v u) (row : Row 1 0 0 0 0 v u) (event : IsEvent (Load (first_of (of_class v.caches class))) u found x) where
+module _ (v u x : View) (has : HasSoundState v) (class found : ℕ) (can : CanLift v class) (drawn : HasDrawn v u) (row : ViewRow one_draw v u) (event : IsEvent (Load (first_of (of_class v.caches class))) u found x) where
   abbrev at : ℕ
   at = first_of (of_class v.caches class)
 
@@ -110,8 +111,8 @@ module _ (v u x : View) (has : HasSoundState v) (class found : ℕ) (can : CanLi
   pub x_can : CanLift x class
   x_can = lift_still v has class can x x_parts x_words
 
-  pub x_row : Row 1 0 0 0 0 v x
-  x_row = row_then v u x row (load_row at u x found event)
+  pub x_row : ViewRow one_draw v x
+  x_row = view_row_then v u x row (load_row at u x found event)
 
   -- the word leads to the next block
   pub x_link : 1 ≤ length (rest_of (of_class v.caches class)) → Shows x (data_cell at) (first_of (rest_of (of_class v.caches class)))
@@ -145,32 +146,6 @@ module _ (v u x : View) (has : HasSoundState v) (class found : ℕ) (can : CanLi
       link = λ some. subst (λ y. Shows y (data_cell at) (first_of (rest_of (of_class v.caches class)))) (sym (w_is going))
           ((early_words x early settles at (still_owns v x x_parts at (first_own v has class can))).volatile (first_of (rest_of (of_class v.caches class))) (x_link some));
     }
-
-    row_w : w.stopped ≡ None → Row 1 0 0 0 0 x w
-    row_w going = subst (Row 1 0 0 0 0 x) (sym (w_is going)) (record {
-      setup = refl;
-      small = refl;
-      large = refl;
-      roots = refl;
-      words = λ k held. let p = early_words x early settles k (owns_held x k held) in record { volatile = p.volatile; durable = p.durable };
-      floor = omega arith;
-      next = let m = early_later x early settles (Some (Lift class)) w ticket shift in omega arith;
-      drew = omega arith;
-      most = omega arith;
-      won = omega arith;
-      gave = omega arith;
-      lost = omega arith;
-      moved = omega arith;
-      cuts = refl;
-      taken = refl;
-      looks = record { used = inl refl; heads = λ list. inl refl; no_less = omega arith };
-    })
-
-    pub lift_row : Row 2 0 0 0 0 v w
-    lift_row = by_stop w.stopped refl where
-      by_stop : (o : Option ℕ) → w.stopped ≡ o → Row 2 0 0 0 0 v w
-      by_stop None going = row_then v x w x_row (row_w going)
-      by_stop (Some step) stop = row_then v x w x_row (row_of_stop x early settles (Some (Lift class)) w ticket shift step x_going stop)
 
     pub lift_told : (result : Result ⊤ Stopped) → TellsDraw w result → OnOk result (HasLifted class at v w)
     lift_told (Ok y) going = lifted going
@@ -211,10 +186,7 @@ lifts_begin v class is some none = let empty = ap (λ (x : Batch). length x.bloc
   linked = λ more. absurd (omega arith);
 }
 
-row_draws : {a b c d e : ℕ} (a' : ℕ) (v w : View) → a ≡ a' → Row a b c d e v w → Row a' b c d e v w
-row_draws {a} {b} {c} {d} {e} a' v w same row = subst (λ n. Row n b c d e v w) same row
-
-pub lifting_one : (v w : View) (class first : ℕ) → 1 ≤ length (of_class v.caches class) → v.batch ≡ no_batch → first ≡ first_of (of_class v.caches class) → HasLifted class first v w → Row 2 0 0 0 0 v w
+pub lifting_one : (v w : View) (class first : ℕ) → 1 ≤ length (of_class v.caches class) → v.batch ≡ no_batch → first ≡ first_of (of_class v.caches class) → HasLifted class first v w → ViewRow (record no_costs { draws = 2 }) v w
     → IsLifting class (superblock_at v.setup.capacity first) first v w
 lifting_one v w class first some none is lifted row = record {
   ran = lifted.ran;
@@ -260,7 +232,7 @@ module _ (v : View) (has : HasSoundState v) (class : ℕ) (is : IsClass class) w
     }
 
     module _ (w : View) (next : ℕ) (some : 1 ≤ length (of_class t.caches class)) (next_is : next ≡ first_of (of_class t.caches class)) (at : superblock_at v.setup.capacity (first_of (of_class t.caches class)) ≡ d)
-        (lifted : HasLifted class next t w) (row : Row 2 0 0 0 0 t w) where
+        (lifted : HasLifted class next t w) (row : ViewRow (record no_costs { draws = 2 }) t w) where
       rest_is : lifting.rest ≡ next ∷ rest_of lifting.rest
       rest_is = by_first lifting.rest (subst (λ bs. 1 ≤ length bs) lifting_cache some) ∙ ap (λ b. b ∷ rest_of lifting.rest) (ap first_of (sym lifting_cache) ∙ sym next_is)
 
@@ -286,16 +258,16 @@ module _ (v : View) (has : HasSoundState v) (class : ℕ) (is : IsClass class) w
         some = omega (arith, many);
         last_is = last_added lifting.lifted next;
         link = subst (λ bs. 1 ≤ length (rest_of bs) → Shows w (data_cell next) (first_of (rest_of bs))) lifting_cache lifted.link;
-        row = row_draws (2 * length (lifting.lifted ++ next ∷ [])) v w (omega (arith, many)) (row_then v t w lifting.row row);
+        row = let m = many in view_row_within (lift_costs (length (lifting.lifted ++ next ∷ []))) v w (record { draws = omega arith; wins = omega arith; gives = omega arith; cuts = omega arith; taken = omega arith; moves = omega arith }) (view_row_then v t w lifting.row row);
       }
 
-    pub lifting_most : (w : View) → 1 ≤ length (of_class t.caches class) → Row 2 0 0 0 0 t w → Row (2 * length (of_class v.caches class)) 0 0 0 0 v w
-    lifting_most w some row = row_most (2 * length (of_class v.caches class)) 0 0 v w (row_then v t w lifting.row row)
-        (let all = ap length lifting.both in let sum = length-append lifting.lifted lifting.rest in let r = ap length lifting_cache in omega arith) (omega arith) (omega arith)
+    pub lifting_most : (w : View) → 1 ≤ length (of_class t.caches class) → ViewRow (record no_costs { draws = 2 }) t w → ViewRow (lift_costs (length (of_class v.caches class))) v w
+    lifting_most w some row = let all = ap length lifting.both in let sum = length-append lifting.lifted lifting.rest in let r = ap length lifting_cache in
+        view_row_within (lift_costs (length (of_class v.caches class))) v w (record { draws = omega arith; wins = omega arith; gives = omega arith; cuts = omega arith; taken = omega arith; moves = omega arith }) (view_row_then v t w lifting.row row)
 
-    pub lifting_row : Row (2 * length (of_class v.caches class)) 0 0 0 0 v t
-    lifting_row = row_most (2 * length (of_class v.caches class)) 0 0 v t lifting.row
-        (let all = ap length lifting.both in let sum = length-append lifting.lifted lifting.rest in omega arith) (omega arith) (omega arith)
+    pub lifting_row : ViewRow (lift_costs (length (of_class v.caches class))) v t
+    lifting_row = let all = ap length lifting.both in let sum = length-append lifting.lifted lifting.rest in
+        view_row_within (lift_costs (length (of_class v.caches class))) v t (record { draws = omega arith; wins = omega arith; gives = omega arith; cuts = omega arith; taken = omega arith; moves = omega arith }) lifting.row
 
     pub lifted_all : length (of_class t.caches class) ≡ 0 → HasLiftedPrefix class d last v t
     lifted_all none = record { lifting = lifting; longest = λ more. absurd (let r = ap length lifting_cache in omega arith) }

@@ -3,7 +3,8 @@ use Rattle.std.specs.Prelude.{◌≡◌, ◌<◌, ◌≤◌, ◌*◌, ℕ, List,
 use Rattle.heap_model.specs.Sizes.{IsClass}
 use Rattle.core_model.specs.Effects.{claim_class, without_claim}
 use Rattle.core_model.specs.View.{View, of_class, times_classed}
-use Rattle.steps.specs.Rows.{Parts, Row, parts}
+use Rattle.seat_rows.specs.Costs.{Costs, no_costs}
+use Rattle.seat_rows.specs.Rows.{Parts, ViewRow, parts}
 
 -- a superblock that is claimed with the class
 pub record IsClaimOf (class d : ℕ) (v : View) : Type 0 where
@@ -20,7 +21,11 @@ pub record HasListed (d : ℕ) (v w : View) : Type 0 where
 abbrev pub with_cache : ℕ → List ℕ → Parts → Parts
 with_cache class blocks p = record p { caches = set p.caches class blocks }
 
--- the first blocks of the cache are with their superblock again: at most 9 draws for each, 2 exchanges that are won, and a give
+-- of so many blocks: for each 9 draws, 2 exchanges that are won, a give, and a superblock that may be moved
+abbrev pub flush_costs : ℕ → Costs
+flush_costs n = record no_costs { draws = 9 * n; wins = 2 * n; gives = n; moves = n }
+
+-- the first blocks of the cache are with their superblock again
 pub record HasFlushedPrefix (class : ℕ) (v w : View) : Type 0 where
   pub ran : v.stopped ≡ None
   pub going : w.stopped ≡ None
@@ -31,7 +36,7 @@ pub record HasFlushedPrefix (class : ℕ) (v w : View) : Type 0 where
   pub both : of_class v.caches class ≡ flushed ++ rest
   pub some : 1 ≤ length flushed
   pub parts_are : parts w ≡ with_cache class rest (parts v)
-  pub row : Row (9 * length flushed) 0 (2 * length flushed) 0 (length flushed) v w
+  pub row : ViewRow (flush_costs (length flushed)) v w
 
 -- all are
 pub record HasFlushed (class : ℕ) (v w : View) : Type 0 where

@@ -6,7 +6,8 @@ use Rattle.core_model.specs.Effects.{last_of, seen_word}
 use Rattle.core_model.specs.View.{Snapshot, View, no_batch}
 use Rattle.heap_rule.specs.Shown.{Shows}
 use Rattle.seat_lists.specs.Pops.{with_claim}
-use Rattle.steps.specs.Rows.{Parts, Row, parts}
+use Rattle.seat_rows.specs.Costs.{one_loss}
+use Rattle.seat_rows.specs.Rows.{Parts, ViewRow, parts}
 
 -- a batch of superblock d, of the class, with this last block
 pub record IsBatchOf (d class last : ℕ) (v : View) : Type 0 where
@@ -58,7 +59,7 @@ pub record HasNotGiven (draws : ℕ) (v w : View) : Type 0 where
   pub more : v.draws < w.draws
   pub linked : Bool
   pub parts_are : parts w ≡ with_linked linked (parts v)
-  pub row : Row draws 4 0 0 0 v w
+  pub row : ViewRow (record one_loss { draws = draws }) v w
 
 abbrev pub GivesSeen : ℕ → Bool → View → View → Type 0
 GivesSeen d true v w = HasGiven d v.batch.class (nat_eq (seen_word v.seen_anchor) full_anchor) v w

@@ -4,7 +4,8 @@ use Rattle.core_model.specs.Cells.{data_cell, superblock_at}
 use Rattle.core_model.specs.Effects.{first_of, last_of, rest_of}
 use Rattle.core_model.specs.View.{View, of_class}
 use Rattle.heap_rule.specs.Shown.{Shows}
-use Rattle.steps.specs.Rows.{Parts, Row, parts}
+use Rattle.seat_rows.specs.Costs.{Costs, no_costs}
+use Rattle.seat_rows.specs.Rows.{Parts, ViewRow, parts}
 
 -- the block is behind the batch, and not in the cache
 abbrev pub with_lifted : ℕ → ℕ → Parts → Parts
@@ -28,6 +29,10 @@ with_batch class d lifted rest p = record p {
   batch = record { descriptor = d; class = class; blocks = lifted; linked = true };
 }
 
+-- of so many blocks: for each a load and a draw with the change
+abbrev pub lift_costs : ℕ → Costs
+lift_costs n = record no_costs { draws = 2 * n }
+
 -- the first blocks of the cache, which lie in superblock d, are the batch, and the last of them leads to the next one
 pub record IsLifting (class d last : ℕ) (v w : View) : Type 0 where
   pub ran : v.stopped ≡ None
@@ -41,7 +46,7 @@ pub record IsLifting (class d last : ℕ) (v w : View) : Type 0 where
   pub some : 1 ≤ length lifted
   pub last_is : last_of lifted ≡ last
   pub link : 1 ≤ length rest → Shows w (data_cell last) (first_of rest)
-  pub row : Row (2 * length lifted) 0 0 0 0 v w
+  pub row : ViewRow (lift_costs (length lifted)) v w
 
 -- and the next block, if there is one, lies in another
 pub record HasLiftedPrefix (class d last : ℕ) (v w : View) : Type 0 where

@@ -4,8 +4,9 @@ ghost use Rattle.heap_rule.specs.Seated.{IsSeatOf};
 ghost use Rattle.std.specs.Prelude.{◌≡◌, ◌≢◌, ◌<◌, ◌≤◌, ◌*◌, None, length, OnOk, IfErr};
 ghost use Rattle.core_model.specs.View.{no_batch, of_class};
 ghost use Rattle.heap_model.specs.Words.{anchor_state, partial_state};
-ghost use Rattle.steps.specs.Rows.{Row, Stops};
-ghost use Rattle.seat_flush.specs.Flushes.{HasFlushed, HasFlushedPrefix, HasListed, IsClaimOf};
+ghost use Rattle.seat_rows.specs.Costs.{one_push};
+ghost use Rattle.seat_rows.specs.Rows.{Row, Stops};
+ghost use Rattle.seat_flush.specs.Flushes.{HasFlushed, HasFlushedPrefix, HasListed, IsClaimOf, flush_costs};
 
 use crate::gives::{give, look_anchor};
 use crate::lifts::lift_prefix;
@@ -40,7 +41,7 @@ fn list<C: Chance>(
     requires durable { d < seat.old.view.floor }
     ensures listed { OnOk result (HasListed d seat.old.view seat.new.view) }
     ensures stopped { IfErr result (λ e. Stops e.step seat.old.view seat.new.view) }
-    ensures row { Row 4 0 1 0 0 seat.old.view seat.new.view }
+    ensures row { Row (record one_push { draws = 4 }) seat.old seat.new }
     ensures seat { IsSeatOf shared.now seat.new }
 {
     seat.has_a_sound_state();
@@ -65,10 +66,8 @@ fn flush_prefix<C: Chance>(
     ensures flushed { OnOk result (HasFlushedPrefix class.number
         seat.old.view seat.new.view) }
     ensures stopped { IfErr result (λ e. Stops e.step seat.old.view seat.new.view) }
-    ensures row { Row (9 * length (of_class seat.old.view.caches class.number)) 0
-        (2 * length (of_class seat.old.view.caches class.number)) 0
-        (length (of_class seat.old.view.caches class.number))
-        seat.old.view seat.new.view }
+    ensures row { Row (flush_costs (length (of_class seat.old.view.caches class.number)))
+        seat.old seat.new }
     ensures seat { IsSeatOf shared.now seat.new }
 {
     seat.has_a_sound_state();
@@ -91,10 +90,8 @@ pub fn flush<C: Chance>(
     requires no_batch { seat.old.view.batch ≡ no_batch }
     ensures flushed { OnOk result (HasFlushed class.number seat.old.view seat.new.view) }
     ensures stopped { IfErr result (λ e. Stops e.step seat.old.view seat.new.view) }
-    ensures row { Row (9 * length (of_class seat.old.view.caches class.number)) 0
-        (2 * length (of_class seat.old.view.caches class.number)) 0
-        (length (of_class seat.old.view.caches class.number))
-        seat.old.view seat.new.view }
+    ensures row { Row (flush_costs (length (of_class seat.old.view.caches class.number)))
+        seat.old seat.new }
     ensures seat { IsSeatOf shared.now seat.new }
 {
     seat.has_a_sound_state();

@@ -6,14 +6,15 @@ ghost use Rattle.core_model.specs.Guards.{MayLookAt};
 ghost use Rattle.core_model.specs.View.{times_classed};
 ghost use Rattle.heap_model.specs.Words.{anchor_state};
 ghost use Rattle.heap_rule.specs.Shown.{CanGive};
-ghost use Rattle.steps.specs.Rows.{Row, Stops};
+ghost use Rattle.seat_rows.specs.Costs.{one_draw, one_give};
+ghost use Rattle.seat_rows.specs.Rows.{Row, Stops};
 ghost use Rattle.seat_flush.specs.Gives.{Gives, GivesSeen, HasGiven, HasLinkedLast, HasSeenAnchor, IsBatchOf, anchor_seen};
 
 use crash_core::{anchor_after_take_all, first_free};
 use heap_rule::{Seat, Shared};
 use line_memory::{Chance, Stopped};
+use seat_rows::draw;
 use size_table::SizeClass;
-use steps::draw;
 use super_block::Geometry;
 
 /// Reads the anchor of a claimed superblock, or of the batch's, which it answers.
@@ -30,7 +31,7 @@ pub fn look_anchor<C: Chance>(
     ensures of_class { IfOk result (λ anchor. 0 < times_classed d seat.old.view.classed
         → anchor_state anchor < 2) }
     ensures stopped { IfErr result (λ e. Stops e.step seat.old.view seat.new.view) }
-    ensures row { Row 1 0 0 0 0 seat.old.view seat.new.view }
+    ensures row { Row one_draw seat.old seat.new }
     ensures seat { IsSeatOf shared.now seat.new }
 {
     draw(seat, shared, chance)?;
@@ -51,7 +52,7 @@ fn link_last<C: Chance>(
     requires batch { IsBatchOf d class.number last seat.old.view }
     ensures linked { OnOk result (HasLinkedLast last first seat.old.view seat.new.view) }
     ensures stopped { IfErr result (λ e. Stops e.step seat.old.view seat.new.view) }
-    ensures row { Row 1 0 0 0 0 seat.old.view seat.new.view }
+    ensures row { Row one_draw seat.old seat.new }
     ensures seat { IsSeatOf shared.now seat.new }
 {
     let _batch = (d, class);
@@ -72,7 +73,7 @@ fn give_seen<C: Chance>(
     requires can { CanGive seat.old.view d }
     ensures done { IfOk result (λ won. GivesSeen d won seat.old.view seat.new.view) }
     ensures stopped { IfErr result (λ e. Stops e.step seat.old.view seat.new.view) }
-    ensures row { Row 1 0 1 0 1 seat.old.view seat.new.view }
+    ensures row { Row (record one_give { draws = 1 }) seat.old seat.new }
     ensures seat { IsSeatOf shared.now seat.new }
 {
     seat.has_a_sound_state();
@@ -97,7 +98,7 @@ fn give_looked<C: Chance>(
     ensures given { IfOk result (λ answer. Gives d class.number 2 answer
         seat.old.view seat.new.view) }
     ensures stopped { IfErr result (λ e. Stops e.step seat.old.view seat.new.view) }
-    ensures row { Row 2 0 1 0 1 seat.old.view seat.new.view }
+    ensures row { Row (record one_give { draws = 2 }) seat.old seat.new }
     ensures seat { IsSeatOf shared.now seat.new }
 {
     seat.has_a_sound_state();
@@ -130,7 +131,7 @@ fn try_give<C: Chance>(
     ensures given { IfOk result (λ answer. Gives d class.number 3 answer
         seat.old.view seat.new.view) }
     ensures stopped { IfErr result (λ e. Stops e.step seat.old.view seat.new.view) }
-    ensures row { Row 3 0 1 0 1 seat.old.view seat.new.view }
+    ensures row { Row (record one_give { draws = 3 }) seat.old seat.new }
     ensures seat { IsSeatOf shared.now seat.new }
 {
     let anchor = look_anchor(seat, shared, d, chance)?;
@@ -152,7 +153,7 @@ pub fn give<C: Chance>(
     ensures given { IfOk result (λ full. HasGiven d class.number full
         seat.old.view seat.new.view) }
     ensures stopped { IfErr result (λ e. Stops e.step seat.old.view seat.new.view) }
-    ensures row { Row 3 0 1 0 1 seat.old.view seat.new.view }
+    ensures row { Row (record one_give { draws = 3 }) seat.old seat.new }
     ensures seat { IsSeatOf shared.now seat.new }
 {
     loop {

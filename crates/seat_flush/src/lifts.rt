@@ -5,16 +5,17 @@ ghost use Rattle.std.specs.Prelude.{◌≡◌, ◌≤◌, ◌*◌, [], None, len
 ghost use Rattle.core_model.specs.Effects.{first_of};
 ghost use Rattle.core_model.specs.View.{of_class};
 ghost use Rattle.heap_rule.specs.Shown.{CanLift};
-ghost use Rattle.steps.specs.Rows.{Row, Stops};
-ghost use Rattle.seat_flush.specs.Lifts.{HasLifted, HasLiftedPrefix};
+ghost use Rattle.seat_rows.specs.Costs.{no_costs};
+ghost use Rattle.seat_rows.specs.Rows.{Row, Stops};
+ghost use Rattle.seat_flush.specs.Lifts.{HasLifted, HasLiftedPrefix, lift_costs};
 ghost use Rattle.heap_model.specs.Sizes.{IsClass};
 ghost use Rattle.core_model.specs.View.{no_batch};
 
 use core_model::Shift;
 use heap_rule::{Seat, Shared};
 use line_memory::{Chance, Stopped};
+use seat_rows::{draw, draw_with};
 use size_table::SizeClass;
-use steps::{draw, draw_with};
 use super_block::{Geometry, SUPERBLOCK_WORDS};
 
 /// The first blocks of a cache that lie in one superblock, as a batch.
@@ -41,7 +42,7 @@ pub fn lift<C: Chance>(
     ensures lifted { OnOk result (HasLifted class.number first
         seat.old.view seat.new.view) }
     ensures stopped { IfErr result (λ e. Stops e.step seat.old.view seat.new.view) }
-    ensures row { Row 2 0 0 0 0 seat.old.view seat.new.view }
+    ensures row { Row (record no_costs { draws = 2 }) seat.old seat.new }
     ensures seat { IsSeatOf shared.now seat.new }
 {
     seat.has_a_sound_state();
@@ -67,8 +68,8 @@ pub fn lift_prefix<C: Chance>(
     ensures lifted { IfOk result (λ prefix. HasLiftedPrefix class.number prefix.d prefix.last
         seat.old.view seat.new.view) }
     ensures stopped { IfErr result (λ e. Stops e.step seat.old.view seat.new.view) }
-    ensures row { Row (2 * length (of_class seat.old.view.caches class.number)) 0 0 0 0
-        seat.old.view seat.new.view }
+    ensures row { Row (lift_costs (length (of_class seat.old.view.caches class.number)))
+        seat.old seat.new }
     ensures seat { IsSeatOf shared.now seat.new }
 {
     seat.has_a_sound_state();

@@ -21,10 +21,11 @@ use Rattle.heap_rule.proofs.LeftLemmas.{pop_won, pop_lost}
 use Rattle.seat_lists.specs.declared.pops.Pop.{Pop as PopAnswer}
 use Rattle.seat_lists.specs.declared.pops.Pop.TheVariants.{Got, Empty}
 use Rattle.seat_lists.specs.Pops.{Exchanges, GoesOn, HasLost, HasPopped, Pops, SeesFirst, SeesHead, SeesLink, list_head, with_claim}
-use Rattle.steps.specs.Rows.{HasDrawn, IsMade, Parts, Row, Stops, head_look, next_of, parts}
-use Rattle.steps.proofs.EventLemmas.{pop_lost_row}
-use Rattle.steps.proofs.WordLemmas.{word_then}
-use Rattle.steps.proofs.RowLemmas.{not_both, row_then, row_most, row_none, stops_later}
+use Rattle.seat_rows.specs.Costs.{no_costs, one_draw, one_win}
+use Rattle.seat_rows.specs.Rows.{HasDrawn, Parts, Stops, ViewRow, parts}
+use Rattle.seat_rows.proofs.EventLemmas.{pop_lost_row}
+use Rattle.seat_rows.proofs.WordLemmas.{word_then}
+use Rattle.seat_rows.proofs.RowLemmas.{not_both, stops_later, view_row_none, view_row_then, view_row_within}
 
 -- the parts as the core's lemmas name them
 abbrev as_core : Parts → CoreParts
@@ -64,7 +65,7 @@ pop_wins v u w list d found drawn sees event same = won_parts list d v w drawn.t
     ∙ ap (λ n. popped (drawn_as v drawn.ticket u) n) (ap (λ (s : Option Snapshot). before (head_first (seen_word s))) sees.is_seen ∙ ap before (sees.first ∙ add-one d))
     ∙ ap (λ (s : Option Snapshot). claimed (record (won (drawn_as v drawn.ticket u)) { seen_head = None; seen_link = None; seen_anchor = cleared d 1 v.seen_anchor }) d (seen_of s)) sees.is_seen)
 
-pub pop_loses : (v u w : View) (found : ℕ) → HasDrawn v u → Row 1 0 0 0 0 v u → IsEvent Pop u found w → found ≢ seen_word u.seen_head → HasLost 1 v w
+pub pop_loses : (v u w : View) (found : ℕ) → HasDrawn v u → ViewRow one_draw v u → IsEvent Pop u found w → found ≢ seen_word u.seen_head → HasLost 1 v w
 pop_loses v u w found drawn row event other = record {
   ran = drawn.went;
   going = ap (λ (x : View). x.stopped) left ∙ drawn.went;
@@ -73,13 +74,13 @@ pop_loses v u w found drawn row event other = record {
   parts_are = ap parts left;
   wins = ap (λ (x : View). x.wins) left;
   losses = ap (λ (x : View). x.losses) left;
-  row = row_then v u w row (pop_lost_row u w found event other);
+  row = view_row_then v u w row (pop_lost_row u w found event other);
   unseen = ap (λ (x : View). x.seen_head) left;
 } where
   left : w ≡ record (lost (drawn_as v drawn.ticket u) found) { seen_head = None }
   left = pop_lost u w found event other ∙ ap (λ (x : View). record (lost x found) { seen_head = None }) drawn.left
 
-pub exchanged : (v u w : View) (list d found : ℕ) (won : Bool) (result : Result ⊤ ℕ) → HasDrawn v u → Row 1 0 0 0 0 v u → SeesFirst list d v → IsEvent Pop u found w → Tells (seen_word u.seen_head) found result
+pub exchanged : (v u w : View) (list d found : ℕ) (won : Bool) (result : Result ⊤ ℕ) → HasDrawn v u → ViewRow one_draw v u → SeesFirst list d v → IsEvent Pop u found w → Tells (seen_word u.seen_head) found result
     → won ≡ is_ok result → Exchanges list d won v w
 exchanged v u w list d found won (Ok x) drawn row sees event told is = subst (λ b. Exchanges list d b v w) (sym is) (pop_wins v u w list d found drawn sees event told)
 exchanged v u w list d found won (Err x) drawn row sees event told is = subst (λ b. Exchanges list d b v w) (sym is) (pop_loses v u w found drawn row event told.1)
@@ -91,12 +92,12 @@ claims_alike list d p q same = ap (with_claim list d) same
 pub popped_later : (v t w : View) (list d : ℕ) → parts t ≡ parts v → HasPopped list d t w → HasPopped list d v w
 popped_later v t w list d same popped = record { going = popped.going; parts_are = popped.parts_are ∙ ap (with_claim list d) same; durable = popped.durable }
 
-pub lost_later : {n m : ℕ} (v t w : View) → GoesOn v t → Row n 0 0 0 0 v t → HasLost m t w → HasLost (n + m) v w
-lost_later v t w p row lost = record { ran = p.ran; going = lost.going; room = p.room; more = let x = p.more in let y = lost.more in omega arith; parts_are = lost.parts_are ∙ p.parts_are; wins = lost.wins ∙ p.wins; losses = lost.losses ∙ ap (λ n. n + 1) p.losses; row = row_then v t w row lost.row; unseen = lost.unseen }
+pub lost_later : {n m : ℕ} (v t w : View) → GoesOn v t → ViewRow (record no_costs { draws = n }) v t → HasLost m t w → HasLost (n + m) v w
+lost_later v t w p row lost = record { ran = p.ran; going = lost.going; room = p.room; more = let x = p.more in let y = lost.more in omega arith; parts_are = lost.parts_are ∙ p.parts_are; wins = lost.wins ∙ p.wins; losses = lost.losses ∙ ap (λ n. n + 1) p.losses; row = view_row_then v t w row lost.row; unseen = lost.unseen }
 
 -- how far the tries have come
 pub record Trying (v t : View) : Type 0 where
-  pub row : Row 0 0 0 0 0 v t
+  pub row : ViewRow no_costs v t
   pub parts_are : parts t ≡ parts v
   pub wins : t.wins ≡ v.wins
   pub both : (ran : t.stopped ≡ None) → v.stopped ≡ None
@@ -104,11 +105,11 @@ pub record Trying (v t : View) : Type 0 where
   pub fresh : (t ≡ v) ⊎ (t.stopped ≡ None)
 
 pub tries_begin : (v : View) → Trying v v
-tries_begin v = record { row = row_none v; parts_are = refl; wins = refl; both = λ ran. ran; idle = λ step stop. refl; fresh = inl refl }
+tries_begin v = record { row = view_row_none v; parts_are = refl; wins = refl; both = λ ran. ran; idle = λ step stop. refl; fresh = inl refl }
 
 pub tries_on : (v t w : View) → Trying v t → HasLost 3 t w → Trying v w
 tries_on v t w trying lost = record {
-  row = row_most 0 0 0 v w (row_then v t w trying.row lost.row) (omega arith) (omega arith) (omega arith);
+  row = view_row_within no_costs v w (record { draws = omega arith; wins = omega arith; gives = omega arith; cuts = omega arith; taken = omega arith; moves = omega arith }) (view_row_then v t w trying.row lost.row);
   parts_are = lost.parts_are ∙ trying.parts_are;
   wins = lost.wins ∙ trying.wins;
   both = λ ran. trying.both lost.ran;
@@ -124,10 +125,10 @@ tries_stop v t w step trying stop = elim trying.fresh [
 
 pub tries_done : (v t w : View) (list : ℕ) (pop : PopAnswer) → Trying v t → Pops list pop t w → Pops list pop v w
 tries_done v t w list (Got d) trying popped = popped_later v t w list d trying.parts_are popped
-tries_done v t w list (Empty head) trying empty = record { going = empty.going; parts_are = empty.parts_are ∙ trying.parts_are; wins = empty.wins ∙ trying.wins; is_seen = empty.is_seen; none = empty.none; look = empty.look; later = let x = trying.row.next in let y = empty.later in omega arith }
+tries_done v t w list (Empty head) trying empty = record { going = empty.going; parts_are = empty.parts_are ∙ trying.parts_are; wins = empty.wins ∙ trying.wins; is_seen = empty.is_seen; none = empty.none; look = empty.look; later = let x = trying.row.passes.next in let y = empty.later in omega arith }
 
-pub tries_row : (v t w : View) → Trying v t → Row 3 0 1 0 0 t w → Row 4 0 1 0 0 v w
-tries_row v t w trying row = row_most 4 1 0 v w (row_then v t w trying.row row) (omega arith) (omega arith) (omega arith)
+pub tries_row : (v t w : View) → Trying v t → ViewRow (record one_win { draws = 3 }) t w → ViewRow (record one_win { draws = 3 }) v w
+tries_row v t w trying row = view_row_then v t w trying.row row
 
 -- the head is seen
 pub head_seen : (v u w : View) (list head : ℕ) → list < lists → HasDrawn v u → IsEvent (LookHead list) u head w → SeesHead list head v w
@@ -142,7 +143,7 @@ head_seen v u w list head less drawn event = subst (SeesHead list head v) (sym l
   left = event.after ∙ ap (λ (x : View). record (used_up x) { seen_head = list_head list head; seen_link = None; head_looks = set x.head_looks list (look x head) }) drawn.left
 
 pub tries_less : (t w : View) → HasLost 3 t w → w.setup.budget - w.draws < t.setup.budget - t.draws
-tries_less t w lost = let same = ap (λ (k : Setup). k.budget) lost.row.setup in let room = lost.room in let more = lost.more in omega arith
+tries_less t w lost = let same = ap (λ (k : Setup). k.budget) lost.row.passes.setup in let room = lost.room in let more = lost.more in omega arith
 
 pub link_seen : (v u w : View) (link : ℕ) → HasDrawn v u → IsEvent LookLink u link w → SeesLink v w
 link_seen v u w link drawn event = subst (SeesLink v) (sym left) (record {
@@ -152,37 +153,3 @@ link_seen v u w link drawn event = subst (SeesLink v) (sym left) (record {
 }) where
   left : w ≡ record (drawn_as v drawn.ticket u) { ticket = None; seen_link = Some link }
   left = event.after ∙ ap (λ (x : View). record (used_up x) { seen_link = Some link }) drawn.left
-
--- the look is made in the row of the draw and the look
-pub head_row : (v u w : View) (list head : ℕ) → list < lists → HasDrawn v u → Row 1 0 0 0 0 v u → IsEvent (LookHead list) u head w → Row 1 0 0 0 0 v w
-head_row v u w list head less drawn row event = subst (Row 1 0 0 0 0 v) (sym event.after) (record {
-  setup = row.setup;
-  small = row.small;
-  large = row.large;
-  roots = row.roots;
-  words = λ k held. let p = row.words k held in record { volatile = p.volatile; durable = p.durable };
-  floor = row.floor;
-  next = row.next;
-  drew = row.drew;
-  most = row.most;
-  won = row.won;
-  gave = row.gave;
-  lost = row.lost;
-  moved = row.moved;
-  cuts = row.cuts;
-  taken = row.taken;
-  looks = record { used = row.looks.used; heads = heads; no_less = row.looks.no_less };
-}) where
-  heads : (k : ℕ) → (get_or (set u.head_looks list (look u head)) k u.used_look ≡ head_look v k) ⊎ IsMade (next_of v) (next_of u) u.taken (get_or (set u.head_looks list (look u head)) k u.used_look)
-  heads k = elim (cases_eq k list) as (λ _. (get_or (set u.head_looks list (look u head)) k u.used_look ≡ head_look v k) ⊎ IsMade (next_of v) (next_of u) u.taken (get_or (set u.head_looks list (look u head)) k u.used_look)) [
-    | inl same ↦ inr (subst (IsMade (next_of v) (next_of u) u.taken) (sym (ap (λ n. get_or (set u.head_looks list (look u head)) n u.used_look) same ∙ get_or-set_same u.head_looks list (look u head) u.used_look
-        (let long = (event.before.sound.good.set_up event.before.seat u event.before.below event.before.at).looks in omega arith)))
-        (record {
-          ticket = drawn.ticket;
-          by = ap (λ (x : View). x.ticket) drawn.left;
-          since = drawn.later;
-          below = let n = ap next_of drawn.left in omega arith;
-          taken_is = refl;
-        }))
-    | inr other ↦ subst (λ (l : LastLook). (l ≡ head_look v k) ⊎ IsMade (next_of v) (next_of u) u.taken l) (sym (get_or-set_other u.head_looks list k (look u head) u.used_look other)) (row.looks.heads k)
-  ]

@@ -25,11 +25,13 @@ use Rattle.heap_rule.proofs.RawLemmas.{store_shown}
 use Rattle.seat_lists.specs.Pops.{SeesHead}
 use Rattle.seat_lists.specs.Pushes.{HasMissed, HasPushed, HasSetLink, Pushes, SeesLinked, without_claim_of}
 use Rattle.seat_lists.proofs.PopLemmas.{drawn_as, still_owns}
-use Rattle.steps.specs.Rows.{HasDrawn, Parts, Row, Stops, parts}
-use Rattle.steps.specs.Words.{KeepsWord}
-use Rattle.steps.proofs.EventLemmas.{move_row, push_lost_row, push_row, store_link_row}
-use Rattle.steps.proofs.RowLemmas.{row_most, row_none, row_then, stops_later}
-use Rattle.steps.proofs.WordLemmas.{stored_other, word_then}
+use Rattle.seat_rows.specs.Costs.{no_costs, one_draw, one_push}
+use Rattle.seat_rows.specs.Rows.{HasDrawn, Parts, Row, Stops, ViewRow, parts}
+use Rattle.seat_rows.specs.Words.{IsHeldWord, KeepsWord, times_held}
+use Rattle.seat_rows.proofs.EventLemmas.{move_row, push_lost_row, push_row}
+use Rattle.seat_rows.proofs.StoreLemmas.{row_of_store, store_row}
+use Rattle.seat_rows.proofs.RowLemmas.{row_of, row_then, stops_later, view_row_none, view_row_then, view_row_within}
+use Rattle.seat_rows.proofs.WordLemmas.{stored_other, word_then}
 
 -- a superblock that may be listed is claimed, and its blocks are not being made
 pub freely : (v : View) → HasSoundState v → (d list : ℕ) → CanList v d list → IsFreelyClaimed v d
@@ -70,8 +72,8 @@ module _ (v : View) (has : HasSoundState v) (d : ℕ) (free : IsFreelyClaimed v 
     link_left : w ≡ record (used_up u) { volatile = learn u.volatile (link_word d) first }
     link_left = event.after ∙ ap (λ (cell : Cell). stored (record (used_up u) { volatile = learn u.volatile (link_word d) first }) cell first) link_here
 
-    pub link_row : Row 1 0 0 0 0 v u → Row 1 0 0 0 0 v w
-    link_row row = store_link_row d first v u w row link_left link_is
+    pub link_not_held : IsHeldWord u (link_word d) → ⊥
+    link_not_held held = let e = ap (times_held u) link_here in omega arith
 
     left_here : w ≡ linked_view drawn.ticket first u
     left_here = link_left ∙ ap (λ (x : View). record (used_up x) { volatile = learn u.volatile (link_word d) first }) drawn.left
@@ -147,7 +149,7 @@ module _ (v : View) (has : HasSoundState v) (d : ℕ) where
   pub can_push : (u : View) (list : ℕ) → HasDrawn v u → d < v.floor → SeesLinked list d v → CanList v d list → Can u (Push d)
   can_push u list drawn durable sees can = subst (λ (x : View). Can x (Push d)) (sym drawn.left) (drawn_pushes drawn.ticket list u drawn.went drawn.words durable sees can)
 
-  module _ (u w : View) (list found : ℕ) (drawn : HasDrawn v u) (row : Row 1 0 0 0 0 v u) (sees : SeesLinked list d v) (event : IsEvent (Push d) u found w) where
+  module _ (u w : View) (list found : ℕ) (drawn : HasDrawn v u) (row : ViewRow one_draw v u) (sees : SeesLinked list d v) (event : IsEvent (Push d) u found w) where
     pushed_parts : (test : Bool) (x : View) → x ≡ cond test (pushed_raw (drawn_as v drawn.ticket u) d) (pushed_classed (drawn_as v drawn.ticket u) d)
         → (x.stopped ≡ v.stopped) × (parts x ≡ cond test (record (parts v) { raw = without d v.raw; split = without d v.split }) (record (parts v) { classed = without_claim d v.classed }))
     pushed_parts true x is = (ap (λ (y : View). y.stopped) is, ap parts is)
@@ -157,10 +159,10 @@ module _ (v : View) (has : HasSoundState v) (d : ℕ) where
     push_wins same = record {
       going = shape.0 ∙ drawn.went;
       parts_are = shape.1;
-      row = row_then v u w row (push_row d u w found event);
-      moved = λ free none. row_then v u w row (move_row d u w found won_is
+      row = view_row_then v u w row (push_row d u w found event);
+      moved = λ free none. view_row_then v u w row (move_row d u w won_is
           (let e = ap (λ (x : View). times d x.raw + times d x.split) drawn.left in omega arith)
-          (ap (λ (x : View). seen_of x.seen_head) drawn.left ∙ ap seen_of sees.is_seen ∙ free) (push_row d u w found event));
+          (ap (λ (x : View). seen_of x.seen_head) drawn.left ∙ ap seen_of sees.is_seen ∙ free));
     } where
       won_is : w ≡ pushed u d
       won_is = push_won d u w found event same
@@ -175,7 +177,7 @@ module _ (v : View) (has : HasSoundState v) (d : ℕ) where
       room = drawn.room;
       more = let e = ap (λ (x : View). x.draws) left in omega arith;
       parts_are = ap parts left;
-      row = row_then v u w row (push_lost_row d u w found event other);
+      row = view_row_then v u w row (push_lost_row d u w found event other);
       can = can_still v w has d list (ap parts left) (ap (λ (x : View). x.seen_anchor) left)
           (λ k else own. subst (λ x. KeepsWord v x k) (sym left) (let p = drawn.words k own in record { volatile = p.volatile; durable = p.durable })) can;
     } where
@@ -187,12 +189,12 @@ module _ (v : View) (has : HasSoundState v) (d : ℕ) where
     exchanged has can won (Err x) told is = subst (λ b. Pushes list d 1 b v w) (sym is) (push_loses has can told.1)
 
 -- said of an earlier view
-pub pushes_later : {n : ℕ} (m : ℕ) (won : Bool) (v t w : View) (list d : ℕ) → v.stopped ≡ None → v.draws ≤ t.draws → t.setup ≡ v.setup → v.draws < v.setup.budget → parts t ≡ parts v → Row n 0 0 0 0 v t → Pushes list d m won t w → Pushes list d (n + m) won v w
+pub pushes_later : {n : ℕ} (m : ℕ) (won : Bool) (v t w : View) (list d : ℕ) → v.stopped ≡ None → v.draws ≤ t.draws → t.setup ≡ v.setup → v.draws < v.setup.budget → parts t ≡ parts v → ViewRow (record no_costs { draws = n }) v t → Pushes list d m won t w → Pushes list d (n + m) won v w
 pushes_later m true v t w list d ran more setup room same row has = record {
   going = has.going;
   parts_are = has.parts_are ∙ ap (without_claim_of d) same;
-  row = row_then v t w row has.row;
-  moved = λ free none. row_then v t w row (has.moved free (ap (λ (p : Parts). times d p.raw + times d p.split) same ∙ none));
+  row = view_row_then v t w row has.row;
+  moved = λ free none. view_row_then v t w row (has.moved free (ap (λ (p : Parts). times d p.raw + times d p.split) same ∙ none));
 }
 pushes_later m false v t w list d ran more setup room same row missed = record {
   ran = ran;
@@ -200,7 +202,7 @@ pushes_later m false v t w list d ran more setup room same row missed = record {
   room = room;
   more = let x = missed.more in omega arith;
   parts_are = missed.parts_are ∙ same;
-  row = row_then v t w row missed.row;
+  row = view_row_then v t w row missed.row;
   can = missed.can;
 }
 
@@ -210,7 +212,7 @@ ok_then (Err e) more is = tt
 
 -- how far the tries have come
 pub record Pushing (list d : ℕ) (v t : View) : Type 0 where
-  pub row : Row 0 0 0 0 0 v t
+  pub row : ViewRow no_costs v t
   pub parts_are : parts t ≡ parts v
   pub both : t.stopped ≡ None → v.stopped ≡ None
   pub fresh : (t ≡ v) ⊎ (t.stopped ≡ None)
@@ -218,20 +220,20 @@ pub record Pushing (list d : ℕ) (v t : View) : Type 0 where
   pub durable : d < t.floor
 
 pub pushing_begins : (v : View) (list d : ℕ) → CanList v d list → d < v.floor → Pushing list d v v
-pushing_begins v list d can durable = record { row = row_none v; parts_are = refl; both = λ ran. ran; fresh = inl refl; can = can; durable = durable }
+pushing_begins v list d can durable = record { row = view_row_none v; parts_are = refl; both = λ ran. ran; fresh = inl refl; can = can; durable = durable }
 
 pub pushing_on : (v t w : View) (list d : ℕ) → Pushing list d v t → HasMissed list d 3 t w → Pushing list d v w
 pushing_on v t w list d pushing missed = record {
-  row = row_most 0 0 0 v w (row_then v t w pushing.row missed.row) (omega arith) (omega arith) (omega arith);
+  row = view_row_within no_costs v w (record { draws = omega arith; wins = omega arith; gives = omega arith; cuts = omega arith; taken = omega arith; moves = omega arith }) (view_row_then v t w pushing.row missed.row);
   parts_are = missed.parts_are ∙ pushing.parts_are;
   both = λ ran. pushing.both missed.ran;
   fresh = inr missed.going;
   can = missed.can;
-  durable = let x = missed.row.floor in let y = pushing.durable in omega arith;
+  durable = let x = missed.row.passes.floor in let y = pushing.durable in omega arith;
 }
 
 pub pushing_less : (t w : View) (list d : ℕ) → HasMissed list d 3 t w → w.setup.budget - w.draws < t.setup.budget - t.draws
-pushing_less t w list d missed = let same = ap (λ (k : Setup). k.budget) missed.row.setup in let room = missed.room in let more = missed.more in omega arith
+pushing_less t w list d missed = let same = ap (λ (k : Setup). k.budget) missed.row.passes.setup in let room = missed.room in let more = missed.more in omega arith
 
 pub pushing_stops : (v t w : View) (step list d : ℕ) → Pushing list d v t → Stops step t w → Stops step v w
 pushing_stops v t w step list d pushing stop = elim pushing.fresh [
@@ -239,13 +241,13 @@ pushing_stops v t w step list d pushing stop = elim pushing.fresh [
   | inr going ↦ stops_later v t w step (pushing.both going) going pushing.row stop
 ]
 
-pub pushing_row : (v t w : View) (list d : ℕ) → Pushing list d v t → Row 3 0 1 0 0 t w → Row 3 0 1 0 0 v w
-pushing_row v t w list d pushing row = row_then v t w pushing.row row
+pub pushing_row : (v t w : View) (list d : ℕ) → Pushing list d v t → ViewRow (record one_push { draws = 3 }) t w → ViewRow (record one_push { draws = 3 }) v w
+pushing_row v t w list d pushing row = view_row_then v t w pushing.row row
 
 pub pushing_done : (v t w : View) (list d : ℕ) → Pushing list d v t → HasPushed list d 3 t w → HasPushed list d 3 v w
 pushing_done v t w list d pushing pushed = record {
   going = pushed.going;
   parts_are = pushed.parts_are ∙ ap (without_claim_of d) pushing.parts_are;
-  row = row_then v t w pushing.row pushed.row;
-  moved = λ free none. row_then v t w pushing.row (pushed.moved free (ap (λ (p : Parts). times d p.raw + times d p.split) pushing.parts_are ∙ none));
+  row = view_row_then v t w pushing.row pushed.row;
+  moved = λ free none. view_row_then v t w pushing.row (pushed.moved free (ap (λ (p : Parts). times d p.raw + times d p.split) pushing.parts_are ∙ none));
 }

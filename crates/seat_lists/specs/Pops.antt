@@ -6,8 +6,9 @@ use Rattle.core_model.specs.View.{LastLook, Snapshot, View}
 use Rattle.seat_lists.specs.declared.pops.Pop.{Pop}
 use Rattle.seat_lists.specs.declared.pops.Pop.TheVariants.{Got, Empty}
 use Rattle.heap_rule.specs.Fences.{Owns}
-use Rattle.steps.specs.Words.{KeepsWord}
-use Rattle.steps.specs.Rows.{Parts, Row, parts, next_of}
+use Rattle.seat_rows.specs.Words.{KeepsWord}
+use Rattle.seat_rows.specs.Costs.{one_loss}
+use Rattle.seat_rows.specs.Rows.{Parts, ViewRow, parts, next_of}
 
 abbrev pub list_head : ℕ → ℕ → Option Snapshot
 list_head list word = Some (record { of = list; word = word })
@@ -68,7 +69,7 @@ pub record HasLost (draws : ℕ) (v w : View) : Type 0 where
   pub parts_are : parts w ≡ parts v
   pub wins : w.wins ≡ v.wins
   pub losses : w.losses ≡ v.losses + 1
-  pub row : Row draws 4 0 0 0 v w
+  pub row : ViewRow (record one_loss { draws = draws }) v w
   pub unseen : w.seen_head ≡ None
 
 abbrev pub Exchanges : ℕ → ℕ → Bool → View → View → Type 0

@@ -9,8 +9,9 @@ use Rattle.core_model.specs.View.{View}
 use Rattle.heap_rule.specs.Fences.{Owns}
 use Rattle.heap_rule.specs.Shown.{CanList, Shows}
 use Rattle.seat_lists.specs.Pops.{list_head}
-use Rattle.steps.specs.Rows.{Parts, Row, parts}
-use Rattle.steps.specs.Words.{KeepsWord}
+use Rattle.seat_rows.specs.Costs.{one_loss, one_move, one_push}
+use Rattle.seat_rows.specs.Rows.{Parts, ViewRow, parts}
+use Rattle.seat_rows.specs.Words.{KeepsWord}
 
 -- the link of a claimed superblock leads to another of the list
 pub record HasSetLink (d first : ℕ) (v w : View) : Type 0 where
@@ -39,8 +40,8 @@ without_claim_of d p = cond (nat_lt 0 (times d p.raw + times d p.split)) (record
 pub record HasPushed (list d draws : ℕ) (v w : View) : Type 0 where
   pub going : w.stopped ≡ None
   pub parts_are : parts w ≡ without_claim_of d (parts v)
-  pub row : Row draws 0 1 0 0 v w
-  pub moved : list ≡ 0 → times d v.raw + times d v.split ≡ 0 → Row draws 16 1 2 0 v w
+  pub row : ViewRow (record one_push { draws = draws }) v w
+  pub moved : list ≡ 0 → times d v.raw + times d v.split ≡ 0 → ViewRow (record one_move { draws = draws }) v w
 
 -- another seat was faster: the seat has its parts, and may push the superblock still
 pub record HasMissed (list d draws : ℕ) (v w : View) : Type 0 where
@@ -49,7 +50,7 @@ pub record HasMissed (list d draws : ℕ) (v w : View) : Type 0 where
   pub room : v.draws < v.setup.budget
   pub more : v.draws < w.draws
   pub parts_are : parts w ≡ parts v
-  pub row : Row draws 4 0 0 0 v w
+  pub row : ViewRow (record one_loss { draws = draws }) v w
   pub can : CanList w d list
 
 abbrev pub Pushes : ℕ → ℕ → ℕ → Bool → View → View → Type 0

@@ -4,13 +4,14 @@ ghost use Rattle.heap_rule.specs.Seated.{IsSeatOf};
 ghost use Rattle.std.specs.Prelude.{◌≡◌, ◌<◌, ℕ, true, false, IfOk, OnOk, IfErr};
 ghost use Rattle.core_model.specs.Guards.{MayLink};
 ghost use Rattle.heap_model.specs.Geometry.{lists};
-ghost use Rattle.steps.specs.Rows.{Row, Stops};
+ghost use Rattle.seat_rows.specs.Costs.{one_draw, one_win};
+ghost use Rattle.seat_rows.specs.Rows.{Row, Stops};
 ghost use Rattle.seat_lists.specs.Pops.{SeesHead, SeesLink, SeesFirst, Exchanges, Tries, Pops};
 
 use crash_core::head_first;
 use heap_rule::{Seat, Shared};
 use line_memory::{Chance, Stopped};
-use steps::draw;
+use seat_rows::draw;
 
 /// What a pop of a list gives.
 #[derive(Clone, Copy, Debug, PartialEq, Eq)]
@@ -32,7 +33,7 @@ pub fn look_list<C: Chance>(
     requires list { list < lists }
     ensures seen { IfOk result (λ head. SeesHead list head seat.old.view seat.new.view) }
     ensures stopped { IfErr result (λ e. Stops e.step seat.old.view seat.new.view) }
-    ensures row { Row 1 0 0 0 0 seat.old.view seat.new.view }
+    ensures row { Row one_draw seat.old seat.new }
     ensures seat { IsSeatOf shared.now seat.new }
 {
     draw(seat, shared, chance)?;
@@ -45,7 +46,7 @@ fn look_link<C: Chance>(seat: &mut Seat, shared: &Shared, chance: &mut C) -> Res
     requires some { MayLink seat.old.view }
     ensures seen { OnOk result (SeesLink seat.old.view seat.new.view) }
     ensures stopped { IfErr result (λ e. Stops e.step seat.old.view seat.new.view) }
-    ensures row { Row 1 0 0 0 0 seat.old.view seat.new.view }
+    ensures row { Row one_draw seat.old seat.new }
     ensures seat { IsSeatOf shared.now seat.new }
 {
     draw(seat, shared, chance)?;
@@ -60,7 +61,7 @@ fn pop_seen<C: Chance>(seat: &mut Seat, shared: &Shared, chance: &mut C) -> Resu
     ensures done { IfOk result (λ won. (list d : ℕ) → SeesFirst list d seat.old.view
         → Exchanges list d won seat.old.view seat.new.view) }
     ensures stopped { IfErr result (λ e. Stops e.step seat.old.view seat.new.view) }
-    ensures row { Row 1 0 1 0 0 seat.old.view seat.new.view }
+    ensures row { Row (record one_win { draws = 1 }) seat.old seat.new }
     ensures seat { IsSeatOf shared.now seat.new }
 {
     draw(seat, shared, chance)?;
@@ -78,7 +79,7 @@ fn try_pop_from<C: Chance>(
     requires list { list < lists }
     ensures done { IfOk result (λ pop. Tries list pop seat.old.view seat.new.view) }
     ensures stopped { IfErr result (λ e. Stops e.step seat.old.view seat.new.view) }
-    ensures row { Row 3 0 1 0 0 seat.old.view seat.new.view }
+    ensures row { Row (record one_win { draws = 3 }) seat.old seat.new }
     ensures seat { IsSeatOf shared.now seat.new }
 {
     let head = look_list(seat, shared, list, chance)?;
@@ -104,7 +105,7 @@ pub fn pop_from<C: Chance>(
     requires list { list < lists }
     ensures done { IfOk result (λ pop. Pops list pop seat.old.view seat.new.view) }
     ensures stopped { IfErr result (λ e. Stops e.step seat.old.view seat.new.view) }
-    ensures row { Row 4 0 1 0 0 seat.old.view seat.new.view }
+    ensures row { Row (record one_win { draws = 3 }) seat.old seat.new }
     ensures seat { IsSeatOf shared.now seat.new }
 {
     loop {

@@ -5,14 +5,15 @@ ghost use Rattle.std.specs.Prelude.{◌≡◌, ◌<◌, ◌+◌, ℕ, IfOk, OnOk
 ghost use Rattle.core_model.specs.Guards.{IsFreelyClaimed};
 ghost use Rattle.heap_model.specs.Geometry.{lists};
 ghost use Rattle.heap_rule.specs.Shown.{CanList};
-ghost use Rattle.steps.specs.Rows.{Row, Stops};
+ghost use Rattle.seat_rows.specs.Costs.{one_draw, one_push};
+ghost use Rattle.seat_rows.specs.Rows.{Row, Stops};
 ghost use Rattle.seat_lists.specs.Pushes.{HasPushed, HasSetLink, Pushes, SeesLinked};
 
 use crate::pops::look_list;
 use crash_core::head_first;
 use heap_rule::{Seat, Shared};
 use line_memory::{Chance, Stopped};
-use steps::draw;
+use seat_rows::draw;
 use super_block::Geometry;
 
 /// The link of a claimed superblock leads to another superblock, by its number plus 1.
@@ -27,7 +28,7 @@ fn set_link<C: Chance>(
     requires claimed { IsFreelyClaimed seat.old.view d }
     ensures linked { OnOk result (HasSetLink d first seat.old.view seat.new.view) }
     ensures stopped { IfErr result (λ e. Stops e.step seat.old.view seat.new.view) }
-    ensures row { Row 1 0 0 0 0 seat.old.view seat.new.view }
+    ensures row { Row one_draw seat.old seat.new }
     ensures seat { IsSeatOf shared.now seat.new }
 {
     seat.has_a_sound_state();
@@ -52,7 +53,7 @@ fn push_seen<C: Chance>(
         → CanList seat.old.view d list
         → Pushes list d 1 won seat.old.view seat.new.view) }
     ensures stopped { IfErr result (λ e. Stops e.step seat.old.view seat.new.view) }
-    ensures row { Row 1 0 1 0 0 seat.old.view seat.new.view }
+    ensures row { Row (record one_push { draws = 1 }) seat.old seat.new }
     ensures seat { IsSeatOf shared.now seat.new }
 {
     seat.has_a_sound_state();
@@ -74,7 +75,7 @@ fn try_push_to<C: Chance>(
     requires can { CanList seat.old.view d list }
     ensures done { IfOk result (λ won. Pushes list d 3 won seat.old.view seat.new.view) }
     ensures stopped { IfErr result (λ e. Stops e.step seat.old.view seat.new.view) }
-    ensures row { Row 3 0 1 0 0 seat.old.view seat.new.view }
+    ensures row { Row (record one_push { draws = 3 }) seat.old seat.new }
     ensures seat { IsSeatOf shared.now seat.new }
 {
     seat.has_a_sound_state();
@@ -97,7 +98,7 @@ pub fn push_to<C: Chance>(
     requires can { CanList seat.old.view d list }
     ensures done { OnOk result (HasPushed list d 3 seat.old.view seat.new.view) }
     ensures stopped { IfErr result (λ e. Stops e.step seat.old.view seat.new.view) }
-    ensures row { Row 3 0 1 0 0 seat.old.view seat.new.view }
+    ensures row { Row (record one_push { draws = 3 }) seat.old seat.new }
     ensures seat { IsSeatOf shared.now seat.new }
 {
     while !try_push_to(seat, shared, list, d, chance)? {}

@@ -16,7 +16,7 @@ use Rattle.heap_model.proofs.DecisionLemmas.{at_most, both}
 use Rattle.heap_model.proofs.PartLemmas.{same_fields}
 use Rattle.heap_seat.specs.View.{View as HeapView}
 use Rattle.heap_seat.specs.Sound.{IsSeat, IsPlaced}
-use Rattle.heap_seat.specs.Words.{IsOwn as IsOwnWord, in_block, in_root, HasPicked, KeepsOwn, MayBe, MayRead, MixesOwn, NamesAll}
+use Rattle.heap_seat.specs.Words.{IsOwn as IsOwnWord, in_block, in_root, HasPicked, KeepsOwn, KeepsPending, MayBe, MayRead, MixesOwn, NamesAll}
 use Rattle.core_model.specs.Cells.{Cell, cell_at, data_cell, root_cell, superblock_at}
 use Rattle.core_model.specs.Effects.{span_count}
 use Rattle.core_model.specs.Held.{IsHeld, a_small, a_large, volatile_image}
@@ -33,10 +33,14 @@ use Rattle.core_model.specs.Memory.{memory_of, used}
 use Rattle.heap_model.specs.Header.{capacity_of, used_of}
 use Rattle.heap_model.specs.Blocks.{IsBlock}
 use Rattle.heap_rule.proofs.SeatImageLemmas.{image_fixed}
-use Rattle.steps.specs.Rows.{Row, after_ticket, next_of}
-use Rattle.steps.specs.Words.{IsHeldWord, MayBe as MayBeOf, left_at, seen_at, times_held}
-use Rattle.steps.proofs.WordLemmas.{at_cell, owns_held}
-use Rattle.seat_view.specs.CacheState.{CacheState, blocks_of_words, small_blocks, large_blocks, held_blocks, heap_view}
+use Rattle.line_memory.specs.Marks.{mark_at, marked_words}
+use Rattle.line_memory.specs.Marked.{marked_words-has, marked_words-only}
+use Rattle.heap_rule.specs.Seated.{SeatView}
+use Rattle.seat_rows.specs.Costs.{Costs}
+use Rattle.seat_rows.specs.Rows.{Row, ViewRow, after_ticket, next_of}
+use Rattle.seat_rows.specs.Words.{IsHeldWord, MayBe as MayBeOf, left_at, seen_at, times_held}
+use Rattle.seat_rows.proofs.WordLemmas.{at_cell, owns_held}
+use Rattle.seat_view.specs.CacheState.{CacheState, blocks_of_words, small_blocks, large_blocks, held_blocks, heap_view, IsStateOf}
 
 -- a fact that can be decided, and that does not fail
 decided : {A B : Type 0} → A ⊎ (A → ⊥) → (B → A) → ∥ B ∥₁ → A
@@ -249,12 +253,12 @@ may_be_law s choice = ∥∥₁_elim s.sound (λ a b. squash₁ a b) (λ (has : 
       records.each word has value (ap (λ t. known (cond t s.view.volatile s.view.durable) (cell_at s.view.setup.capacity word)) is ∙ at_cell s.view word has s.view.durable
       ∙ sym (ap (λ t. cond t (seen_at s.view word) (left_at s.view word)) is) ∙ e)
 
-pub kept_at : {a b c d e : ℕ} (s : CacheState) (x : View) (w : HeapView) → w.held ≡ held_blocks x → w.roots ≡ x.roots → w.volatile ≡ seen_at x → w.durable ≡ left_at x → Row a b c d e s.view x → KeepsOwn (heap_view s) w
+pub kept_at : {a : Costs} (s : CacheState) (x : View) (w : HeapView) → w.held ≡ held_blocks x → w.roots ≡ x.roots → w.volatile ≡ seen_at x → w.durable ≡ left_at x → ViewRow a s.view x → KeepsOwn (heap_view s) w
 kept_at s x w held_are roots_are volatile_is durable_is row = record {
   held = held_are ∙ ap (λ l. small_blocks 0 l ++ large_blocks x.setup.capacity x.large) row.small
       ∙ ap (λ l. small_blocks 0 s.view.small ++ large_blocks x.setup.capacity l) row.large
-      ∙ ap (λ (k : Setup). small_blocks 0 s.view.small ++ large_blocks k.capacity s.view.large) row.setup;
-  roots = roots_are ∙ row.roots;
+      ∙ ap (λ (k : Setup). small_blocks 0 s.view.small ++ large_blocks k.capacity s.view.large) row.passes.setup;
+  roots = roots_are ∙ row.passes.roots;
   words = λ word own. let p = row.words word (own_held s word own) in record {
     volatile = λ value is. ap (λ (f : ℕ → Option ℕ). f word) volatile_is ∙ p.volatile value is;
     durable = λ value may. by_may value word (p.durable value (to_mine (left_at x word) value (subst (λ (f : ℕ → Option ℕ). MayBe (f word) value) durable_is may)));
@@ -272,8 +276,20 @@ kept_at s x w held_are roots_are volatile_is durable_is row = record {
   by_may value word (inl seen) = inl (from_mine (seen_at s.view word) value seen)
   by_may value word (inr left) = inr (from_mine (left_at s.view word) value left)
 
-pub kept_law : (a b c d e : ℕ) (s t : CacheState) → Row a b c d e s.view t.view → KeepsOwn (heap_view s) (heap_view t)
-kept_law a b c d e s t row = kept_at s t.view (heap_view t) refl refl refl refl row
+pub row_from : {a : Costs} (u v w : View) → u ≡ v → ViewRow a u w → ViewRow a v w
+row_from {a} u v w same = subst (λ x. ViewRow a x w) same
 
-pub row_from : {a b c d e : ℕ} (u v w : View) → u ≡ v → Row a b c d e u w → Row a b c d e v w
-row_from {a} {b} {c} {d} {e} u v w same = subst (λ x. Row a b c d e x w) same
+-- pending write-backs
+pub pending_at : {a : Costs} (s : CacheState) (v x : SeatView) (w : HeapView) → IsStateOf s v → w.volatile ≡ seen_at x.view → w.durable ≡ left_at x.view → w.pending ≡ marked_words x.marks → Row a v x
+    → (word : ℕ) → IsOwnWord (held_blocks s.view) s.view.roots word → KeepsPending (heap_view s) w word
+pending_at s v x w of_s volatile_is durable_is pending_is row word own pending =
+    elim (row.marks word (subst (λ (u : View). IsHeldWord u word) (sym of_s.view) (own_held s word own)) (ap (λ marks. mark_at marks word) of_s.marks ∙ marked_words-only s.marks word pending)) [
+      | inl marked ↦ inl (subst (λ words. Contains words word) (sym pending_is) (marked_words-has x.marks word marked))
+      | inr durable ↦ inr (record { value = durable.value; seen = ap (λ (f : ℕ → Option ℕ). f word) volatile_is ∙ durable.seen; left = ap (λ (f : ℕ → Option ℕ). f word) durable_is ∙ durable.left })
+    ]
+
+pub pending_law : (a : Costs) (s t : CacheState) (v w : SeatView) → IsStateOf s v → IsStateOf t w → Row a v w → (word : ℕ) → IsOwnWord (held_blocks s.view) s.view.roots word → KeepsPending (heap_view s) (heap_view t) word
+pending_law a s t v w of_s of_t row = pending_at s v w (heap_view t) of_s (ap seen_at (sym of_t.view)) (ap left_at (sym of_t.view)) (ap marked_words (sym of_t.marks)) row
+
+pub row_law : (a : Costs) (s t : CacheState) (v w : SeatView) → IsStateOf s v → IsStateOf t w → Row a v w → KeepsOwn (heap_view s) (heap_view t)
+row_law a s t v w of_s of_t row = kept_at s t.view (heap_view t) refl refl refl refl (subst (λ (u : View). ViewRow a s.view u) of_t.view (row_from v.view s.view w.view of_s.view row.view))

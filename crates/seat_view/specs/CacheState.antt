@@ -1,15 +1,17 @@
 -- What contracts see of a heap's seat that is a seat of the core.
-use Rattle.std.specs.Prelude.{ℕ, ◌+◌, ◌*◌, Bool, true, false, List, [], ◌∷◌, ◌++◌, get_or, Contains, ◌<◌}
+use Rattle.std.specs.Prelude.{◌≡◌, ℕ, ◌+◌, ◌*◌, Bool, List, [], ◌∷◌, ◌++◌, get_or, Contains, ◌<◌}
 use Rattle.heap_model.specs.declared.block.Block.{Block}
 use Rattle.heap_model.specs.Geometry.{roots, start_word, superblock_words}
 use Rattle.heap_model.specs.Sizes.{words_of_class}
 use Rattle.heap_seat.specs.declared.fault.Looks.{Looks}
 use Rattle.heap_seat.specs.declared.look.Look.{Look}
+use Rattle.line_memory.specs.Marks.{marked_words}
 use Rattle.heap_seat.specs.View.{View as HeapView}
 use Rattle.core_model.specs.View.{LastLook, Span, View}
 use Rattle.heap_table.specs.Plays.{HasSoundState}
-use Rattle.steps.specs.Rows.{next_of}
-use Rattle.steps.specs.Words.{left_at, seen_at}
+use Rattle.heap_rule.specs.Seated.{SeatView}
+use Rattle.seat_rows.specs.Rows.{next_of}
+use Rattle.seat_rows.specs.Words.{left_at, seen_at}
 
 pub record CacheState : Type 0 where
   pub view : View
@@ -39,12 +41,6 @@ large_blocks capacity (span ∷ spans) = record { first_word = start_word capaci
 abbrev pub held_blocks : View → List Block
 held_blocks v = small_blocks 0 v.small ++ large_blocks v.setup.capacity v.large
 
--- the words that are marked, from an index on
-abbrev pub marked_from : ℕ → List Bool → List ℕ
-marked_from word [] = []
-marked_from word (true ∷ marks) = word ∷ marked_from (word + 1) marks
-marked_from word (false ∷ marks) = marked_from (word + 1) marks
-
 abbrev pub look_of : LastLook → Look
 look_of look = record { seen = look.word; ticket = look.ticket; taken = look.taken }
 
@@ -54,7 +50,7 @@ heap_view s = record {
   roots = s.view.roots;
   volatile = seen_at s.view;
   durable = left_at s.view;
-  pending = marked_from 0 s.marks;
+  pending = marked_words s.marks;
   capacity = s.view.setup.capacity;
   budget = s.view.setup.budget;
   next = next_of s.view;
@@ -72,3 +68,8 @@ heap_view s = record {
 -- of a seat that has refused no request
 abbrev pub no_looks : Looks
 no_looks = record { class_head = 0; free_head = 0; used = 0 }
+
+-- a seat of the core with its view and its marks
+pub record IsStateOf (s : CacheState) (seat : SeatView) : Type 0 where
+  pub view : seat.view ≡ s.view
+  pub marks : seat.marks ≡ s.marks

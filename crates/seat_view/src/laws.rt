@@ -3,13 +3,15 @@
 ghost use Rattle.std.specs.Prelude.{◌≡◌, ℕ, Bool};
 ghost use Rattle.heap_model.specs.Image.{Image};
 ghost use Rattle.heap_seat.specs.Sound.{IsSeat};
-ghost use Rattle.heap_seat.specs.Words.{HasPicked, KeepsOwn, MixesOwn, NamesAll};
+ghost use Rattle.heap_seat.specs.Words.{HasPicked, IsOwn, KeepsOwn, KeepsPending, MixesOwn, NamesAll};
 ghost use Rattle.heap_rule.specs.Images.{IsImageOf};
-ghost use Rattle.steps.specs.Rows.{Row};
-ghost use Rattle.seat_view.specs.CacheState.{CacheState, heap_view};
+ghost use Rattle.heap_rule.specs.Seated.{SeatView};
+ghost use Rattle.seat_rows.specs.Costs.{Costs};
+ghost use Rattle.seat_rows.specs.Rows.{Row};
+ghost use Rattle.seat_view.specs.CacheState.{CacheState, IsStateOf, heap_view};
 
 /// A heap's seat that is one of the core keeps the laws of such seats; and a row of steps that
-/// leaves held blocks alone keeps its own words.
+/// leaves held blocks alone keeps its own words, and their pending write-backs.
 pub fn a_seat_of_the_core_is_a_seat_of_a_heap()
     ensures seat { (s : CacheState) → IsSeat (heap_view s) }
     ensures mixed { (s : CacheState) (image : Image) → IsImageOf s.view image
@@ -18,6 +20,9 @@ pub fn a_seat_of_the_core_is_a_seat_of_a_heap()
         → NamesAll image (heap_view s).held }
     ensures may_be { (s : CacheState) (pick : ℕ → Bool) → ∥ ((image : Image) × IsImageOf s.view image
         × HasPicked (heap_view s) pick image) ∥₁ }
-    ensures kept { (a b c d e : ℕ) (s t : CacheState) → Row a b c d e s.view t.view
-        → KeepsOwn (heap_view s) (heap_view t) }
+    ensures kept { (costs : Costs) (s t : CacheState) (v w : SeatView) → IsStateOf s v
+        → IsStateOf t w → Row costs v w → KeepsOwn (heap_view s) (heap_view t) }
+    ensures pending { (costs : Costs) (s t : CacheState) (v w : SeatView) → IsStateOf s v
+        → IsStateOf t w → Row costs v w → (word : ℕ) → IsOwn (heap_view s).held s.view.roots word
+        → KeepsPending (heap_view s) (heap_view t) word }
 {}

@@ -1,4 +1,4 @@
-use Rattle.steps.proofs.RowLemmas.{row_then}
+use Rattle.seat_rows.proofs.RowLemmas.{row_then}
 use Rattle.seat_flush.proofs.FlushLemmas.{claim_look, claim_lists, listed, on_ok_then}
 use Rattle.seat_flush.proofs.flushes.list.Goals as goal
 
@@ -14,4 +14,4 @@ returns-clause-listed g c =
     on_ok_then c.push_to.result (listed c.args.seat.now.view c.has_a_sound_state.ensures c.args.class.number c.args.d c.requires.claim c.look_anchor.new.seat.view c.push_to.new.seat.view c.list_for-list.result c.in_ok-anchor.anchor c.in_ok-anchor.ensures.seen) c.push_to.ensures.done
 
 pub returns-clause-row : goal.returns-clause-row
-returns-clause-row g c = row_then c.args.seat.now.view c.look_anchor.new.seat.view c.push_to.new.seat.view c.look_anchor.ensures.row c.push_to.ensures.row
+returns-clause-row g c = row_then c.args.seat.now c.look_anchor.new.seat c.push_to.new.seat c.look_anchor.ensures.row c.push_to.ensures.row

@@ -3,7 +3,7 @@ use Rattle.heap_model.specs.Geometry.{start_word}
 use Rattle.heap_model.specs.Sizes.{words_of_class}
 use Rattle.heap_model.specs.Words.{anchor_first, full_anchor}
 use Rattle.core_model.proofs.PlaceLemmas.{not-eq}
-use Rattle.steps.proofs.RowLemmas.{row_then}
+use Rattle.seat_rows.proofs.RowLemmas.{row_then}
 use Rattle.seat_flush.specs.Gives.{GivesSeen}
 use Rattle.seat_flush.proofs.GiveLemmas.{batch_inside, batch_still, can_give_full, can_give_some, given_later, given_seen, not_given_later}
 use Rattle.seat_flush.proofs.gives.give_looked.Goals as goal
@@ -29,15 +29,15 @@ give_seen-requires-2-clause-can g c =
 
 pub returns-in_err-give_seen-2-clause-row : goal.returns-in_err-give_seen-2-clause-row
 returns-in_err-give_seen-2-clause-row g c =
-    row_then c.args.seat.now.view c.link_last.new.seat.view c.give_seen-2.new.seat.view c.link_last.ensures.row c.give_seen-2.ensures.row
+    row_then c.args.seat.now c.link_last.new.seat c.give_seen-2.new.seat c.link_last.ensures.row c.give_seen-2.ensures.row
 
 pub returns-then-branch-2-clause-row : goal.returns-then-branch-2-clause-row
 returns-then-branch-2-clause-row g c =
-    row_then c.args.seat.now.view c.link_last.new.seat.view c.give_seen-2.new.seat.view c.link_last.ensures.row c.give_seen-2.ensures.row
+    row_then c.args.seat.now c.link_last.new.seat c.give_seen-2.new.seat c.link_last.ensures.row c.give_seen-2.ensures.row
 
 pub returns-clause-row : goal.returns-clause-row
 returns-clause-row g c =
-    row_then c.args.seat.now.view c.link_last.new.seat.view c.give_seen-2.new.seat.view c.link_last.ensures.row c.give_seen-2.ensures.row
+    row_then c.args.seat.now c.link_last.new.seat c.give_seen-2.new.seat c.link_last.ensures.row c.give_seen-2.ensures.row
 
 pub returns-then-branch-2-clause-given : goal.returns-then-branch-2-clause-given
 returns-then-branch-2-clause-given g c = let linked = c.in_ok-link_last.ensures.linked in
@@ -49,5 +49,5 @@ returns-then-branch-2-clause-given g c = let linked = c.in_ok-link_last.ensures.
 
 pub returns-clause-given : goal.returns-clause-given
 returns-clause-given g c = let linked = c.in_ok-link_last.ensures.linked in
-    not_given_later 1 false c.args.seat.now.view c.link_last.new.seat.view c.give_seen-2.new.seat.view linked.ran linked.room linked.parts_are c.link_last.ensures.row
+    not_given_later 1 false c.args.seat.now.view c.link_last.new.seat.view c.give_seen-2.new.seat.view linked.ran linked.room linked.parts_are c.link_last.ensures.row.view
     (subst (λ won. GivesSeen c.args.d won c.link_last.new.seat.view c.give_seen-2.new.seat.view) c.if-branch-2.false c.in_ok-give_seen-2.ensures.done)

@@ -1,4 +1,6 @@
-use Rattle.seat_flush.proofs.GiveLemmas.{can_link_last, last_linked, last_row}
+use Rattle.seat_rows.proofs.RowLemmas.{row_then}
+use Rattle.seat_rows.proofs.StoreLemmas.{row_of_store, store_row}
+use Rattle.seat_flush.proofs.GiveLemmas.{can_link_last, last_free, last_linked}
 use Rattle.seat_flush.proofs.gives.link_last.Goals as goal
 
 pub store_word-requires-clause-can : goal.store_word-requires-clause-can
@@ -11,4 +13,6 @@ returns-clause-linked g c = let e = c.store_word.ensures.event in
 
 pub returns-clause-row : goal.returns-clause-row
 returns-clause-row g c = let e = c.store_word.ensures.event in
-    last_row c.args.seat.now.view c.has_a_sound_state.ensures c.args.d c.args.class.number c.args.last c.requires.batch c.draw.new.seat.view c.store_word.new.self.view c.args.first e.0 c.in_ok-draw.ensures.drawn e.1 c.draw.ensures.row
+    let free = last_free c.args.seat.now.view c.has_a_sound_state.ensures c.args.d c.args.class.number c.args.last c.requires.batch c.draw.new.seat.view c.in_ok-draw.ensures.drawn in
+    row_then c.args.seat.now c.draw.new.seat c.store_word.new.self c.draw.ensures.row
+    (row_of_store c.draw.new.seat c.store_word.new.self c.args.last c.store_word.ensures.stores free (store_row c.args.last c.args.first c.draw.new.seat.view c.store_word.new.self.view e.0 e.1 free))

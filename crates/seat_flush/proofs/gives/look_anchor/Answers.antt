@@ -1,11 +1,12 @@
-use Rattle.steps.proofs.EventLemmas.{look_anchor_row}
-use Rattle.steps.proofs.RowLemmas.{row_then}
+use Rattle.seat_rows.proofs.EventLemmas.{look_anchor_row}
+use Rattle.seat_rows.proofs.RowLemmas.{row_of, row_then}
 use Rattle.seat_flush.proofs.GiveLemmas.{anchor_looked, anchor_of_class}
 use Rattle.seat_flush.proofs.gives.look_anchor.Goals as goal
 
 pub returns-clause-row : goal.returns-clause-row
 returns-clause-row g c =
-    row_then c.args.seat.now.view c.draw.new.seat.view c.look_anchor.new.self.view c.draw.ensures.row (look_anchor_row c.args.d c.draw.new.seat.view c.look_anchor.new.self.view c.look_anchor.result c.look_anchor.ensures.event)
+    row_then c.args.seat.now c.draw.new.seat c.look_anchor.new.self c.draw.ensures.row
+    (row_of c.draw.new.seat c.look_anchor.new.self c.look_anchor.ensures.stores (look_anchor_row c.args.d c.draw.new.seat.view c.look_anchor.new.self.view c.look_anchor.result c.look_anchor.ensures.event))
 
 pub returns-clause-of_class : goal.returns-clause-of_class
 returns-clause-of_class g c =

@@ -1,9 +1,10 @@
-use Rattle.seat_lists.proofs.PopLemmas.{head_row, head_seen}
+use Rattle.seat_rows.proofs.FreshLemmas.{head_seat_row}
+use Rattle.seat_lists.proofs.PopLemmas.{head_seen}
 use Rattle.seat_lists.proofs.pops.look_list.Goals as goal
 
 pub returns-clause-row : goal.returns-clause-row
 returns-clause-row g c =
-    head_row c.args.seat.now.view c.draw.new.seat.view c.look_head.new.self.view c.args.list c.look_head.result c.requires.list c.in_ok-draw.ensures.drawn c.draw.ensures.row c.look_head.ensures.event
+    head_seat_row c.args.seat.now c.draw.new.seat c.in_ok-draw.ensures.drawn c.draw.ensures.row c.args.list c.look_head.result c.look_head.new.self c.look_head.ensures.event c.look_head.ensures.stores
 
 pub returns-clause-seen : goal.returns-clause-seen
 returns-clause-seen g c =

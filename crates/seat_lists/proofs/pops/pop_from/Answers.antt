@@ -1,11 +1,12 @@
-use Rattle.std.proofs.Common.{subst}
+use Rattle.std.proofs.Common.{inl, subst}
+use Rattle.seat_rows.proofs.RowLemmas.{marks_behind}
 use Rattle.std.proofs.lemmas.Result.{err_from_is_err_and}
 use Rattle.seat_lists.specs.Pops.{Tries}
 use Rattle.seat_lists.proofs.PopLemmas.{tries_begin, tries_less, tries_on, tries_row, tries_stop}
 use Rattle.seat_lists.proofs.pops.pop_from.Goals as goal
 
 pub loop-pop-init : goal.loop-pop-init
-loop-pop-init g c = record { trying = tries_begin c.args.seat.now.view; is_of = c.requires.seat }
+loop-pop-init g c = record { trying = tries_begin c.args.seat.now.view; marks = λ k held marked. inl marked; is_of = c.requires.seat }
 
 pub returns-in_err-pop-clause-stopped : goal.returns-in_err-pop-clause-stopped
 returns-in_err-pop-clause-stopped g c = let p = err_from_is_err_and c.from_residual.result c.from_residual.ensures.1 in
@@ -13,12 +14,16 @@ returns-in_err-pop-clause-stopped g c = let p = err_from_is_err_and c.from_resid
 
 pub returns-in_err-pop-clause-row : goal.returns-in_err-pop-clause-row
 returns-in_err-pop-clause-row g c =
-    tries_row c.args.seat.now.view c.loop-pop.seat.view c.try_pop_from.new.seat.view c.loop-pop.invariant.trying c.try_pop_from.ensures.row
+    record {
+      view = tries_row c.args.seat.now.view c.loop-pop.seat.view c.try_pop_from.new.seat.view c.loop-pop.invariant.trying c.try_pop_from.ensures.row.view;
+      marks = marks_behind c.args.seat.now c.loop-pop.seat c.try_pop_from.new.seat c.loop-pop.invariant.trying.row c.loop-pop.invariant.marks c.try_pop_from.ensures.row;
+    }
 
 pub loop-pop-preserved : goal.loop-pop-preserved
 loop-pop-preserved g c = record {
   trying = tries_on c.args.seat.now.view c.loop-pop.seat.view c.try_pop_from.new.seat.view c.loop-pop.invariant.trying
       (subst (λ pop. Tries c.args.list pop c.loop-pop.seat.view c.try_pop_from.new.seat.view) c.in_default.is c.in_ok-pop.ensures.done);
+  marks = marks_behind c.args.seat.now c.loop-pop.seat c.try_pop_from.new.seat c.loop-pop.invariant.trying.row c.loop-pop.invariant.marks c.try_pop_from.ensures.row;
   is_of = c.try_pop_from.ensures.seat;
 }
 
@@ -27,4 +32,7 @@ loop-pop-smaller g c =
     tries_less c.loop-pop.seat.view c.try_pop_from.new.seat.view (subst (λ pop. Tries c.args.list pop c.loop-pop.seat.view c.try_pop_from.new.seat.view) c.in_default.is c.in_ok-pop.ensures.done)
 
 pub returns-in-Some-clause-row : goal.returns-in-Some-clause-row
-returns-in-Some-clause-row g c = tries_row c.args.seat.now.view c.loop-pop.seat.view c.try_pop_from.new.seat.view c.loop-pop.invariant.trying c.try_pop_from.ensures.row
+returns-in-Some-clause-row g c = record {
+  view = tries_row c.args.seat.now.view c.loop-pop.seat.view c.try_pop_from.new.seat.view c.loop-pop.invariant.trying c.try_pop_from.ensures.row.view;
+  marks = marks_behind c.args.seat.now c.loop-pop.seat c.try_pop_from.new.seat c.loop-pop.invariant.trying.row c.loop-pop.invariant.marks c.try_pop_from.ensures.row;
+}

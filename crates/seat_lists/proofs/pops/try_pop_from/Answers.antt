@@ -1,5 +1,6 @@
-use Rattle.std.proofs.Common.{subst, ◌∙◌, ◌-◌}
-use Rattle.steps.proofs.RowLemmas.{row_then}
+use Rattle.std.proofs.Common.{arith, subst, ◌∙◌, ◌-◌}
+use Rattle.seat_rows.specs.Costs.{one_win}
+use Rattle.seat_rows.proofs.RowLemmas.{row_then, row_within}
 use Rattle.seat_lists.specs.Pops.{Exchanges}
 use Rattle.seat_lists.proofs.PopLemmas.{goes_then, lost_later, popped_later, sees_first}
 use Rattle.seat_lists.proofs.pops.try_pop_from.Goals as goal
@@ -14,20 +15,25 @@ pop_seen-requires-clause-seen g c = (
   ),
 )
 
+pub returns-in_err-look_link-clause-row : goal.returns-in_err-look_link-clause-row
+returns-in_err-look_link-clause-row g c =
+    row_within (record one_win { draws = 3 }) c.args.seat.now c.look_link.new.seat (record { draws = omega arith; wins = omega arith; gives = omega arith; cuts = omega arith; taken = omega arith; moves = omega arith })
+    (row_then c.args.seat.now c.look_list.new.seat c.look_link.new.seat c.look_list.ensures.row c.look_link.ensures.row)
+
 pub returns-in_err-pop_seen-clause-row : goal.returns-in_err-pop_seen-clause-row
 returns-in_err-pop_seen-clause-row g c =
-    row_then c.args.seat.now.view c.look_link.new.seat.view c.pop_seen.new.seat.view
-    (row_then c.args.seat.now.view c.look_list.new.seat.view c.look_link.new.seat.view c.look_list.ensures.row c.look_link.ensures.row) c.pop_seen.ensures.row
+    row_then c.args.seat.now c.look_link.new.seat c.pop_seen.new.seat
+    (row_then c.args.seat.now c.look_list.new.seat c.look_link.new.seat c.look_list.ensures.row c.look_link.ensures.row) c.pop_seen.ensures.row
 
 pub returns-then-branch-clause-row : goal.returns-then-branch-clause-row
 returns-then-branch-clause-row g c =
-    row_then c.args.seat.now.view c.look_link.new.seat.view c.pop_seen.new.seat.view
-    (row_then c.args.seat.now.view c.look_list.new.seat.view c.look_link.new.seat.view c.look_list.ensures.row c.look_link.ensures.row) c.pop_seen.ensures.row
+    row_then c.args.seat.now c.look_link.new.seat c.pop_seen.new.seat
+    (row_then c.args.seat.now c.look_list.new.seat c.look_link.new.seat c.look_list.ensures.row c.look_link.ensures.row) c.pop_seen.ensures.row
 
 pub returns-clause-row : goal.returns-clause-row
 returns-clause-row g c =
-    row_then c.args.seat.now.view c.look_link.new.seat.view c.pop_seen.new.seat.view
-    (row_then c.args.seat.now.view c.look_list.new.seat.view c.look_link.new.seat.view c.look_list.ensures.row c.look_link.ensures.row) c.pop_seen.ensures.row
+    row_then c.args.seat.now c.look_link.new.seat c.pop_seen.new.seat
+    (row_then c.args.seat.now c.look_list.new.seat c.look_link.new.seat c.look_list.ensures.row c.look_link.ensures.row) c.pop_seen.ensures.row
 
 pub returns-then-branch-clause-done : goal.returns-then-branch-clause-done
 returns-then-branch-clause-done g c =
@@ -45,5 +51,5 @@ returns-clause-done g c =
     c.in_ok-head.ensures.seen c.in_ok-look_link.ensures.seen c.head_first-first.ensures c.if-first-eq0.false in
     lost_later c.args.seat.now.view c.look_link.new.seat.view c.pop_seen.new.seat.view
     (goes_then c.args.seat.now.view c.look_list.new.seat.view c.look_link.new.seat.view c.in_ok-head.ensures.seen.goes_on c.in_ok-look_link.ensures.seen.goes_on)
-    (row_then c.args.seat.now.view c.look_list.new.seat.view c.look_link.new.seat.view c.look_list.ensures.row c.look_link.ensures.row)
+    (row_then c.args.seat.now c.look_list.new.seat c.look_link.new.seat c.look_list.ensures.row c.look_link.ensures.row).view
     (subst (λ won. Exchanges c.args.list d won c.look_link.new.seat.view c.pop_seen.new.seat.view) c.if-branch.false (c.in_ok-pop_seen.ensures.done c.args.list d sees))

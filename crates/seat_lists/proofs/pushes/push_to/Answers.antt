@@ -1,7 +1,11 @@
-use Rattle.std.proofs.Common.{subst}
+use Rattle.std.proofs.Common.{inl, subst}
+use Rattle.seat_rows.proofs.RowLemmas.{marks_behind}
 use Rattle.seat_lists.specs.Pushes.{Pushes}
-use Rattle.seat_lists.proofs.PushLemmas.{pushing_done, pushing_on, pushing_row}
+use Rattle.seat_lists.proofs.PushLemmas.{pushing_begins, pushing_done, pushing_on, pushing_row}
 use Rattle.seat_lists.proofs.pushes.push_to.Goals as goal
+
+pub loop-init : goal.loop-init
+loop-init g c = record { pushing = pushing_begins c.args.seat.now.view c.args.list c.args.d c.requires.can c.requires.durable; marks = λ k held marked. inl marked; is_of = c.requires.seat }
 
 pub returns-clause-done : goal.returns-clause-done
 returns-clause-done g c =
@@ -9,14 +13,21 @@ returns-clause-done g c =
     (subst (λ won. Pushes c.args.list c.args.d 3 won c.loop.seat.view c.try_push_to.new.seat.view) c.if-not-branch.false c.in_ok-try_push_to.ensures.done)
 
 pub returns-in_err-try_push_to-clause-row : goal.returns-in_err-try_push_to-clause-row
-returns-in_err-try_push_to-clause-row g c = pushing_row c.args.seat.now.view c.loop.seat.view c.try_push_to.new.seat.view c.args.list c.args.d c.loop.invariant.pushing c.try_push_to.ensures.row
+returns-in_err-try_push_to-clause-row g c = record {
+  view = pushing_row c.args.seat.now.view c.loop.seat.view c.try_push_to.new.seat.view c.args.list c.args.d c.loop.invariant.pushing c.try_push_to.ensures.row.view;
+  marks = marks_behind c.args.seat.now c.loop.seat c.try_push_to.new.seat c.loop.invariant.pushing.row c.loop.invariant.marks c.try_push_to.ensures.row;
+}
 
 pub returns-clause-row : goal.returns-clause-row
-returns-clause-row g c = pushing_row c.args.seat.now.view c.loop.seat.view c.try_push_to.new.seat.view c.args.list c.args.d c.loop.invariant.pushing c.try_push_to.ensures.row
+returns-clause-row g c = record {
+  view = pushing_row c.args.seat.now.view c.loop.seat.view c.try_push_to.new.seat.view c.args.list c.args.d c.loop.invariant.pushing c.try_push_to.ensures.row.view;
+  marks = marks_behind c.args.seat.now c.loop.seat c.try_push_to.new.seat c.loop.invariant.pushing.row c.loop.invariant.marks c.try_push_to.ensures.row;
+}
 
 pub loop-preserved : goal.loop-preserved
 loop-preserved g c = record {
   pushing = pushing_on c.args.seat.now.view c.loop.seat.view c.try_push_to.new.seat.view c.args.list c.args.d c.loop.invariant.pushing
       (subst (λ won. Pushes c.args.list c.args.d 3 won c.loop.seat.view c.try_push_to.new.seat.view) c.if-not-branch.true c.in_ok-try_push_to.ensures.done);
+  marks = marks_behind c.args.seat.now c.loop.seat c.try_push_to.new.seat c.loop.invariant.pushing.row c.loop.invariant.marks c.try_push_to.ensures.row;
   is_of = c.try_push_to.ensures.seat;
 }

@@ -1,8 +1,12 @@
 use Rattle.std.proofs.Common.{◌<◌, ℕ, sym, subst, ◌∙◌}
 use Rattle.core_model.specs.declared.event.Event.TheVariants.{Store}
 use Rattle.heap_rule.specs.Shown.{Can}
+use Rattle.heap_model.specs.Geometry.{link_word}
 use Rattle.heap_table.specs.Plays.{IsEvent}
-use Rattle.seat_lists.proofs.PushLemmas.{can_set_link, inside, link_row, link_set}
+use Rattle.heap_rule.specs.Seated.{HasNewStore}
+use Rattle.seat_rows.proofs.RowLemmas.{row_then}
+use Rattle.seat_rows.proofs.StoreLemmas.{row_of_store, store_row}
+use Rattle.seat_lists.proofs.PushLemmas.{can_set_link, inside, link_not_held, link_set}
 use Rattle.seat_lists.proofs.pushes.set_link.Goals as goal
 
 pub link-link-requires : goal.link-link-requires
@@ -20,5 +24,8 @@ returns-clause-linked g c = let e = c.store_word.ensures.event in
 
 pub returns-clause-row : goal.returns-clause-row
 returns-clause-row g c = let e = c.store_word.ensures.event in
-    link_row c.args.seat.now.view c.has_a_sound_state.ensures c.args.d c.requires.claimed c.draw.new.seat.view c.store_word.new.self.view c.args.first e.0 c.in_ok-draw.ensures.drawn
-    (subst (λ (n : ℕ). IsEvent (Store n c.args.first) c.draw.new.seat.view e.0 c.store_word.new.self.view) c.link-link.ensures e.1) c.draw.ensures.row
+    let u = c.draw.new.seat in let w = c.store_word.new.self in
+    let stores = subst (λ (n : ℕ). IsEvent (Store n c.args.first) u.view e.0 w.view) c.link-link.ensures e.1 in
+    let free = link_not_held c.args.seat.now.view c.has_a_sound_state.ensures c.args.d c.requires.claimed u.view w.view c.args.first e.0 c.in_ok-draw.ensures.drawn stores in
+    row_then c.args.seat.now u w c.draw.ensures.row
+    (row_of_store u w (link_word c.args.d) (subst (λ (n : ℕ). HasNewStore n u w) c.link-link.ensures c.store_word.ensures.stores) free (store_row (link_word c.args.d) c.args.first u.view w.view e.0 stores free))

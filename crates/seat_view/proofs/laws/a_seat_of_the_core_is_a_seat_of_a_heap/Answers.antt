@@ -1,4 +1,4 @@
-use Rattle.seat_view.proofs.HeldLemmas.{kept_law, may_be_law, mixed_law, named_law, seat_law}
+use Rattle.seat_view.proofs.HeldLemmas.{may_be_law, mixed_law, named_law, pending_law, row_law, seat_law}
 use Rattle.seat_view.proofs.laws.a_seat_of_the_core_is_a_seat_of_a_heap.Goals as goal
 
 pub returns-clause-seat : goal.returns-clause-seat
@@ -14,4 +14,7 @@ pub returns-clause-may_be : goal.returns-clause-may_be
 returns-clause-may_be c = may_be_law
 
 pub returns-clause-kept : goal.returns-clause-kept
-returns-clause-kept c = kept_law
+returns-clause-kept c = row_law
+
+pub returns-clause-pending : goal.returns-clause-pending
+returns-clause-pending c = pending_law

@@ -1,20 +1,20 @@
 use Rattle.std.proofs.Common.{◌<◌, ℕ, Contains, List, refl, sym, subst, ap}
 use Rattle.heap_model.specs.Geometry.{roots}
-use Rattle.seat_view.specs.CacheState.{CacheState}
-use Rattle.seat_view.proofs.HeldLemmas.{kept_at, row_from}
+use Rattle.seat_view.specs.CacheState.{CacheState, IsStateOf}
+use Rattle.seat_view.proofs.HeldLemmas.{kept_at, pending_at, row_from}
 use Rattle.cache_seat.proofs.cache_seat.CacheSeat.flush_class.Goals as goal
 
 pub invariant_of-self-inside : goal.invariant_of-self-inside
 invariant_of-self-inside g c = (
   c.flush-done.ensures.seat,
   (
-    subst (λ (l : List ℕ). (i : ℕ) → Contains l i → i < roots) (sym c.flush-done.ensures.row.roots) c.self.inside.roots_are,
+    subst (λ (l : List ℕ). (i : ℕ) → Contains l i → i < roots) (sym c.flush-done.ensures.row.view.passes.roots) c.self.inside.roots_are,
     (∣ c.has_a_sound_state.ensures ∣₁, tt),
   ),
 )
 
 pub returns : goal.returns
-returns g c = record {
-  kept = kept_at c.args.self.now c.flush-done.new.seat.view _ refl refl refl refl
-      (row_from c.self.inside.seat.view c.args.self.now.view c.flush-done.new.seat.view (ap (λ (s : CacheState). s.view) c.self.view_is) c.flush-done.ensures.row);
+returns g c = let was : IsStateOf c.args.self.now c.self.inside.seat = record { view = ap (λ (s : CacheState). s.view) c.self.view_is; marks = ap (λ (s : CacheState). s.marks) c.self.view_is } in record {
+  kept = kept_at c.args.self.now c.flush-done.new.seat.view _ refl refl refl refl (row_from c.self.inside.seat.view c.args.self.now.view c.flush-done.new.seat.view was.view c.flush-done.ensures.row.view);
+  pending = pending_at c.args.self.now c.self.inside.seat c.flush-done.new.seat _ was refl refl refl c.flush-done.ensures.row;
 }

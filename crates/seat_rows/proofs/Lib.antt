@@ -1,0 +1,12 @@
+pub mod WordLemmas
+pub mod RowLemmas
+pub mod AlikeLemmas
+pub mod DrawLemmas
+pub mod EventLemmas
+pub mod StoreLemmas
+pub mod FreshLemmas
+pub mod ShiftLemmas
+pub mod OnceLemmas
+pub mod AloneLemmas
+pub mod ChanceLemmas
+pub mod IdleLemmas

@@ -1,0 +1,12 @@
+use Rattle.core_model.specs.Memory.{memory_of}
+use Rattle.seat_rows.proofs.AloneLemmas.{event_won, looks_say, none_lost}
+use Rattle.seat_rows.proofs.laws.a_seat_that_is_alone_loses_nothing.Goals as goal
+
+pub returns-clause-losses : goal.returns-clause-losses
+returns-clause-losses c = λ k words v sound. none_lost k (memory_of k.capacity words) v sound.good
+
+pub returns-clause-event : goal.returns-clause-event
+returns-clause-event c = event_won
+
+pub returns-clause-looks : goal.returns-clause-looks
+returns-clause-looks c = looks_say

@@ -1,0 +1,6 @@
+pub mod Draws
+pub mod Words
+pub mod Costs
+pub mod Rows
+pub mod Alone
+pub mod Idle

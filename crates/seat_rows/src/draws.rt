@@ -1,0 +1,49 @@
+//! A draw of a ticket with no change.
+
+ghost use Rattle.heap_rule.specs.Seated.{IsSeatOf};
+ghost use Rattle.std.specs.Prelude.{◌≡◌, ℕ, None, Some, OnOk, IfErr};
+ghost use Rattle.core_model.specs.declared.event.Event.TheVariants.{Tick};
+ghost use Rattle.core_model.specs.View.{View};
+ghost use Rattle.heap_table.specs.Plays.{IsEvent};
+ghost use Rattle.heap_rule.specs.Seated.{KeepsStores, TellsDraw};
+ghost use Rattle.heap_rule.specs.Shown.{Can};
+ghost use Rattle.seat_rows.specs.Draws.{Settles};
+ghost use Rattle.seat_rows.specs.Costs.{one_draw};
+ghost use Rattle.seat_rows.specs.Rows.{HasDrawn, Row, Stops};
+
+use core_model::Shift;
+use heap_rule::{Seat, Shared};
+use line_memory::{Chance, Stopped};
+
+/// Draws a ticket, with a change of the seat's parts where there is one, after some word may have
+/// become durable by chance.
+pub fn draw_with<C: Chance>(
+    seat: &mut Seat,
+    shared: &Shared,
+    shift: Option<Shift>,
+    chance: &mut C,
+) -> Result<(), Stopped>
+    requires seat { IsSeatOf shared.now seat.old }
+    requires can { seat.old.view.stopped ≡ None → Can seat.old.view (Tick shift) }
+    ensures event { seat.old.view.stopped ≡ None → (early : View) × Settles seat.old.view early
+        × (found : ℕ) × IsEvent (Tick shift) early found seat.new.view }
+    ensures had_stopped { (step : ℕ) → seat.old.view.stopped ≡ Some step → seat.new ≡ seat.old }
+    ensures told { TellsDraw seat.new.view result }
+    ensures stores { KeepsStores seat.old seat.new }
+    ensures seat { IsSeatOf shared.now seat.new }
+{
+    seat.draw(shared, shift, chance)
+}
+
+/// Draws a ticket, with no change of the seat's parts, unless the seat has stopped.
+pub fn draw<C: Chance>(seat: &mut Seat, shared: &Shared, chance: &mut C) -> Result<(), Stopped>
+    requires seat { IsSeatOf shared.now seat.old }
+    ensures drawn { OnOk result (HasDrawn seat.old.view seat.new.view) }
+    ensures stopped { IfErr result (λ e. Stops e.step seat.old.view seat.new.view) }
+    ensures row { Row one_draw seat.old seat.new }
+    ensures stores { KeepsStores seat.old seat.new }
+    ensures seat { IsSeatOf shared.now seat.new }
+{
+    seat.has_a_sound_state();
+    draw_with(seat, shared, None, chance)
+}

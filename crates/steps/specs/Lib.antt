@@ -1,4 +1,0 @@
-pub mod Draws
-pub mod Words
-pub mod Rows
-pub mod Alone
