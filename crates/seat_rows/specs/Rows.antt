@@ -1,5 +1,5 @@
 -- What a row of steps leaves, whatever it answers, and what it costs.
-use Rattle.std.specs.Prelude.{◌≡◌, ◌≢◌, ◌<◌, ◌≤◌, ℕ, ◌⊎◌, get_or, None, Some}
+use Rattle.std.specs.Prelude.{◌≡◌, ◌≢◌, ◌<◌, ◌≤◌, ℕ, ◌+◌, ◌⊎◌, get_or, None, Some}
 use Rattle.line_memory.specs.Marks.{IsMarked}
 use Rattle.core_model.specs.Effects.{drew}
 use Rattle.core_model.specs.View.{LastLook, View}
