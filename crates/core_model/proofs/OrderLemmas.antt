@@ -1,6 +1,6 @@
 -- Soundness does not depend on the order of the seats.
-use Rattle.std.proofs.Common.{◌≡◌, ℕ, List, Contains, ap, sym, subst, arith}
-use Rattle.heap_model.specs.Counting.{times, total}
+use Rattle.std.proofs.Common.{◌≡◌, ℕ, List, ap, sym, subst, arith}
+use Rattle.heap_model.specs.Counting.{times}
 use Rattle.core_model.specs.Memory.{Memory, memory_of, anchor}
 use Rattle.core_model.specs.Orders.{AreReordered}
 use Rattle.core_model.specs.View.{Setup, View, one_if_some, times_raw, times_classed, times_large, times_block}

@@ -1,5 +1,5 @@
 -- A step that a seat may do in every sound state is one that the rule of the table allows.
-use Rattle.std.proofs.Common.{inl, inr, length-set, ◌≡◌, ℕ, List, true, [], ◌∷◌, get_or, set, refl, ap, sym, subst, ◌∙◌, arith}
+use Rattle.std.proofs.Common.{length-set, ◌≡◌, ℕ, List, [], ◌∷◌, get_or, set, refl, ap, sym, subst, ◌∙◌, arith}
 use Rattle.std.proofs.lemmas.List.{set-get_or, get_or-set_same}
 use Rattle.atomic_table.proofs.Lists.{set_again}
 use mathlib.Core.Option.{some}

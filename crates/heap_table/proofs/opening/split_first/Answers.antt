@@ -1,4 +1,4 @@
-use Rattle.std.proofs.Common.{◌<◌, ap, sym, ◌∙◌, arith}
+use Rattle.std.proofs.Common.{ap, sym, ◌∙◌, arith}
 use Rattle.heap_table.specs.AtTable.{SharedView}
 use Rattle.heap_table.specs.SeatViews.{first_view, other_views}
 use Rattle.heap_table.proofs.DealLemmas.{dealt}
