@@ -1,8 +1,8 @@
 -- What is so of the blocks and roots that a seat holds.
-use Rattle.std.proofs.Common.{◌+◌, ◌≡◌, ◌≢◌, ◌<◌, ◌≤◌, ℕ, inl, inr, nat_le, nat_lt, List, get_or, length, refl, ap, sym, subst, ◌∙◌, le-leb, lt-ltb, arith}
+use Rattle.std.proofs.Common.{◌+◌, ◌≡◌, ◌<◌, ◌≤◌, ℕ, inr, nat_le, nat_lt, get_or, refl, ap, sym, subst, le-leb, lt-ltb, arith}
 use Rattle.heap_model.specs.declared.block.Block.{Block}
 use Rattle.heap_model.specs.Blocks.{AreOneOrApart, layout_of, IsIn}
-use Rattle.heap_model.specs.Counting.{times, total}
+use Rattle.heap_model.specs.Counting.{times}
 use Rattle.heap_model.specs.Geometry.{image_words, largest_capacity, used_word, root_word, roots, start_word}
 use Rattle.heap_model.specs.Image.{Image}
 use Rattle.heap_model.specs.Sizes.{words_of_class}

@@ -1,15 +1,14 @@
 -- What a look at a list, and a pop from it, leave.
-use Rattle.std.proofs.Common.{◌≡◌, ◌≢◌, ◌<◌, ℕ, zero, suc, ◌+◌, ◌-◌, ◌⊎◌, inl, inr, Bool, get_or, length, set, Option, None, Some, refl, ap, sym, subst, ◌∙◌, arith}
+use Rattle.std.proofs.Common.{◌≡◌, ◌≢◌, ◌<◌, ℕ, zero, suc, ◌+◌, ◌-◌, ◌⊎◌, inl, inr, Bool, length, set, Option, None, Some, refl, ap, sym, subst, ◌∙◌, arith}
 use Rattle.std.specs.Bool.{⊤}
 use Rattle.std.specs.Prelude.{Result, Ok, Err}
 use Rattle.std.specs.Result.{is_ok}
-use Rattle.std.proofs.lemmas.Bool.{cases_eq}
-use Rattle.std.proofs.lemmas.List.{get_or-set_other, get_or-set_same}
+use Rattle.std.proofs.lemmas.List.{get_or-set_same}
 use Rattle.heap_model.specs.Geometry.{lists}
 use Rattle.heap_model.specs.Words.{head_first}
 use Rattle.core_model.specs.declared.event.Event.TheVariants.{LookHead, LookLink, Pop}
 use Rattle.core_model.specs.Effects.{before, claimed, cleared, drew, look, lost, popped, seen_of, seen_word, used_up, won}
-use Rattle.core_model.specs.View.{LastLook, Setup, Snapshot, View}
+use Rattle.core_model.specs.View.{Setup, Snapshot, View}
 use Rattle.core_model.specs.Cells.{Cell, cell_at}
 use Rattle.core_model.specs.View.{times_own}
 use Rattle.core_model.proofs.QuietLemmas.{own_same}

@@ -26,11 +26,10 @@ use Rattle.seat_lists.specs.Pops.{SeesHead}
 use Rattle.seat_lists.specs.Pushes.{HasMissed, HasPushed, HasSetLink, Pushes, SeesLinked, without_claim_of}
 use Rattle.seat_lists.proofs.PopLemmas.{drawn_as, still_owns}
 use Rattle.seat_rows.specs.Costs.{no_costs, one_draw, one_push}
-use Rattle.seat_rows.specs.Rows.{HasDrawn, Parts, Row, Stops, ViewRow, parts}
+use Rattle.seat_rows.specs.Rows.{HasDrawn, Parts, Stops, ViewRow, parts}
 use Rattle.seat_rows.specs.Words.{IsHeldWord, KeepsWord, times_held}
 use Rattle.seat_rows.proofs.EventLemmas.{move_row, push_lost_row, push_row}
-use Rattle.seat_rows.proofs.StoreLemmas.{row_of_store, store_row}
-use Rattle.seat_rows.proofs.RowLemmas.{row_of, row_then, stops_later, view_row_none, view_row_then, view_row_within}
+use Rattle.seat_rows.proofs.RowLemmas.{stops_later, view_row_none, view_row_then, view_row_within}
 use Rattle.seat_rows.proofs.WordLemmas.{stored_other, word_then}
 
 -- a superblock that may be listed is claimed, and its blocks are not being made
