@@ -1,5 +1,5 @@
 -- What flushing a cache leaves.
-use Rattle.std.proofs.Common.{◌≡◌, ◌≢◌, ◌<◌, ◌≤◌, ℕ, zero, suc, ◌+◌, ◌-◌, ◌*◌, inl, inr, true, false, cond, nat_lt, List, [], ◌∷◌, ◌++◌, length, set, None, refl, ap, sym, subst, ◌∙◌, eq-eqb, length-append, arith}
+use Rattle.std.proofs.Common.{◌≡◌, ◌≢◌, ◌<◌, ◌≤◌, ℕ, zero, suc, ◌+◌, ◌-◌, inl, inr, true, false, cond, nat_lt, List, [], ◌∷◌, ◌++◌, length, set, None, refl, ap, sym, subst, ◌∙◌, eq-eqb, length-append, arith}
 use Rattle.std.specs.Prelude.{Result, Ok, Err, OnOk}
 use Rattle.std.proofs.lemmas.Bool.{cases_eq}
 use Rattle.std.proofs.lemmas.List.{set-set}

@@ -13,7 +13,7 @@ use Rattle.core_model.specs.Cells.{Cell, data_cell, cell_at}
 use Rattle.core_model.specs.Effects.{claimed, given, last_of, learn, lost, seen_of, seen_word, stored, trimmed, used_up, won}
 use Rattle.core_model.specs.Guards.{IsOwn}
 use Rattle.core_model.specs.Memory.{memory_of, info, anchor}
-use Rattle.core_model.specs.View.{Batch, Setup, Snapshot, View, no_batch, one_if_some, times_block, times_classed}
+use Rattle.core_model.specs.View.{Setup, Snapshot, View, no_batch, one_if_some, times_block, times_classed}
 use Rattle.core_model.proofs.PlaceLemmas.{and_is, cell_at_index, pick}
 use Rattle.crash_core.proofs.LiftSteps.{last_there}
 use Rattle.crash_core.proofs.OwnDecision.{within_word}
@@ -30,7 +30,7 @@ use Rattle.seat_rows.specs.Costs.{no_costs, one_draw, one_give}
 use Rattle.seat_rows.specs.Rows.{HasDrawn, Parts, Stops, ViewRow, parts}
 use Rattle.seat_rows.specs.Words.{IsHeldWord, times_held}
 use Rattle.seat_rows.proofs.OnceLemmas.{not_held}
-use Rattle.seat_rows.proofs.EventLemmas.{give_lost_row, give_row}
+use Rattle.seat_rows.proofs.EventLemmas.{give_lost_row}
 use Rattle.seat_rows.proofs.RowLemmas.{stops_later, view_row_none, view_row_then, view_row_within}
 
 pub anchor_looked : (v u w : View) (d anchor : ℕ) → HasDrawn v u → IsEvent (LookAnchor d) u anchor w → HasSeenAnchor d anchor v w

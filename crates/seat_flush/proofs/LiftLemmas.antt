@@ -1,5 +1,5 @@
 -- A block that goes from a cache into the batch.
-use Rattle.std.proofs.Common.{inl, ◌≡◌, ◌≢◌, ◌<◌, ◌≤◌, ℕ, ◌+◌, ◌*◌, ◌-◌, ◌/◌, true, set, length, List, [], ◌∷◌, ◌++◌, Option, None, Some, refl, ap, sym, subst, ◌∙◌, length-append, arith}
+use Rattle.std.proofs.Common.{◌≡◌, ◌≢◌, ◌<◌, ◌≤◌, ℕ, ◌+◌, ◌-◌, ◌/◌, true, set, length, List, [], ◌∷◌, ◌++◌, None, Some, refl, ap, sym, subst, ◌∙◌, length-append, arith}
 use Rattle.std.specs.Bool.{⊤}
 use Rattle.std.specs.Prelude.{Result, Ok, Err, OnOk, IfErr}
 use Rattle.std.proofs.lemmas.List.{get_or-set_same, set-set}
@@ -34,7 +34,7 @@ use Rattle.seat_rows.specs.Words.{KeepsWord}
 use Rattle.seat_rows.proofs.DrawLemmas.{early_words, shifted_is, stops}
 use Rattle.seat_rows.proofs.StoreLemmas.{load_row}
 use Rattle.seat_rows.proofs.RowLemmas.{stops_later, view_row_then, view_row_within}
-use Rattle.seat_rows.proofs.WordLemmas.{learned_word, owns_held, word_then}
+use Rattle.seat_rows.proofs.WordLemmas.{learned_word, word_then}
 use Rattle.seat_lists.proofs.PopLemmas.{drawn_as, still_owns}
 use Rattle.seat_flush.specs.Lifts.{HasLifted, HasLiftedPrefix, IsLifting, lift_costs, with_lifted}
 
