@@ -1,8 +1,7 @@
 //! A seat that allocates by caches.
 
-ghost use Rattle.std.specs.Prelude.{◌≡◌, ◌<◌, ℕ, None, Some, Contains, OnOk, IfErr};
+ghost use Rattle.std.specs.Prelude.{◌≡◌, ℕ, None};
 ghost use Rattle.std.proofs.Props.{props};
-ghost use Rattle.heap_model.specs.Geometry.{roots};
 ghost use Rattle.heap_table.specs.Plays.{HasSoundState};
 ghost use Rattle.heap_rule.specs.Seated.{IsSeatOf};
 
@@ -22,7 +21,6 @@ pub struct CacheSeat<'a, C> {
     small_calls: u64,
     large_calls: u64,
     ghost of: { IsSeatOf shared.now seat } by { Prim.hlevel props },
-    ghost roots_are: { (i : ℕ) → Contains seat.view.roots i → i < roots },
     ghost sound: { ∥ HasSoundState seat.view ∥₁ },
 }
 
@@ -39,14 +37,14 @@ impl<'a, C> Model for CacheSeat<'a, C> {
       refusals = 0;
       refused_bytes = 0;
       refused_looks = no_looks;
-      roots_are = s.roots_are;
       sound = s.sound;
     } };
 }
 
 impl<'a, C: Chance> CacheSeat<'a, C> {
-    ghost use Rattle.std.specs.Prelude.{◌≡◌, ◌<◌, ℕ, None, Some, Contains};
-    ghost use Rattle.heap_model.specs.Geometry.{roots};
+    ghost use Rattle.std.specs.Prelude.{◌≡◌, ℕ, None, OnOk, IfErr};
+    ghost use Rattle.seat_flush.specs.Flushes.{HasFlushed};
+    ghost use Rattle.seat_rows.specs.Rows.{Stops};
     ghost use Rattle.heap_rule.specs.Seated.{IsSeatOf};
     ghost use Rattle.seat_view.specs.CacheState.{heap_view};
     ghost use Rattle.heap_seat.specs.Words.{IsOwn, KeepsOwn, KeepsPending};
@@ -55,7 +53,6 @@ impl<'a, C: Chance> CacheSeat<'a, C> {
     /// Makes a seat of a heap one that allocates.
     pub fn new(shared: &'a Shared, seat: Seat, chance: C) -> CacheSeat<'a, C>
         requires is_of { IsSeatOf shared.now seat }
-        requires roots_are { (i : ℕ) → Contains seat.view.roots i → i < roots }
         requires going { seat.view.stopped ≡ None }
         ensures { result.view ≡ seat.view }
     {
@@ -73,6 +70,8 @@ impl<'a, C: Chance> CacheSeat<'a, C> {
     pub fn flush_class(&mut self, class: SizeClass) -> Result<(), Stopped>
         requires going { self.old.view.stopped ≡ None }
         requires no_batch { self.old.view.batch ≡ no_batch }
+        ensures flushed { OnOk result (HasFlushed class.number self.old.view self.new.view) }
+        ensures stopped { IfErr result (λ e. Stops e.step self.old.view self.new.view) }
         ensures kept { KeepsOwn (heap_view self.old) (heap_view self.new) }
         ensures pending { (word : ℕ)
             → IsOwn (heap_view self.old).held self.old.view.roots word

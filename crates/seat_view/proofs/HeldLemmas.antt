@@ -5,12 +5,11 @@ use Rattle.std.proofs.Math.Logic.{∥∥₁_elim}
 use Rattle.std.proofs.lemmas.Bool.{cases_eq}
 use Rattle.std.proofs.lemmas.List.Elements.{Contains-append_cases}
 use Rattle.heap_model.specs.declared.block.Block.{Block}
-use Rattle.heap_model.specs.Blocks.{IsIn, AreOneOrApart, layout_of}
+use Rattle.heap_model.specs.Blocks.{IsIn, AreOneOrApart}
 use Rattle.heap_model.specs.Counting.{times}
-use Rattle.heap_model.specs.Geometry.{fixed_words, roots, start_word, superblock_words, image_words, capacity_word, used_word, largest_capacity}
+use Rattle.heap_model.specs.Geometry.{fixed_words, roots, start_word, superblock_words, image_words, largest_capacity}
 use Rattle.heap_model.specs.Image.{Image}
 use Rattle.heap_model.specs.Sizes.{words_of_class}
-use Rattle.heap_model.proofs.BlockLemmas.{block_inside, block_words, never_overlap}
 use Rattle.heap_model.proofs.CountingLemmas.{one_if_true}
 use Rattle.heap_model.proofs.DecisionLemmas.{at_most, both}
 use Rattle.heap_model.proofs.PartLemmas.{same_fields}
@@ -19,20 +18,18 @@ use Rattle.heap_seat.specs.Sound.{IsSeat, IsPlaced}
 use Rattle.heap_seat.specs.Words.{IsOwn as IsOwnWord, in_block, in_root, HasPicked, KeepsOwn, KeepsPending, MayBe, MayRead, MixesOwn, NamesAll}
 use Rattle.core_model.specs.Cells.{Cell, cell_at, data_cell, root_cell, superblock_at}
 use Rattle.core_model.specs.Effects.{span_count}
-use Rattle.core_model.specs.Held.{IsHeld, a_small, a_large, volatile_image}
+use Rattle.core_model.specs.Held.{IsHeld, a_small, a_large}
 use Rattle.core_model.specs.View.{Span, View, Setup, takes, times_large, known}
-use Rattle.core_model.proofs.PlaceLemmas.{and_is, cell_at_index, pick}
+use Rattle.core_model.proofs.PlaceLemmas.{and_is, cell_at_index}
 use Rattle.core_model.proofs.TotalLemmas.{eq-eqb-one}
 use Rattle.crash_core.proofs.OwnDecision.{in_classes_word}
-use Rattle.heap_rule.specs.Images.{IsImageOf, HasPickedRecords}
+use Rattle.heap_rule.specs.Images.{HasPickedRecords}
+use Rattle.heap_rule.specs.Left.{Lasts, MayBeLeft, mixed, crashed, closed}
+use Rattle.heap_rule.proofs.CrashLemmas.{left_mixes, left_named}
+use Rattle.heap_rule.proofs.HeldLemmas.{block_words_own, held_apart, held_placed, one_large, root_own}
+use Rattle.core_model.proofs.LinkFrameLemmas.{span_covers}
 use Rattle.heap_table.specs.Plays.{HasSoundState}
-use Rattle.heap_rule.proofs.SeatImageLemmas.{image_mixes, image_names, picked_image}
-use Rattle.core_model.proofs.OwnLemmas.{one_at_most}
-use Rattle.core_model.proofs.TotalLemmas.{total_at}
-use Rattle.core_model.specs.Memory.{memory_of, used}
-use Rattle.heap_model.specs.Header.{capacity_of, used_of}
-use Rattle.heap_model.specs.Blocks.{IsBlock}
-use Rattle.heap_rule.proofs.SeatImageLemmas.{image_fixed}
+use Rattle.heap_rule.proofs.SeatImageLemmas.{picked_image}
 use Rattle.line_memory.specs.Marks.{mark_at, marked_words}
 use Rattle.line_memory.specs.Marked.{marked_words-has, marked_words-only}
 use Rattle.heap_rule.specs.Seated.{SeatView}
@@ -146,104 +143,85 @@ contains_times (y ∷ xs) x c = elim (contains_cons y x xs c.0 c.1 c.2) [
   | inr more ↦ let r = contains_times xs x more in omega arith
 ]
 
--- the superblocks of a span
-span_takes : (d n e : ℕ) (spans : List Span) → span_count d spans ≡ n → 0 < n → d ≤ e → e < d + n → 0 < times_large e spans
-span_takes d n e [] is some from until = absurd (omega arith)
-span_takes d n e (span ∷ spans) is some from until = elim (cases_eq span.first d) [
-  | inl same ↦ let count : span.count ≡ n = sym (ap (λ t. cond t span.count (span_count d spans)) (eq-eqb span.first d same)) ∙ is in
-      let one = one_if_true (takes e span) (and_is (nat_le span.first e) (nat_lt e (span.first + span.count)) (le-leb span.first e (omega arith)) (lt-ltb e (span.first + span.count) (omega arith))) in omega arith
-  | inr other ↦ let rest = span_takes d n e spans (sym (ap (λ t. cond t span.count (span_count d spans)) (ne_eqb span.first d other)) ∙ is) some from until in omega arith
-]
-
 may_of : (o : Option ℕ) (x : ℕ) → ((value : ℕ) → o ≡ Some value → x ≡ value) → MayBe o x
 may_of None x is = tt
 may_of (Some y) x is = is y refl
 
 module _ (v : View) (s : HasSoundState v) where
-  once_large : (d : ℕ) → times_large d v.large ≤ 1
-  once_large d = let large = total_at (λ (x : View). times_large d x.large) s.views s.seat v s.below s.at in
-      let p = s.sound.good.shaped.placed.one_place d in let one = one_at_most (nat_lt d (used (memory_of v.setup.capacity s.words))) in omega arith
-
   pub held_is : (b : Block) → Contains (held_blocks v) b → IsHeld v b
   held_is b c = elim (Contains-append_cases (small_blocks 0 v.small) (large_blocks v.setup.capacity v.large) b c) [
     | inl small ↦ let h = small_there 0 v.small b small in
         subst (IsHeld v) (same_fields (record { first_word = b.first_word; words = words_of_class h.n }) b refl (ap words_of_class (let e : h.n ≡ 0 + h.n = omega arith in e) ∙ sym h.words)) (a_small h.n b.first_word h.there)
-    | inr large ↦ let h = large_there v.setup.capacity v.large b once_large ((s.sound.good.claims s.seat v s.below s.at).some) large in
+    | inr large ↦ let h = large_there v.setup.capacity v.large b (one_large v s) ((s.sound.good.claims s.seat v s.below s.at).some) large in
         subst (IsHeld v) (same_fields (record { first_word = start_word v.setup.capacity h.d; words = superblock_words * span_count h.d v.large }) b (sym h.first) (sym h.words)) (a_large h.d (span_count h.d v.large) h.count refl)
   ]
 
-  -- the volatile words are an image of the seat
-  abbrev image : Image
-  image = volatile_image v.setup.capacity s.words
-
-  is_image : IsImageOf v image
-  is_image = record { has = s; mixed = record { each = λ word. inl refl } }
-
-  pub held_block : (b : Block) → IsHeld v b → IsBlock (layout_of image) b
-  held_block b held = (image_names v image is_image b held).block
-
-  image_capacity : capacity_of image ≡ v.setup.capacity
-  image_capacity = (image_fixed v image is_image).each capacity_word (inl (omega arith)) ∙ s.sound.capacity
-
-  image_used : used_of image ≤ v.setup.capacity
-  image_used = let room = s.sound.good.shaped.durable.room in
-      let is = pick (nat_lt used_word (image_words v.setup.capacity)) (get_or s.words used_word 0) 0 (lt-ltb used_word (image_words v.setup.capacity) (omega arith)) in omega arith
-
-  pub held_range : (b : Block) → IsHeld v b → (start_word v.setup.capacity 0 ≤ b.first_word) × (b.first_word + b.words ≤ image_words v.setup.capacity)
-  held_range b held = let r = block_inside (layout_of image) b (held_block b held) in let low = r.0 in let high = r.1 in let c = image_capacity in let u = image_used in (omega arith, omega arith)
-
-  pub held_placed : (b : Block) → Contains (held_blocks v) b → IsPlaced b
+  pub placed_block : (b : Block) → Contains (held_blocks v) b → IsPlaced b
   unfolding largest_capacity
-  held_placed b c = let held = held_is b c in let r = held_range b held in let low = r.0 in let high = r.1 in let two = block_words (layout_of image) b (held_block b held) in
+  placed_block b c = let placed = held_placed v s b (held_is b c) in let from = placed.from in let until = placed.until in let low = placed.low in let some = placed.some in
       let small = s.sound.good.small in record { behind = omega arith; some = omega arith; short = omega arith }
 
-  pub held_apart : (a b : Block) → Contains (held_blocks v) a → Contains (held_blocks v) b → AreOneOrApart a b
-  held_apart a b in_a in_b = never_overlap (layout_of image) a b (held_block a (held_is a in_a)) (held_block b (held_is b in_b))
+  pub apart_blocks : (a b : Block) → Contains (held_blocks v) a → Contains (held_blocks v) b → AreOneOrApart a b
+  apart_blocks a b in_a in_b = held_apart v s a b (held_is a in_a) (held_is b in_b)
+
+  pub root_below : (i : ℕ) → Contains v.roots i → i < roots
+  root_below i c = (s.sound.good.set_up s.seat v s.below s.at).roots i (contains_times v.roots i c)
 
   -- the words of held blocks are so for the core
   block_word : (b : Block) → IsHeld v b → (word : ℕ) → IsIn b word → 0 < times_held v (data_cell word)
   block_word b (a_small class first there) word within = let from = within.from in let until = within.until in
       let own = in_classes_word word first 0 class v.small from (let e = ap words_of_class (let p : class ≡ 0 + class = omega arith in p) in omega arith) there in omega arith
   block_word b (a_large d n some count) word within = let from = within.from in let until = within.until in
-      let own = span_takes d n (superblock_at v.setup.capacity word) v.large count some (omega arith) (omega arith) in omega arith
+      let own = span_covers d (superblock_at v.setup.capacity word) v.large (omega arith) (omega arith) (omega arith) in omega arith
 
-  pub word_held : (word : ℕ) → ((i : ℕ) → Contains v.roots i → i < roots) → IsOwnWord (held_blocks v) v.roots word → IsHeldWord v word
-  word_held word small (in_block b w c within) = let held = held_is b c in let r = held_range b held in let low = r.0 in let high = r.1 in let from = within.from in let until = within.until in
+  pub word_held : (word : ℕ) → IsOwnWord (held_blocks v) v.roots word → IsHeldWord v word
+  word_held word (in_block b w c within) = let placed = held_placed v s b (held_is b c) in let low = placed.from in let high = placed.until in let most = placed.low in let from = within.from in let until = within.until in
       subst (λ (cell : Cell). 0 < times_held v cell) (sym (cell_at_index v.setup.capacity (data_cell word)
       (and_is (nat_le (start_word v.setup.capacity 0) word) (nat_lt word (image_words v.setup.capacity)) (le-leb (start_word v.setup.capacity 0) word (omega arith)) (lt-ltb word (image_words v.setup.capacity) (omega arith)))))
-      (block_word b held word within)
-  word_held word small (in_root i w c is) = subst (λ n. IsHeldWord v n) (sym is)
-      (subst (λ (cell : Cell). 0 < times_held v cell) (sym (cell_at_index v.setup.capacity (root_cell i) (lt-ltb i roots (small i c)))) (contains_times v.roots i c))
+      (block_word b (held_is b c) word within)
+  word_held word (in_root i w c is) = subst (λ n. IsHeldWord v n) (sym is)
+      (subst (λ (cell : Cell). 0 < times_held v cell) (sym (cell_at_index v.setup.capacity (root_cell i) (lt-ltb i roots (root_below i c)))) (contains_times v.roots i c))
+
+  -- a crash leaves it as it is durable
+  pub word_lasts : (word : ℕ) → IsOwnWord (held_blocks v) v.roots word → Lasts (cell_at v.setup.capacity word)
+  word_lasts word (in_block b w c within) = (block_words_own v s b (held_is b c) word within).1
+  word_lasts word (in_root i w c is) = subst (λ n. Lasts (cell_at v.setup.capacity n)) (sym is) (root_own v i (root_below i c) (contains_times v.roots i c)).1
 
   pub stop_told : (ticket : ℕ) → v.stopped ≡ Some ticket → (v.setup.budget ≤ ticket) × (next_of v ≡ ticket + 1)
   stop_told ticket at = let told = (s.sound.good.tickets s.seat v s.below s.at).state.stopping ticket at in (told.0, ap after_ticket told.1)
 
 pub seat_law : (s : CacheState) → IsSeat (heap_view s)
 seat_law s = record {
-  placed = λ b c. decided (is_placed b) (λ (has : HasSoundState s.view). held_placed s.view has b c) s.sound;
-  apart = λ a b in_a in_b. decided (one_or_apart a b) (λ (has : HasSoundState s.view). held_apart s.view has a b in_a in_b) s.sound;
-  roots_are = s.roots_are;
+  placed = λ b c. decided (is_placed b) (λ (has : HasSoundState s.view). placed_block s.view has b c) s.sound;
+  apart = λ a b in_a in_b. decided (one_or_apart a b) (λ (has : HasSoundState s.view). apart_blocks s.view has a b in_a in_b) s.sound;
+  roots_are = λ i c. decided (at_most (suc i) roots) (λ (has : HasSoundState s.view). root_below s.view has i c) s.sound;
   stopping = λ ticket at. decided (both (at_most s.view.setup.budget ticket) (cases_eq (next_of s.view) (ticket + 1))) (λ (has : HasSoundState s.view). stop_told s.view has ticket at) s.sound;
 }
 
 -- an own word is a held one
 own_held : (s : CacheState) (word : ℕ) → IsOwnWord (held_blocks s.view) s.view.roots word → IsHeldWord s.view word
-own_held s word own = decided (at_most 1 (times_held s.view (cell_at s.view.setup.capacity word))) (λ (has : HasSoundState s.view). word_held s.view has word s.roots_are own) s.sound
+own_held s word own = decided (at_most 1 (times_held s.view (cell_at s.view.setup.capacity word))) (λ (has : HasSoundState s.view). word_held s.view has word own) s.sound
 
-pub named_law : (s : CacheState) (image : Image) → IsImageOf s.view image → NamesAll image (heap_view s).held
-named_law s image is b c = image_names s.view image is b (held_is s.view is.has b c)
+-- some sound state has the view of what is left
+left_state : (v : View) (image : Image) → MayBeLeft v image → HasSoundState v
+left_state v image (mixed is) = is.has
+left_state v image (crashed is) = is.has
+left_state v image (closed is) = is.has
 
-pub mixed_law : (s : CacheState) (image : Image) → IsImageOf s.view image → MixesOwn (heap_view s) image
+pub named_law : (s : CacheState) (image : Image) → MayBeLeft s.view image → NamesAll image (heap_view s).held
+named_law s image is b c = left_named s.view image is b (held_is s.view (left_state s.view image is) b c)
+
+pub mixed_law : (s : CacheState) (image : Image) → MayBeLeft s.view image → MixesOwn (heap_view s) image
 mixed_law s image is = record {
   each = λ word own. let has = owns_held s.view word (own_held s word own) in
-      elim ((image_mixes s.view image is).each word has) as (λ _. MayRead (heap_view s) word (image word)) [
+      elim ((left_mixes s.view image is).each word has (word_lasts s.view (left_state s.view image is) word own)) as (λ _. MayRead (heap_view s) word (image word)) [
         | inl volatile ↦ inl (may_of (seen_at s.view word) (image word) (λ value e. volatile value (at_cell s.view word has s.view.volatile ∙ e)))
         | inr durable ↦ inr (may_of (left_at s.view word) (image word) (λ value e. durable value (at_cell s.view word has s.view.durable ∙ e)))
       ];
 }
 
-pub may_be_law : (s : CacheState) (choice : ℕ → Bool) → ∥ ((image : Image) × IsImageOf s.view image × HasPicked (heap_view s) choice image) ∥₁
-may_be_law s choice = ∥∥₁_elim s.sound (λ a b. squash₁ a b) (λ (has : HasSoundState s.view). let p = picked_image s.view has choice in ∣ (p.0, p.1, record { each = λ word value own e. by_choice word value own p.0 p.2 (choice word) refl e }) ∣₁) where
+pub may_be_law : (s : CacheState) (choice : ℕ → Bool) → ∥ ((image : Image) × MayBeLeft s.view image × HasPicked (heap_view s) choice image) ∥₁
+may_be_law s choice = ∥∥₁_elim s.sound (λ a b. squash₁ a b) (λ (has : HasSoundState s.view). let p = picked_image s.view has choice in ∣ (p.0, mixed p.1, record { each = λ word value own e. by_choice word value own p.0 p.2 (choice word) refl e }) ∣₁) where
   by_choice : (word value : ℕ) → IsOwnWord (held_blocks s.view) s.view.roots word → (pic : Image) → HasPickedRecords s.view choice pic → (test : Bool) → choice word ≡ test
       → cond (choice word) (seen_at s.view word) (left_at s.view word) ≡ Some value → pic word ≡ value
   by_choice word value own pic records true is e = let has = owns_held s.view word (own_held s word own) in

@@ -1,7 +1,7 @@
 -- What contracts see of a heap's seat that is a seat of the core.
-use Rattle.std.specs.Prelude.{◌≡◌, ℕ, ◌+◌, ◌*◌, Bool, List, [], ◌∷◌, ◌++◌, get_or, Contains, ◌<◌}
+use Rattle.std.specs.Prelude.{◌≡◌, ℕ, ◌+◌, ◌*◌, Bool, List, [], ◌∷◌, ◌++◌, get_or}
 use Rattle.heap_model.specs.declared.block.Block.{Block}
-use Rattle.heap_model.specs.Geometry.{roots, start_word, superblock_words}
+use Rattle.heap_model.specs.Geometry.{start_word, superblock_words}
 use Rattle.heap_model.specs.Sizes.{words_of_class}
 use Rattle.heap_seat.specs.declared.fault.Looks.{Looks}
 use Rattle.heap_seat.specs.declared.look.Look.{Look}
@@ -21,8 +21,7 @@ pub record CacheState : Type 0 where
   pub refusals : ℕ
   pub refused_bytes : ℕ
   pub refused_looks : Looks
-  -- its roots are roots, and some sound state has the view
-  pub roots_are : (i : ℕ) → Contains view.roots i → i < roots
+  -- some sound state has the view
   pub sound : ∥ HasSoundState view ∥₁
 
 -- the blocks of a class by their first words, and those of all classes from one on

@@ -4,22 +4,23 @@ ghost use Rattle.std.specs.Prelude.{◌≡◌, ℕ, Bool};
 ghost use Rattle.heap_model.specs.Image.{Image};
 ghost use Rattle.heap_seat.specs.Sound.{IsSeat};
 ghost use Rattle.heap_seat.specs.Words.{HasPicked, IsOwn, KeepsOwn, KeepsPending, MixesOwn, NamesAll};
-ghost use Rattle.heap_rule.specs.Images.{IsImageOf};
+ghost use Rattle.heap_rule.specs.Left.{MayBeLeft};
 ghost use Rattle.heap_rule.specs.Seated.{SeatView};
 ghost use Rattle.seat_rows.specs.Costs.{Costs};
 ghost use Rattle.seat_rows.specs.Rows.{Row};
 ghost use Rattle.seat_view.specs.CacheState.{CacheState, IsStateOf, heap_view};
 
-/// A heap's seat that is one of the core keeps the laws of such seats; and a row of steps that
-/// leaves held blocks alone keeps its own words, and their pending write-backs.
+/// A heap's seat that is one of the core keeps the laws of such seats, whatever is left of it: a
+/// mixture of volatile and durable words, or what a crash leaves, or a close; and a row of steps
+/// that leaves held blocks alone keeps its own words, and their pending write-backs.
 pub fn a_seat_of_the_core_is_a_seat_of_a_heap()
     ensures seat { (s : CacheState) → IsSeat (heap_view s) }
-    ensures mixed { (s : CacheState) (image : Image) → IsImageOf s.view image
+    ensures mixed { (s : CacheState) (image : Image) → MayBeLeft s.view image
         → MixesOwn (heap_view s) image }
-    ensures named { (s : CacheState) (image : Image) → IsImageOf s.view image
+    ensures named { (s : CacheState) (image : Image) → MayBeLeft s.view image
         → NamesAll image (heap_view s).held }
-    ensures may_be { (s : CacheState) (pick : ℕ → Bool) → ∥ ((image : Image) × IsImageOf s.view image
-        × HasPicked (heap_view s) pick image) ∥₁ }
+    ensures may_be { (s : CacheState) (pick : ℕ → Bool) → ∥ ((image : Image)
+        × MayBeLeft s.view image × HasPicked (heap_view s) pick image) ∥₁ }
     ensures kept { (costs : Costs) (s t : CacheState) (v w : SeatView) → IsStateOf s v
         → IsStateOf t w → Row costs v w → KeepsOwn (heap_view s) (heap_view t) }
     ensures pending { (costs : Costs) (s t : CacheState) (v w : SeatView) → IsStateOf s v
