@@ -1,0 +1,12 @@
+//! Tests of calls over seats that other tests do not reach: the list of free superblocks, the flush
+//! of a cache, a seat that allocates by caches, and marks by number.
+#![tactic(auto)]
+
+#[cfg(test)]
+mod fixtures;
+#[cfg(test)]
+mod flushing;
+#[cfg(test)]
+mod marking;
+#[cfg(test)]
+mod popping;
