@@ -1,38 +1,62 @@
 -- An empty heap is at rest.
-use Rattle.std.proofs.Common.{◌≡◌, ℕ, zero, suc, ◌+◌, ◌-◌, ◌*◌, ◌≤◌, inl, inr, List, [], length, slice_index, slice_set, replicate, refl, sym, arith}
+use Rattle.std.proofs.Common.{◌≡◌, ℕ, zero, suc, ◌+◌, ◌-◌, ◌*◌, ◌<◌, ◌≤◌, inl, inr, List, [], ◌++◌, length, slice_index, slice_set, replicate, refl, ap, ◌∙◌, sym, arith}
 use Rattle.std.proofs.lemmas.Bool.{cases_lt, ltb-true}
-use Rattle.std.proofs.lemmas.List.{length-replicate, get_or-replicate, get_or_past}
-use Rattle.heap_model.specs.Geometry.{magic, version, clean, largest_capacity, image_words, info_word, anchor_word, link_word}
-use Rattle.heap_model.specs.Header.{empty_words, IsWellFormed, used_of}
+use Rattle.std.proofs.lemmas.List.{length-replicate, length-append, get_or-replicate, get_or_append_left, get_or-append_right}
+use Rattle.heap_model.specs.Geometry.{magic, version, clean, largest_capacity, roots, image_words, old_image_words, kind_word, info_word, anchor_word, link_word}
+use Rattle.heap_model.specs.Header.{empty_words, first_kinds, IsWellFormed, capacity_of, used_of}
 use Rattle.heap_model.specs.Rest.{IsShaped, IsReady}
 use Rattle.heap_model.proofs.MemberLemmas.{in_none}
 use Rattle.heap_model.proofs.CountingLemmas.{one_if_false}
 
--- all words but the first four are 0
-pub empty_word : (capacity word : ℕ) → 4 ≤ word → slice_index (empty_words capacity) word ≡ 0
-unfolding empty_words
-empty_word capacity zero behind = absurd (omega arith)
-empty_word capacity (suc zero) behind = absurd (omega arith)
-empty_word capacity (suc (suc zero)) behind = absurd (omega arith)
-empty_word capacity (suc (suc (suc zero))) behind = absurd (omega arith)
-empty_word capacity (suc (suc (suc (suc i)))) behind = elim (cases_lt i (image_words capacity - 4)) as (λ _. slice_index (replicate (image_words capacity - 4) 0) i ≡ 0) [
-  | inl inside ↦ get_or-replicate {A = ℕ} (image_words capacity - 4) i 0 0 inside
-  | inr past ↦ get_or_past (replicate (image_words capacity - 4) 0) i 0 (let long = length-replicate {A = ℕ} (image_words capacity - 4) 0 in omega arith)
-]
+length-first_kinds : length first_kinds ≡ roots
+unfolding first_kinds
+length-first_kinds = refl
 
--- zeros with the first four words set
-pub empty_by_sets : (capacity count : ℕ) → count ≡ image_words capacity
-    → slice_set (slice_set (slice_set (slice_set (replicate count 0) 0 magic) 1 version) 2 capacity) 3 clean ≡ empty_words capacity
+-- the words but the first four, up to the kinds, are 0
+pub empty_word : (capacity word : ℕ) → 4 ≤ word → word < old_image_words capacity → slice_index (empty_words capacity) word ≡ 0
 unfolding empty_words
-empty_by_sets capacity count is = let four : count ≡ suc (suc (suc (suc (image_words capacity - 4)))) = omega arith in rw four refl
+empty_word capacity zero behind below = absurd (omega arith)
+empty_word capacity (suc zero) behind below = absurd (omega arith)
+empty_word capacity (suc (suc zero)) behind below = absurd (omega arith)
+empty_word capacity (suc (suc (suc zero))) behind below = absurd (omega arith)
+empty_word capacity (suc (suc (suc (suc i)))) behind below =
+    let long = length-replicate {A = ℕ} (old_image_words capacity - 4) 0 in
+    get_or_append_left (replicate (old_image_words capacity - 4) 0) first_kinds 0 i (omega arith)
+    ∙ get_or-replicate {A = ℕ} (old_image_words capacity - 4) i 0 0 (omega arith)
+
+-- and behind them stand the kinds
+pub empty_kind : (capacity i : ℕ) → slice_index (empty_words capacity) (kind_word capacity i) ≡ slice_index first_kinds i
+unfolding empty_words
+empty_kind capacity i =
+    let long = length-replicate {A = ℕ} (old_image_words capacity - 4) 0 in
+    let behind : kind_word capacity i ≡ suc (suc (suc (suc (old_image_words capacity - 4 + i)))) = omega arith in
+    rw (behind) (get_or-append_right (replicate (old_image_words capacity - 4) 0) first_kinds (old_image_words capacity - 4) (old_image_words capacity - 4 + i) 0 long (omega arith)
+    ∙ ap (λ k. slice_index first_kinds k) (omega arith))
+
+-- zeros with the first four words set, and then the kinds
+pub empty_by_sets : (capacity count : ℕ) → count ≡ old_image_words capacity
+    → slice_set (slice_set (slice_set (slice_set (replicate count 0) 0 magic) 1 version) 2 capacity) 3 clean ++ first_kinds ≡ empty_words capacity
+unfolding empty_words
+empty_by_sets capacity count is = let four : count ≡ suc (suc (suc (suc (old_image_words capacity - 4)))) = omega arith in rw four refl
+
+pub length-empty : (capacity : ℕ) → length (empty_words capacity) ≡ image_words capacity
+unfolding empty_words
+length-empty capacity =
+    let zeros = length-replicate {A = ℕ} (old_image_words capacity - 4) 0 in
+    let kinds = length-first_kinds in
+    let both = length-append (replicate (old_image_words capacity - 4) 0) first_kinds in omega arith
 
 -- an empty image is well formed
 pub empty_formed : (capacity : ℕ) → 1 ≤ capacity → capacity ≤ largest_capacity → IsWellFormed (8 * length (empty_words capacity)) (slice_index (empty_words capacity))
 unfolding empty_words
 empty_formed capacity some small =
-    let long = length-replicate {A = ℕ} (image_words capacity - 4) 0 in
-    let used = empty_word capacity 8 (omega arith) in
+    let long = length-empty capacity in
+    let used = empty_word capacity 8 (omega arith) (omega arith) in
     record { magic_is = refl; version_is = refl; some = some; small = small; length_is = omega arith; state = inl refl; used = omega arith }
+
+pub empty_capacity : (capacity : ℕ) → capacity_of (slice_index (empty_words capacity)) ≡ capacity
+unfolding empty_words
+empty_capacity capacity = refl
 
 -- with nothing taken and nothing held, every list empty
 pub empty_shaped : (capacity : ℕ) → IsShaped (slice_index (empty_words capacity)) []
@@ -40,15 +64,15 @@ empty_shaped capacity = record {
   descriptors = λ list. [];
   full = λ d. 0;
   chains = λ d. [];
-  follows = λ list less. empty_word capacity (16 + list) (omega arith);
-  one_place = λ d. let used = empty_word capacity 8 (omega arith) in
+  follows = λ list less. empty_word capacity (16 + list) (omega arith) (omega arith);
+  one_place = λ d. let used = empty_word capacity 8 (omega arith) (omega arith) in
       sym (one_if_false _ (λ test. let less = ltb-true d (used_of (slice_index (empty_words capacity))) test in omega arith));
   free = λ d some. absurd (omega arith);
   in_class = λ class d is some. absurd (omega arith);
   is_full = λ d some. absurd (omega arith);
   in_large = λ d some. absurd (omega arith);
   one_owner = λ class d index b is some info of. absurd (omega arith);
-  untaken = λ d past less. (empty_word capacity (info_word d) (omega arith), empty_word capacity (anchor_word d) (omega arith), empty_word capacity (link_word d) (omega arith));
+  untaken = λ d past less. let capacity_is = empty_capacity capacity in (empty_word capacity (info_word d) (omega arith) (omega arith), empty_word capacity (anchor_word d) (omega arith) (omega arith), empty_word capacity (link_word d) (omega arith) (omega arith));
 }
 
 pub empty_ready : (capacity : ℕ) → 1 ≤ capacity → capacity ≤ largest_capacity → IsReady (empty_words capacity) []
@@ -60,6 +84,6 @@ empty_ready capacity some small = record {
 }
 
 -- as the words are made: zeros, and then the header
-pub ready_by_sets : (zeros : List ℕ) (capacity count : ℕ) → zeros ≡ replicate count 0 → count ≡ image_words capacity → 1 ≤ capacity → capacity ≤ largest_capacity
-    → IsReady (slice_set (slice_set (slice_set (slice_set zeros 0 magic) 1 version) 2 capacity) 3 clean) []
+pub ready_by_sets : (zeros : List ℕ) (capacity count : ℕ) → zeros ≡ replicate count 0 → count ≡ old_image_words capacity → 1 ≤ capacity → capacity ≤ largest_capacity
+    → IsReady (slice_set (slice_set (slice_set (slice_set zeros 0 magic) 1 version) 2 capacity) 3 clean ++ first_kinds) []
 ready_by_sets zeros capacity count are is some small = rw (are, empty_by_sets capacity count is) (empty_ready capacity some small)

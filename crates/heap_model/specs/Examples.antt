@@ -1,11 +1,11 @@
 -- Worked examples: hand-made images, header causes, sizes, packed words, chains, lists, durability and counts.
-use Rattle.std.specs.Prelude.{◌≡◌, ℕ, List, [], ◌∷◌, refl, Some, None}
+use Rattle.std.specs.Prelude.{◌≡◌, ℕ, List, [], ◌∷◌, take, refl, Some, None}
 use Rattle.std.proofs.Common.{arith, inl, inr}
-use Rattle.heap_model.specs.declared.header.BadHeader.TheVariants.{Short, Length, State, Used}
-use Rattle.heap_model.specs.Geometry.{magic, version, largest_capacity, clean, IsReserved, in_header, in_descriptor}
+use Rattle.heap_model.specs.declared.header.BadHeader.TheVariants.{Short, Version, Capacity, Length, State, Used, Kind}
+use Rattle.heap_model.specs.Geometry.{magic, version, old_version, largest_capacity, clean, IsReserved, in_header, in_descriptor}
 use Rattle.heap_model.specs.Counting.{put, times, total, without, below}
 use Rattle.heap_model.specs.Image.{Image, image_of_bytes, bytes_of_words}
-use Rattle.heap_model.specs.Header.{header_fault, has_fault}
+use Rattle.heap_model.specs.Header.{header_fault, has_fault, kinds_of, first_kinds}
 use Rattle.heap_model.specs.Sizes.{class_sizes, size_of, blocks_of, span_of}
 use Rattle.heap_model.specs.Words.{anchor_of, anchor_state, anchor_first, anchor_count, partial_state, head_of, head_first, head_pops}
 use Rattle.heap_model.specs.Chains.{Follows, Walks, after}
@@ -27,32 +27,86 @@ magic_text = refl
 magic_number : image_of_bytes (0x31 ∷ 0x30 ∷ 0x43 ∷ 0x4f ∷ 0x4c ∷ 0x4c ∷ 0x41 ∷ 0x52 ∷ []) 0 ≡ magic
 magic_number = refl
 
--- an image is good at its exact length alone
-good_length : header_fault 74112 (formatted 1 []) ≡ None
+-- an image is good at its exact length alone, 82,304 bytes for one superblock
+good_length : header_fault None 82304 (formatted 1 []) ≡ None
 unfolding header_fault has_fault largest_capacity
 good_length = refl
 
-one_byte_less : header_fault 74111 (formatted 1 []) ≡ Some Length
+one_byte_less : header_fault None 82303 (formatted 1 []) ≡ Some Length
 unfolding header_fault has_fault largest_capacity
 one_byte_less = refl
 
-one_word_more : header_fault 74120 (formatted 1 []) ≡ Some Length
+one_word_more : header_fault None 82312 (formatted 1 []) ≡ Some Length
 unfolding header_fault has_fault largest_capacity
 one_word_more = refl
 
+-- one of the old version has no kinds, and is shorter by 1,024 words
+abbrev pub of_old_version : ℕ → List (ℕ × ℕ) → Image
+of_old_version capacity words = put (formatted capacity words) 1 old_version
+
+good_old_length : header_fault (Some 3) 74112 (of_old_version 1 []) ≡ None
+unfolding header_fault has_fault largest_capacity
+good_old_length = refl
+
+with_kinds : header_fault None 82304 (of_old_version 1 []) ≡ Some Length
+unfolding header_fault has_fault largest_capacity
+with_kinds = refl
+
+-- 257 superblocks are too many for the old version alone, and 4,097 for both
+too_many_of_old : header_fault None 16875904 (of_old_version 257 []) ≡ Some Capacity
+unfolding header_fault has_fault largest_capacity
+too_many_of_old = refl
+
+many : header_fault None 16875904 (formatted 257 []) ≡ None
+unfolding header_fault has_fault largest_capacity
+many = refl
+
+too_many : header_fault None 268779904 (formatted 4097 []) ≡ Some Capacity
+unfolding header_fault has_fault largest_capacity
+too_many = refl
+
+no_version : header_fault None 82304 (put (formatted 1 []) 1 3) ≡ Some Version
+unfolding header_fault has_fault largest_capacity
+no_version = refl
+
+-- a kind at the limit is bad where there is a limit, and the last one counts as the first
+kind_at_limit : header_fault (Some 3) 82304 (formatted 1 ((9264, 3) ∷ [])) ≡ Some Kind
+unfolding header_fault has_fault largest_capacity
+kind_at_limit = refl
+
+last_kind_at_limit : header_fault (Some 3) 82304 (formatted 1 ((10287, 3) ∷ [])) ≡ Some Kind
+unfolding header_fault has_fault largest_capacity
+last_kind_at_limit = refl
+
+kind_below_limit : header_fault (Some 4) 82304 (formatted 1 ((9264, 3) ∷ [])) ≡ None
+unfolding header_fault has_fault largest_capacity
+kind_below_limit = refl
+
+any_kind : header_fault None 82304 (formatted 1 ((9264, 3) ∷ [])) ≡ None
+unfolding header_fault has_fault largest_capacity
+any_kind = refl
+
 -- without all of header and roots it is too short, whatever it holds
-no_roots : header_fault 8511 (formatted 1 []) ≡ Some Short
+no_roots : header_fault None 8511 (formatted 1 []) ≡ Some Short
 unfolding header_fault has_fault largest_capacity
 no_roots = refl
 
 -- of two causes the first in their order is told
-state_before_used : header_fault 74112 (put (formatted 1 ((8, 2) ∷ [])) 3 0) ≡ Some State
+state_before_used : header_fault None 82304 (put (formatted 1 ((8, 2) ∷ [])) 3 0) ≡ Some State
 unfolding header_fault has_fault largest_capacity
 state_before_used = refl
 
-used_alone : header_fault 74112 (formatted 1 ((8, 2) ∷ [])) ≡ Some Used
+used_before_kind : header_fault (Some 3) 82304 (formatted 1 ((8, 2) ∷ (9264, 3) ∷ [])) ≡ Some Used
 unfolding header_fault has_fault largest_capacity
-used_alone = refl
+used_before_kind = refl
+
+-- the kind of root 9 in an image of one superblock, and the kinds of an empty image
+kind_of_nine : kinds_of (formatted 1 ((9273, 2) ∷ [])) 9 ≡ 2
+kind_of_nine = refl
+
+first_ten_kinds : take 10 first_kinds ≡ 1 ∷ 1 ∷ 1 ∷ 1 ∷ 1 ∷ 1 ∷ 1 ∷ 1 ∷ 0 ∷ 0 ∷ []
+unfolding first_kinds
+first_ten_kinds = refl
 
 -- the largest class has four blocks of 14,336 bytes; one byte more than a superblock takes two
 last_class : size_of 20 ≡ 14336

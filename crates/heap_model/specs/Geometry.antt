@@ -7,17 +7,28 @@ pub use Rattle.heap_model.specs.Sizes.{lists, superblock_words}
 abbrev pub magic : ℕ
 magic = 0x52414C4C4F433031
 
--- the version of the format
+-- the version of the format, and the one before it, which has no kinds of roots
 abbrev pub version : ℕ
-version = 1
+version = 2
+
+abbrev pub old_version : ℕ
+old_version = 1
 
 -- the greatest capacity; the value stands here alone, and of it a proof knows only that it is not past this
 unfoldable pub largest_capacity : ℕ
-largest_capacity = 256
+largest_capacity = 4096
 
 pub largest_capacity_fits : largest_capacity ≤ 4096
 unfolding largest_capacity
 largest_capacity_fits = omega arith
+
+-- the greatest capacity of an image of the old version
+abbrev pub largest_old_capacity : ℕ
+largest_old_capacity = 256
+
+pub old_capacities_fit : largest_old_capacity ≤ largest_capacity
+unfolding largest_capacity
+old_capacities_fit = omega arith
 
 -- the state word of an image that was closed, and of one that was not
 abbrev pub clean : ℕ
@@ -76,9 +87,17 @@ link_word d = 1066 + 8 * d
 abbrev pub start_word : ℕ → ℕ → ℕ
 start_word capacity d = 1064 + 8 * capacity + 8192 * d
 
+-- the words up to the end of the last superblock, which is where an image of the old version ends
+abbrev pub old_image_words : ℕ → ℕ
+old_image_words capacity = 1064 + 8200 * capacity
+
+-- the kind of root i: of what it leads to, by which a filter knows the links there
+abbrev pub kind_word : ℕ → ℕ → ℕ
+kind_word capacity i = 1064 + 8200 * capacity + i
+
 -- the words of a whole image
 abbrev pub image_words : ℕ → ℕ
-image_words capacity = 1064 + 8200 * capacity
+image_words capacity = 2088 + 8200 * capacity
 
 -- a word that has no meaning, in the header or in a descriptor: nothing reads or changes it
 pub data IsReserved (capacity : ℕ) : ℕ → Type 0 where
@@ -86,6 +105,11 @@ pub data IsReserved (capacity : ℕ) : ℕ → Type 0 where
       → (word < head_word 0) ⊎ (head_word (lists - 1) < word) → IsReserved capacity word
   in_descriptor : (d at word : ℕ) → d < capacity → 3 ≤ at → at < 8 → word ≡ info_word d + at → IsReserved capacity word
 
--- a word that no step on an open heap changes: the first four of the header, and those without a meaning; kinds of roots, once an image stores them, are such words too
+-- the word has the kind of a root
+pub record IsKindWord (capacity word : ℕ) : Type 0 where
+  pub from : kind_word capacity 0 ≤ word
+  pub until : word < kind_word capacity roots
+
+-- a word that no step on an open heap changes: the first four of the header, those without a meaning, and the kinds of the roots
 abbrev pub IsFixed : ℕ → ℕ → Type 0
-IsFixed capacity word = (word < 4) ⊎ IsReserved capacity word
+IsFixed capacity word = (word < 4) ⊎ (IsReserved capacity word ⊎ IsKindWord capacity word)

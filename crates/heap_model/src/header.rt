@@ -17,4 +17,6 @@ pub enum BadHeader {
     State,
     /// More superblocks have been taken than there are.
     Used,
+    /// The stored kind of some root is at or above the limit that was given.
+    Kind,
 }

@@ -1,11 +1,11 @@
 //! What follows from the definitions, as functions with nothing to run: a caller cites their
 //! clauses.
 
-ghost use Rattle.std.specs.Prelude.{◌≡◌, ◌≢◌, ◌≤◌, ◌<◌, ◌+◌, ◌*◌, ℕ, Bool, IsTrue, ◌↔◌, None};
+ghost use Rattle.std.specs.Prelude.{◌≡◌, ◌≢◌, ◌≤◌, ◌<◌, ◌+◌, ◌*◌, ℕ, Bool, IsTrue, ◌↔◌, Option, None};
 ghost use Rattle.heap_model.specs.declared.block.Block.{Block};
 ghost use Rattle.heap_model.specs.Geometry.{start_word, image_words};
 ghost use Rattle.heap_model.specs.Image.{Image};
-ghost use Rattle.heap_model.specs.Header.{IsWellFormed, header_fault, empty_words};
+ghost use Rattle.heap_model.specs.Header.{HasGoodHeader, header_fault, empty_words};
 ghost use Rattle.heap_model.specs.Blocks.{Layout, IsBlock, IsBlockOf, AreOneOrApart, layout_of, Names};
 ghost use Rattle.heap_model.specs.Pointers.{IsPointerTo, Leads};
 ghost use Rattle.heap_model.specs.Reach.{Links, AnyRoot, Reach, TracesAlike, IsOutside, IsClosed};
@@ -62,8 +62,8 @@ pub fn reach_is_told_by_what_is_traced()
         → (b : Block) (kind : ℕ) → Reach image kinds links b kind ↔ Reach other kinds links b kind }
 {}
 
-/// A header is well formed exactly where no cause holds.
+/// A header is good, as one of its version, exactly where no cause holds.
 pub fn a_header_is_good_or_has_a_fault()
-    ensures { (bytes : ℕ) (image : Image) → (header_fault bytes image ≡ None)
-        ↔ IsWellFormed bytes image }
+    ensures { (limit : Option ℕ) (bytes : ℕ) (image : Image)
+        → (header_fault limit bytes image ≡ None) ↔ HasGoodHeader limit bytes image }
 {}
