@@ -1,16 +1,31 @@
 -- An empty heap is at rest.
-use Rattle.std.proofs.Common.{◌≡◌, ℕ, zero, suc, ◌+◌, ◌-◌, ◌*◌, ◌<◌, ◌≤◌, inl, inr, List, [], ◌++◌, length, slice_index, slice_set, replicate, refl, ap, ◌∙◌, sym, arith}
-use Rattle.std.proofs.lemmas.Bool.{cases_lt, ltb-true}
-use Rattle.std.proofs.lemmas.List.{length-replicate, length-append, get_or-replicate, get_or_append_left, get_or-append_right}
+use Rattle.std.proofs.Common.{◌≡◌, ℕ, zero, suc, ◌+◌, ◌-◌, ◌*◌, ◌<◌, ◌≤◌, inl, inr, List, [], ◌++◌, length, slice_index, slice_set, replicate, cond, nat_lt, refl, ap, ◌∙◌, sym, arith}
+use Rattle.std.proofs.lemmas.Bool.{cases_lt, ltb-true, lt-ltb, le-ltb}
+use Rattle.std.proofs.lemmas.List.{length-replicate, length-append, get_or_past, get_or-replicate, get_or_append_left, get_or-append_right}
 use Rattle.heap_model.specs.Geometry.{magic, version, clean, largest_capacity, roots, image_words, old_image_words, kind_word, info_word, anchor_word, link_word}
 use Rattle.heap_model.specs.Header.{empty_words, first_kinds, IsWellFormed, capacity_of, used_of}
 use Rattle.heap_model.specs.Rest.{IsShaped, IsReady}
 use Rattle.heap_model.proofs.MemberLemmas.{in_none}
 use Rattle.heap_model.proofs.CountingLemmas.{one_if_false}
 
-length-first_kinds : length first_kinds ≡ roots
+-- among zeros, and behind them, every number is 0
+zero_in_zeros : (n i : ℕ) → slice_index (replicate n 0) i ≡ 0
+zero_in_zeros n i = elim (cases_lt i n) as (λ _. slice_index (replicate n 0) i ≡ 0) [
+  | inl inside ↦ get_or-replicate {A = ℕ} n i 0 0 inside
+  | inr past ↦ get_or_past (replicate n 0) i 0 (let long = length-replicate {A = ℕ} n 0 in omega arith)
+]
+
+pub length-first_kinds : length first_kinds ≡ roots
 unfolding first_kinds
 length-first_kinds = refl
+
+-- the kind of root i
+pub first_kind : (i : ℕ) → slice_index first_kinds i ≡ cond (nat_lt i 8) 1 0
+unfolding first_kinds
+first_kind i = elim (cases_lt i 8) as (λ _. slice_index first_kinds i ≡ cond (nat_lt i 8) 1 0) [
+  | inl low ↦ rw (lt-ltb i 8 low) (get_or_append_left (replicate 8 1) (replicate 1016 0) 0 i (omega arith) ∙ get_or-replicate {A = ℕ} 8 i 1 0 low)
+  | inr high ↦ rw (le-ltb i 8 high) (get_or-append_right (replicate 8 1) (replicate 1016 0) 8 i 0 refl high ∙ zero_in_zeros 1016 (i - 8))
+]
 
 -- the words but the first four, up to the kinds, are 0
 pub empty_word : (capacity word : ℕ) → 4 ≤ word → word < old_image_words capacity → slice_index (empty_words capacity) word ≡ 0

@@ -1,8 +1,8 @@
 //! The word indices that depend on the capacity of an image.
 ghost use Rattle.std.specs.Prelude.{◌≡◌, ◌<◌, ◌≤◌};
-ghost use Rattle.heap_model.specs.Geometry.{largest_capacity, info_word, anchor_word, link_word, start_word, image_words};
+ghost use Rattle.heap_model.specs.Geometry.{largest_capacity, info_word, anchor_word, link_word, start_word, kind_word, roots, image_words, old_image_words};
 
-use crate::layout::{ANCHOR_OFFSET, DESCRIPTOR_WORDS, FIXED_WORDS, LINK_OFFSET, SUPERBLOCK_WORDS};
+use crate::layout::{ANCHOR_OFFSET, DESCRIPTOR_WORDS, FIXED_WORDS, LINK_OFFSET, ROOTS, SUPERBLOCK_WORDS};
 
 /// The layout of an image of `capacity` superblocks. Its superblocks are numbered from 0.
 #[derive(Clone, Copy, PartialEq, Eq, Debug)]
@@ -34,7 +34,23 @@ impl Geometry {
     pub fn length(self) -> u64
         ensures { result ≡ image_words self.capacity }
     {
+        self.old_length() + ROOTS
+    }
+
+    /// How many words an image of the old version has, which are those up to the end of the last
+    /// superblock.
+    pub fn old_length(self) -> u64
+        ensures { result ≡ old_image_words self.capacity }
+    {
         FIXED_WORDS + (DESCRIPTOR_WORDS + SUPERBLOCK_WORDS) * self.capacity
+    }
+
+    /// The word that has the kind of root `i`.
+    pub fn kind(self, i: u64) -> u64
+        requires { i < roots }
+        ensures { result ≡ kind_word self.capacity i }
+    {
+        self.old_length() + i
     }
 
     /// The word that says what superblock `d` holds, the first of its descriptor.

@@ -1,8 +1,9 @@
 //! What ties the numbers of `layout` to the definitions, as a function with nothing to run.
-ghost use Rattle.std.specs.Prelude.{◌≡◌, ◌↔◌, ℕ, ◌+◌, ◌*◌, ◌≤◌};
+ghost use Rattle.std.specs.Prelude.{◌≡◌, ◌↔◌, ℕ, ◌+◌, ◌*◌, ◌≤◌, cond, nat_lt, slice_index};
+ghost use Rattle.heap_model.specs.Header.{first_kinds};
 ghost use Rattle.heap_model.specs.Sizes.{IsClass};
 ghost use Rattle.heap_model.specs.Words.{large_info};
-ghost use Rattle.heap_model.specs.Geometry.{magic, version, largest_capacity, clean, dirty, magic_word, version_word, capacity_word, state_word, used_word, head_word, roots, root_word, lists, line_words, fixed_words, info_word, anchor_word, link_word, superblock_words, start_word, image_words};
+ghost use Rattle.heap_model.specs.Geometry.{magic, version, old_version, largest_capacity, largest_old_capacity, clean, dirty, magic_word, version_word, capacity_word, state_word, used_word, head_word, roots, root_word, lists, line_words, fixed_words, info_word, anchor_word, link_word, superblock_words, start_word, image_words};
 
 use crate::layout::*;
 
@@ -11,6 +12,8 @@ pub fn constants_agree()
     // values
     ensures magic { MAGIC ≡ magic }
     ensures version { VERSION ≡ version }
+    ensures old_version { OLD_VERSION ≡ old_version }
+    ensures largest_old_capacity { LARGEST_OLD_CAPACITY ≡ largest_old_capacity }
     ensures largest_capacity { LARGEST_CAPACITY ≡ largest_capacity }
     ensures longest_image { LONGEST_IMAGE ≡ 8 * image_words largest_capacity }
     ensures clean { CLEAN ≡ clean }
@@ -38,4 +41,8 @@ pub fn constants_agree()
     ensures last_class { (class : ℕ) → IsClass class ↔ ((1 ≤ class) × (class ≤ LAST_CLASS)) }
     ensures start { (capacity d : ℕ) → info_word capacity + SUPERBLOCK_WORDS * d
         ≡ start_word capacity d }
+
+    // what an empty image has for kinds
+    ensures first_kinds { (i : ℕ) → slice_index first_kinds i
+        ≡ cond (nat_lt i ROOTS_OF_KIND_ONE) 1 0 }
 {}

@@ -23,10 +23,13 @@
 //! 1064 + 8 S     superblock 0, of 8192 words                          durable
 //!                superblock 1
 //!                ..
-//! 1064 + 8200 S  the end
+//!                ───────────────────────────────────────────────
+//! 1064 + 8200 S  the kinds of the roots 0 to 1023                     durable
+//! 2088 + 8200 S  the end
 //! ```
 //!
-//! The header's words that have no line here have no meaning and keep what they hold.
+//! The header's words that have no line here have no meaning and keep what they hold. An image of
+//! the old version has no kinds, and ends where its superblocks do.
 
 /// The bytes of a word.
 pub const WORD_BYTES: u64 = 8;
@@ -38,10 +41,16 @@ pub const LINE_WORDS: u64 = 8;
 pub const MAGIC: u64 = 0x5241_4C4C_4F43_3031;
 
 /// The version of the format.
-pub const VERSION: u64 = 1;
+pub const VERSION: u64 = 2;
+
+/// The version before it, which is still read.
+pub const OLD_VERSION: u64 = 1;
 
 /// The greatest number of superblocks that an image may have.
-pub const LARGEST_CAPACITY: u64 = 256;
+pub const LARGEST_CAPACITY: u64 = 4096;
+
+/// The greatest number of superblocks of an image of the old version.
+pub const LARGEST_OLD_CAPACITY: u64 = 256;
 
 /// The state of an image that was closed.
 pub const CLEAN: u64 = 1;
@@ -76,6 +85,9 @@ pub const ROOT_WORD: u64 = 40;
 /// How many roots there are.
 pub const ROOTS: u64 = 1024;
 
+/// How many roots of an empty image have kind 1; the others have kind 0.
+pub const ROOTS_OF_KIND_ONE: u64 = 8;
+
 /// The words of header and roots together; the first descriptor stands behind them.
 pub const FIXED_WORDS: u64 = 1064;
 
@@ -93,7 +105,7 @@ pub const SUPERBLOCK_WORDS: u64 = 8192;
 
 /// The bytes of the longest image.
 pub const LONGEST_IMAGE: u64 = WORD_BYTES
-    * (FIXED_WORDS + (DESCRIPTOR_WORDS + SUPERBLOCK_WORDS) * LARGEST_CAPACITY);
+    * (FIXED_WORDS + (DESCRIPTOR_WORDS + SUPERBLOCK_WORDS) * LARGEST_CAPACITY + ROOTS);
 
 /// The last class: an info of 1 to `LAST_CLASS` is a class.
 pub const LAST_CLASS: u64 = size_table::LAST_CLASS as u64;
