@@ -9,7 +9,7 @@ use Rattle.heap_seat.specs.Rows.{IsRow}
 
 -- no call at all
 pub goes_none : (v : View) → GoesOn v v
-goes_none v = record { capacity = refl; budget = refl; tickets = omega arith; used = omega arith }
+goes_none v = record { capacity = refl; kinds = refl; budget = refl; tickets = omega arith; used = omega arith }
 
 pub looks_none : (v : View) → KeepsLooks v v
 looks_none v = record { used = inl refl; heads = λ list. inl refl }
@@ -30,6 +30,7 @@ row_none v = record {
 pub goes_then : (v u w : View) → GoesOn v u → GoesOn u w → GoesOn v w
 goes_then v u w a b = record {
   capacity = b.capacity ∙ a.capacity;
+  kinds = b.kinds ∙ a.kinds;
   budget = b.budget ∙ a.budget;
   tickets = let p = a.tickets in let q = b.tickets in omega arith;
   used = let p = a.used in let q = b.used in omega arith;

@@ -14,9 +14,10 @@ abbrev pub counted : Option ℕ → ℕ → ℕ
 counted None calls = calls + 1
 counted (Some ticket) calls = calls
 
--- capacity and budget stay, tickets rise, and what is known of `used` doesn't fall
+-- capacity, kinds and budget stay, tickets rise, and what is known of `used` doesn't fall
 pub record GoesOn (v w : View) : Type 0 where
   pub capacity : w.capacity ≡ v.capacity
+  pub kinds : w.kinds ≡ v.kinds
   pub budget : w.budget ≡ v.budget
   pub tickets : v.next ≤ w.next
   pub used : KnowsNoLess v w

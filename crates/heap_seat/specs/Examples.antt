@@ -82,6 +82,7 @@ seat_with look next = record {
   durable = λ word. None;
   pending = [];
   capacity = 2;
+  kinds = [];
   budget = 100;
   next = next;
   stopped = None;
@@ -183,7 +184,7 @@ seat_called calls = record (seat_with (look_with 0 0) 7) { small_calls = calls }
 row_of_two : IsRow 2 0 0 (seat_called 3) (seat_called 5) × (IsRow 1 0 0 (seat_called 3) (seat_called 5) → ⊥)
 row_of_two = (
   record {
-    goes_on = record { capacity = refl; budget = refl; tickets = omega arith; used = omega arith };
+    goes_on = record { capacity = refl; kinds = refl; budget = refl; tickets = omega arith; used = omega arith };
     small_from = omega arith;
     small_few = omega arith;
     large_from = omega arith;

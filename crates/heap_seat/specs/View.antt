@@ -1,5 +1,5 @@
 -- What contracts see of a seat: the part of an open heap that one thread works on.
-use Rattle.std.specs.Prelude.{ℕ, ◌+◌, ◌-◌, List, Option}
+use Rattle.std.specs.Prelude.{ℕ, ◌+◌, ◌-◌, List, Option, slice_index}
 use Rattle.heap_model.specs.declared.block.Block.{Block}
 use Rattle.heap_model.specs.Geometry.{root_word}
 use Rattle.heap_seat.specs.declared.fault.Looks.{Looks}
@@ -16,8 +16,9 @@ pub record View : Type 0 where
   pub durable : ℕ → Option ℕ
   -- pending write-backs: word indices that the next fence makes durable
   pub pending : List ℕ
-  -- how many superblocks the heap has
+  -- how many superblocks the heap has, and the kind of each root
   pub capacity : ℕ
+  pub kinds : List ℕ
   -- the first ticket that allows no step, the least ticket that the seat may still draw, and the ticket at which it stopped
   pub budget : ℕ
   pub next : ℕ
@@ -34,6 +35,10 @@ pub record View : Type 0 where
   -- the last looks at the mark of taken superblocks, and at each list head: 0 is that of the free superblocks, then the classes
   pub used_look : Look
   pub head_look : ℕ → Look
+
+-- the kind of root i
+abbrev pub kind_of : View → ℕ → ℕ
+kind_of v i = slice_index v.kinds i
 
 -- how many steps the budget still allows: it falls with each call that is done, which ends every loop
 abbrev pub left : View → ℕ
