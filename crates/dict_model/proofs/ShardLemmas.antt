@@ -9,7 +9,7 @@ use Rattle.heap_model.specs.Geometry.{root_word}
 use Rattle.heap_model.specs.Pointers.{Leads}
 use Rattle.heap_model.proofs.ReachLemmas.{one_block, not_null}
 use Rattle.dict_model.specs.Nodes.{buckets, shard_of, bucket_of, key_in, value_in, find}
-use Rattle.dict_model.specs.Shards.{Map, Leading, link_behind, IsPath, IsBucketChain, HasTable, HasChains, but, map_of, IsMap, is_empty, has_table, LeadsAstray, IsNext, IsBadAt, at_root, at_link, LeadsOnce, LeadsAlone}
+use Rattle.dict_model.specs.Shards.{Map, Leading, link_behind, IsPath, IsBucketChain, HasTable, HasChains, but, map_of, IsMap, is_empty, has_table, LeadsAstray, IsNext, IsBadAt, at_root, at_link, LeadsOnce, LeadsAlone, MapOf, BadShard, at_kind, in_table}
 
 -- a key is found in the first node if that has it, and else behind
 pub find_first : (image : Image) (key : ℕ) (b : Block) (bs : List Block) → key_in image b ≡ key → find image key (b ∷ bs) ≡ Some (value_in image b)
@@ -186,3 +186,18 @@ leads_once image = record { one = one_block image; null = λ b leads. not_null 0
 
 pub alone_once : (image : Image) (shard : ℕ) → LeadsOnce (LeadsAlone image shard)
 alone_once image shard = record { one = λ word a b p q. one_block image word a b p.0 q.0; null = λ b leads. not_null 0 (8 * b.first_word) leads.0.pointer refl }
+
+-- a shard has one map, or one first bad place, and not both
+pub one_map_of : (image : Image) (shard : ℕ) (a b : Map) → MapOf image shard a → MapOf image shard b → (key : ℕ) → a key ≡ b key
+one_map_of image shard a b is_a is_b = one_map (LeadsAlone image shard) (alone_once image shard) image shard a b is_a.is_map is_b.is_map
+
+pub one_bad_shard : (image : Image) (shard at other : ℕ) → BadShard image shard at → BadShard image shard other → at ≡ other
+one_bad_shard image shard _ _ (at_kind not) (at_kind _) = refl
+one_bad_shard image shard _ other (at_kind not) (in_table _ kind bad) = absurd (not kind)
+one_bad_shard image shard at _ (in_table _ kind bad) (at_kind not) = absurd (not kind)
+one_bad_shard image shard at other (in_table _ _ bad) (in_table _ _ too) =
+    one_bad_place (LeadsAlone image shard) (alone_once image shard) image shard at other bad too
+
+pub no_bad_shard : (image : Image) (shard at : ℕ) (map : Map) → MapOf image shard map → BadShard image shard at → ⊥
+no_bad_shard image shard _ map is (at_kind not) = not is.kind_is
+no_bad_shard image shard at map is (in_table _ _ bad) = no_bad_place (LeadsAlone image shard) (alone_once image shard) image shard map at is.is_map bad

@@ -4,6 +4,7 @@ use Rattle.std.proofs.Common.{arith, ap, subst, sym, ◌∙◌}
 use Rattle.std.proofs.lemmas.Bool.{cond-false, ne_eqb, cond_both}
 use Rattle.heap_model.specs.declared.block.Block.{Block}
 use Rattle.heap_model.specs.Image.{Image}
+use Rattle.heap_model.specs.Header.{kinds_of}
 use Rattle.heap_model.specs.Sizes.{class_sizes, words_of_class, blocks_of}
 use Rattle.heap_model.specs.Blocks.{of_class}
 use Rattle.heap_model.specs.Pointers.{Leads}
@@ -11,10 +12,10 @@ use Rattle.heap_model.specs.Counting.{put}
 use Rattle.heap_model.specs.Geometry.{magic, root_word}
 use Rattle.heap_model.specs.Examples.{formatted, image_with}
 use Rattle.heap_model.specs.Reach.{ReachFrom, by_start}
-use Rattle.dict_model.specs.Links.{dict_links, root_kind}
+use Rattle.dict_model.specs.Links.{dict_links}
 use Rattle.heap_model.proofs.ReachLemmas.{one_block, not_null, closure_least}
 use Rattle.dict_model.specs.Nodes.{shard_of, bucket_of, key_in, IsNode, find}
-use Rattle.dict_model.specs.Shards.{Map, IsBucketChain, has_table, IsBadAt, at_root, at_link, BadShard, HasTable, HasChains, but, map_of, MapOf, LeadsAlone}
+use Rattle.dict_model.specs.Shards.{Map, IsBucketChain, is_empty, has_table, IsBadAt, at_root, at_link, BadShard, at_kind, in_table, HasTable, HasChains, but, map_of, MapOf, LeadsAlone}
 
 -- pointers to word 1080 and to word 9272
 abbrev pub to_table : ℕ
@@ -23,9 +24,9 @@ to_table = 0x52500000000021c0
 abbrev pub to_node : ℕ
 to_node = 0x52500000000121c0
 
--- Two superblocks, cut into blocks of 128 words and of four: what root 0 holds, what word 1080 holds, and these words besides.
+-- Two superblocks, cut into blocks of 128 words and of four: what root 0 holds, what word 1080 holds, and these words besides. Word 17464 has the kind of root 0.
 unfoldable pub shard_with : ℕ → ℕ → List (ℕ × ℕ) → Image
-shard_with root first words = formatted 2 ((8, 2) ∷ (1064, 12) ∷ (1072, 2) ∷ (40, root) ∷ (1080, first) ∷ words)
+shard_with root first words = formatted 2 ((8, 2) ∷ (1064, 12) ∷ (1072, 2) ∷ (40, root) ∷ (1080, first) ∷ (17464, 1) ∷ words)
 
 -- the first block of each
 abbrev pub table : Block
@@ -230,28 +231,29 @@ elsewhere : (f : Image) (at value w : ℕ) → w ≢ at → f w ≡ 0 → put f 
 elsewhere f at value w other null = cond-false (nat_eq w at) value (f w) (ne_eqb w at other) ∙ null
 
 -- all other words are null
-null_word : (root first w : ℕ) → 8 < w → w ≢ 40 → w ≢ 1064 → w ≢ 1072 → w ≢ 1080 → shard_with root first [] w ≡ 0
+null_word : (root first w : ℕ) → 8 < w → w ≢ 40 → w ≢ 1064 → w ≢ 1072 → w ≢ 1080 → w ≢ 17464 → shard_with root first [] w ≡ 0
 unfolding shard_with
-null_word root first w behind a b c d =
-    let e1 = elsewhere (λ _. 0) 1080 first w d refl in
-    let e2 = elsewhere (put (λ _. 0) 1080 first) 40 root w a e1 in
-    let e3 = elsewhere (put (put (λ _. 0) 1080 first) 40 root) 1072 2 w c e2 in
-    let e4 = elsewhere (put (put (put (λ _. 0) 1080 first) 40 root) 1072 2) 1064 12 w b e3 in
-    let words : List (ℕ × ℕ) = (8, 2) ∷ (1064, 12) ∷ (1072, 2) ∷ (40, root) ∷ (1080, first) ∷ [] in
-    let e5 = elsewhere (put (put (put (put (λ _. 0) 1080 first) 40 root) 1072 2) 1064 12) 8 2 w (λ e. omega arith) e4 in
+null_word root first w behind a b c d e =
+    let e0 = elsewhere (λ _. 0) 17464 1 w e refl in
+    let e1 = elsewhere (put (λ _. 0) 17464 1) 1080 first w d e0 in
+    let e2 = elsewhere (put (put (λ _. 0) 17464 1) 1080 first) 40 root w a e1 in
+    let e3 = elsewhere (put (put (put (λ _. 0) 17464 1) 1080 first) 40 root) 1072 2 w c e2 in
+    let e4 = elsewhere (put (put (put (put (λ _. 0) 17464 1) 1080 first) 40 root) 1072 2) 1064 12 w b e3 in
+    let words : List (ℕ × ℕ) = (8, 2) ∷ (1064, 12) ∷ (1072, 2) ∷ (40, root) ∷ (1080, first) ∷ (17464, 1) ∷ [] in
+    let e5 = elsewhere (put (put (put (put (put (λ _. 0) 17464 1) 1080 first) 40 root) 1072 2) 1064 12) 8 2 w (λ e. omega arith) e4 in
     let e6 = elsewhere (image_with words) 3 1 w (λ e. omega arith) e5 in
     let e7 = elsewhere (put (image_with words) 3 1) 2 2 w (λ e. omega arith) e6 in
-    let e8 = elsewhere (put (put (image_with words) 3 1) 2 2) 1 1 w (λ e. omega arith) e7 in
-    elsewhere (put (put (put (image_with words) 3 1) 2 2) 1 1) 0 magic w (λ e. omega arith) e8
+    let e8 = elsewhere (put (put (image_with words) 3 1) 2 2) 1 2 w (λ e. omega arith) e7 in
+    elsewhere (put (put (put (image_with words) 3 1) 2 2) 1 2) 0 magic w (λ e. omega arith) e8
 
 -- so no other root leads anywhere
-alone : (root first : ℕ) (b : Block) (kind : ℕ) → ReachFrom (shard_with root first []) (λ i. i ≢ 0) root_kind dict_links b kind → ⊥
+alone : (root first : ℕ) (b : Block) (kind : ℕ) → ReachFrom (shard_with root first []) (λ i. i ≢ 0) (kinds_of (shard_with root first [])) dict_links b kind → ⊥
 alone root first = closure_least (λ b kind. ⊥)
     (λ b kind start.
     not_null (shard_with root first [] (root_word start.root)) (8 * b.first_word) start.leads.pointer
     (null_word root first (root_word start.root) (omega (arith, start.below)) (λ e. start.is_chosen (omega arith))
     (λ e. omega (arith, start.below))
-    (λ e. omega (arith, start.below)) (λ e. omega (arith, start.below))))
+    (λ e. omega (arith, start.below)) (λ e. omega (arith, start.below)) (λ e. omega (arith, start.below))))
     (λ a b from kind reached none leads. none)
 
 -- the shard of the key 0 with an empty value
@@ -271,7 +273,7 @@ good_chains zero below = record {
 good_chains (suc k) below = record {
   path = tt;
   ends = null_word to_table to_node (1080 + suc k) (omega arith)
-      (λ e. omega arith) (λ e. omega arith) (λ e. omega arith) (λ e. omega arith);
+      (λ e. omega arith) (λ e. omega arith) (λ e. omega arith) (λ e. omega arith) (λ e. omega (arith, below));
 }
 
 -- a key of bucket 0 of the shard is looked for in the node
@@ -290,14 +292,29 @@ good_map (suc n) = cond-false (nat_eq 0 (suc n)) (Some []) None (ne_eqb 0 (suc n
 
 base : MapOf (shard_with to_table to_node []) 0 one_key
 unfolding shard_with
-base = has_table table one_node
-    (record { leads_there = (table_leads to_table to_node [], alone to_table to_node table); size = refl }) good_chains good_map
+base = record {
+  kind_is = refl;
+  is_map = has_table table one_node
+      (record { leads_there = (table_leads to_table to_node [], alone to_table to_node table); size = refl }) good_chains good_map;
+}
+
+-- the shard of a root of another kind is bad at that kind, though its root is null or leads to a table
+other_kind_null : BadShard (formatted 2 []) 0 17464
+other_kind_null = at_kind (λ e. omega arith)
+
+other_kind_table : (first : ℕ) (words : List (ℕ × ℕ)) → BadShard (put (shard_with to_table first words) 17464 2) 0 17464
+unfolding shard_with
+other_kind_table first words = at_kind (λ e. omega arith)
+
+-- and with the kind of a table a null root is an empty shard
+empty_shard : MapOf (formatted 2 ((17471, 1) ∷ [])) 7 (λ key. None)
+empty_shard = record { kind_is = refl; is_map = is_empty refl (λ key. refl) }
 
 -- another root that leads to the table, and one that leads to the node
 shared_table : BadShard (shard_with to_table to_node ((41, to_table) ∷ [])) 0 40
 unfolding shard_with
-shared_table = at_root (record {
+shared_table = in_table 40 refl (at_root (record {
   not_null = λ null. omega arith;
   nowhere = λ b leads size.
-      leads.1 1 (by_start b 1 (record { root = 1; below = omega arith; is_chosen = λ e. omega arith; kind_is = refl; leads = leads.0 }));
-})
+      leads.1 0 (by_start b 0 (record { root = 1; below = omega arith; is_chosen = λ e. omega arith; kind_is = refl; leads = leads.0 }));
+}))

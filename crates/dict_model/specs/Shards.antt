@@ -1,11 +1,12 @@
 -- The shards of an image, each a finite map: a root leads to a table, and each word of the table to a chain of nodes. Where a shard is no map, its first bad place.
 use Rattle.std.specs.Prelude.{◌≡◌, ◌≢◌, ℕ, ◌+◌, ◌*◌, ◌<◌, List, [], ◌∷◌, Option, None, cond, nat_eq}
 use Rattle.heap_model.specs.declared.block.Block.{Block}
-use Rattle.heap_model.specs.Geometry.{root_word}
+use Rattle.heap_model.specs.Geometry.{root_word, kind_word}
 use Rattle.heap_model.specs.Image.{Image}
+use Rattle.heap_model.specs.Header.{capacity_of, kinds_of}
 use Rattle.heap_model.specs.Pointers.{IsPointerTo, Leads}
 use Rattle.heap_model.specs.Reach.{ReachFrom}
-use Rattle.dict_model.specs.Links.{dict_links, root_kind}
+use Rattle.dict_model.specs.Links.{dict_links, table_kind}
 use Rattle.dict_model.specs.Nodes.{buckets, shard_of, bucket_of, key_in, IsNode, find}
 
 -- a finite map: the value of each key that it has, as bytes
@@ -87,16 +88,19 @@ pub data IsBadAt (leads : Leading) (image : Image) (shard : ℕ) : ℕ → Type 
 -- a block of the image that no other root reaches
 abbrev pub LeadsAlone : Image → ℕ → Leading
 LeadsAlone image shard word b =
-    Leads image word b × ((kind : ℕ) → ReachFrom image (λ i. i ≢ shard) root_kind dict_links b kind → ⊥)
+    Leads image word b × ((kind : ℕ) → ReachFrom image (λ i. i ≢ shard) (kinds_of image) dict_links b kind → ⊥)
 
--- the map of a shard of an image, or the first bad place where there is none
-abbrev pub MapOf : Image → ℕ → Map → Type 0
-MapOf image shard = IsMap (LeadsAlone image shard) image shard
+-- the map of a shard of an image, whose root has the kind of a table, null root or not
+pub record MapOf (image : Image) (shard : ℕ) (map : Map) : Type 0 where
+  pub kind_is : kinds_of image shard ≡ table_kind
+  pub is_map : IsMap (LeadsAlone image shard) image shard map
 
-abbrev pub BadShard : Image → ℕ → ℕ → Type 0
-BadShard image shard = IsBadAt (LeadsAlone image shard) image shard
+-- the first bad place where there is none: the kind of the root, or a link
+pub data BadShard (image : Image) (shard : ℕ) : ℕ → Type 0 where
+  at_kind : kinds_of image shard ≢ table_kind → BadShard image shard (kind_word (capacity_of image) shard)
+  in_table : (at : ℕ) → kinds_of image shard ≡ table_kind → IsBadAt (LeadsAlone image shard) image shard at → BadShard image shard at
 
--- the same with no regard to other roots
+-- the same with no regard to kinds and other roots
 abbrev pub WalkOf : Image → ℕ → Map → Type 0
 WalkOf image shard = IsMap (Leads image) image shard
 
