@@ -16,6 +16,10 @@ table_kind = 1
 abbrev pub node_kind : ℕ
 node_kind = 2
 
+-- how many kinds there are
+abbrev pub kind_count : ℕ
+kind_count = 3
+
 -- the kind of what root i leads to in an image that `format` makes, and in one of the old version, which stores no kinds
 abbrev pub root_kind : ℕ → ℕ
 root_kind i = cond (nat_lt i shards) table_kind other_kind

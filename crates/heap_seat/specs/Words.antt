@@ -1,12 +1,13 @@
 -- A seat's own words, what can be read of them, and what a call leaves of them.
 use Rattle.std.specs.Prelude.{◌≡◌, ◌≢◌, ℕ, ◌*◌, ◌<◌, ◌⊎◌, List, Option, None, Some, Contains, Bool, cond}
 use Rattle.heap_model.specs.declared.block.Block.{Block}
-use Rattle.heap_model.specs.Geometry.{root_word}
+use Rattle.heap_model.specs.Geometry.{roots, root_word}
 use Rattle.heap_model.specs.Image.{Image}
+use Rattle.heap_model.specs.Header.{kinds_of}
 use Rattle.heap_model.specs.Blocks.{IsIn, Names}
 use Rattle.heap_seat.specs.declared.spot.Spot.{Spot}
 use Rattle.heap_seat.specs.declared.spot.Spot.TheVariants.{InBlock, Root}
-use Rattle.heap_seat.specs.View.{View}
+use Rattle.heap_seat.specs.View.{View, kind_of}
 
 -- a seat's own words are those of its blocks and its roots
 pub data IsOwn (held : List Block) (roots : List ℕ) : ℕ → Type 0 where
@@ -34,6 +35,10 @@ pub record MixesOwn (v : View) (image : Image) : Type 0 where
 -- the image names each of the blocks at its place
 abbrev pub NamesAll : Image → List Block → Type 0
 NamesAll image held = (b : Block) → Contains held b → Names image (8 * b.first_word) b
+
+-- the image stores the kinds of the roots that the seat sees
+pub record StoresKinds (v : View) (image : Image) : Type 0 where
+  pub each : (root : ℕ) → root < roots → kinds_of image root ≡ kind_of v root
 
 -- the word isn't stored to: what loads see stays, and what a crash leaves stays or is what loads saw
 pub record KeepsWord (v w : View) (word : ℕ) : Type 0 where

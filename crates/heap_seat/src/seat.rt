@@ -6,7 +6,7 @@ ghost use Rattle.heap_model.specs.Sizes.{span_of};
 ghost use Rattle.heap_seat.specs.declared.fault.AllocFault.TheVariants.{Full};
 ghost use Rattle.heap_seat.specs.declared.fault.Looks.{Looks};
 ghost use Rattle.heap_seat.specs.View.{View, word_of};
-ghost use Rattle.heap_seat.specs.Words.{IsOwnSpot, KeepsOwn, MayHaveStored, MixesOwn, NamesAll, HasPicked};
+ghost use Rattle.heap_seat.specs.Words.{IsOwnSpot, KeepsOwn, MayHaveStored, MixesOwn, NamesAll, StoresKinds, HasPicked};
 ghost use Rattle.heap_seat.specs.Tickets.{Stops};
 ghost use Rattle.heap_seat.specs.Calls.{IsSmallCall, IsLargeCall, Loads, Stores, WritesBack, Fences};
 ghost use Rattle.heap_seat.specs.Alloc.{Allocates, FailsBy};
@@ -129,6 +129,9 @@ pub trait HeapSeat {
     ghost mixed: { (s : Self) (image : Image) → images s image → MixesOwn (view s) image };
 
     ghost named: { (s : Self) (image : Image) → images s image → NamesAll image (view s).held };
+
+    ghost stored_kinds: { (s : Self) (image : Image) → images s image
+        → StoresKinds (view s) image };
 
     // What is kept goes on from call to call.
     ghost keeps_none: { (s : Self) → keeps s s };
