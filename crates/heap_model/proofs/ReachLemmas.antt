@@ -73,6 +73,19 @@ more_roots image kinds links more = closure_included
     (λ b kind start. record { root = start.root; below = start.below; is_chosen = more start.root start.is_chosen; kind_is = start.kind_is; leads = start.leads })
     (λ a b from kind reached link. link)
 
+-- what kinds the roots have matters below their number alone
+pub other_kinds : {chosen : ℕ → Type 0} (image : Image) (kinds others : ℕ → ℕ) (links : Links) → ((root : ℕ) → root < roots → kinds root ≡ others root)
+    → (b : Block) (kind : ℕ) → ReachFrom image chosen kinds links b kind → ReachFrom image chosen others links b kind
+other_kinds image kinds others links same = closure_included
+    (λ b kind start. record {
+      root = start.root;
+      below = start.below;
+      is_chosen = start.is_chosen;
+      kind_is = start.kind_is ∙ same start.root start.below;
+      leads = start.leads;
+    })
+    (λ a b from kind reached link. link)
+
 -- a word that leads to a block leads there in an image that has it as a block and the same word
 leads_there : (image other : Image) (w v : ℕ) (b : Block) → v ≡ w → IsBlock (layout_of other) b → Leads image w b → Leads other v b
 leads_there image other w v b same is leads = record {

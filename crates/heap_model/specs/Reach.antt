@@ -3,6 +3,7 @@ use Rattle.std.specs.Prelude.{◌≡◌, ℕ, ◌+◌, ◌<◌, List, length, Co
 use Rattle.heap_model.specs.declared.block.Block.{Block}
 use Rattle.heap_model.specs.Geometry.{roots, root_word}
 use Rattle.heap_model.specs.Image.{Image, words_from}
+use Rattle.heap_model.specs.Header.{kinds_of}
 use Rattle.heap_model.specs.Blocks.{IsBlock, layout_of}
 use Rattle.heap_model.specs.Pointers.{Leads, LeadsOutside}
 
@@ -83,3 +84,13 @@ pub record IsClosed (image : Image) (kinds : ℕ → ℕ) (links : Links) (has :
   pub links_in : (a b : Block) (from position kind : ℕ) → IsTrue (has a from)
       → Contains (links from (words_in image a)) (position, kind)
       → Leads image (image (a.first_word + position)) b → IsTrue (has b kind)
+
+-- what the roots reach with the kinds that the image stores for them
+abbrev pub ReachIn : Image → Links → Block → ℕ → Type 0
+ReachIn image links = Reach image (kinds_of image) links
+
+abbrev pub IsReachedIn : Image → Links → Block → Type 0
+IsReachedIn image links = IsReached image (kinds_of image) links
+
+abbrev pub IsOutsideIn : Image → Links → ℕ → Type 0
+IsOutsideIn image links = IsOutside image (kinds_of image) links

@@ -1,5 +1,5 @@
 -- What a run leaves can be run again; and the keys of a dictionary are finitely many.
-use Rattle.std.proofs.Common.{◌≡◌, ◌≢◌, ℕ, zero, suc, ◌<◌, ◌≤◌, inl, inr, List, [], ◌∷◌, ◌++◌, length, slice_index, Bool, None, Contains, subst, sym, ◌∙◌, arith}
+use Rattle.std.proofs.Common.{◌≡◌, ◌≢◌, ℕ, zero, suc, ◌<◌, ◌≤◌, inl, inr, List, [], ◌∷◌, ◌++◌, length, slice_index, Bool, None, Some, Contains, subst, sym, ◌∙◌, arith}
 use Rattle.std.proofs.Math.Logic.{∥∥₁_elim}
 use Rattle.std.proofs.lemmas.Bool.{cases_eq}
 use Rattle.std.proofs.lemmas.List.Elements.{Contains-append_left, Contains-append_right}
@@ -7,17 +7,18 @@ use Rattle.heap_model.specs.declared.block.Block.{Block}
 use Rattle.heap_model.specs.Durability.{IsCrashImage, IsClosedImage}
 use Rattle.heap_model.specs.Geometry.{used_word}
 use Rattle.heap_model.specs.Image.{Image}
+use Rattle.heap_model.specs.Header.{HasKindsBelow}
 use Rattle.heap_model.specs.Rest.{IsReady}
 use Rattle.heap_model.proofs.DecisionLemmas.{at_most}
 use Rattle.line_memory.specs.View.{volatile_at, durable_at}
 use Rattle.block_heap.specs.Closing.{IsOpened, KeepsFixed}
-use Rattle.block_heap.specs.Laws.{seat_law, mixed_law, named_law}
+use Rattle.block_heap.specs.Laws.{seat_law, mixed_law, named_law, stored_law}
 use Rattle.block_heap.specs.Parts.{held_in}
 use Rattle.block_heap.specs.SeqState.{SeqState, seat_of, MayLeave}
 use Rattle.block_heap.specs.AllocatorWords.{IsLasting}
 use Rattle.block_heap.proofs.FixedLemmas.{long_opened}
 use Rattle.block_heap.proofs.ImageLemmas.{crash_left, closed_left}
-use Rattle.dict_model.specs.Links.{shards}
+use Rattle.dict_model.specs.Links.{shards, kind_count}
 use Rattle.dict_model.specs.Requests.{Request, Reply, done, after, after_one}
 use Rattle.dict_model.specs.Shards.{Map, LeadsAlone, MapOf}
 use Rattle.dict_model.proofs.ShardLemmas.{one_map, alone_once}
@@ -34,12 +35,19 @@ one_left : (left : Image) (shard : ℕ) (m : Map) (stopped : Bool) (rest : List 
 one_left left shard m stopped rest (inl same) = (m, same)
 one_left left shard m stopped rest (inr next) = (after_one m next.1.request done, next.1.map_is)
 
+-- the kinds of the roots that are left are those that there are
+kinds_left : {image left : Image} {words : ℕ} → HasMaps image → LeavesHeader image words left → HasKindsBelow (Some kind_count) left
+kinds_left {image} {left} have header root below =
+    let kept = header.kinds root below in let few = have.kinds root below in omega arith
+
 pub can_be_run : (image left : Image) (requests : List Request) (replies : Replies) (stopped : Bool) (words : ℕ) → HasMaps image → LeavesMaps image requests replies stopped left
     → LeavesHeader image words left → LeavesOthers image left → CanBeRun words left
 can_be_run image left requests replies stopped words have maps header others = record {
   well_formed = header.well_formed;
+  version_is = header.version_is;
   nothing_outside = others.nothing_outside;
   maps = record {
+    kinds = kinds_left have header;
     each = λ shard small.
         let first = have.each shard small in
         one_left left shard (after first.0 (of_shard shard (answered requests replies))) stopped (unanswered requests replies) (maps.each shard first.0 small first.1);
@@ -62,22 +70,24 @@ used_durable t = elim (at_most (durable_at t.parts.words used_word) t.parts.capa
 -- of a heap at any moment of a run
 module _ (words : List ℕ) (held : List Block) (budget : ℕ) (s t : SeqState) (ready : IsReady words held) (opened : IsOpened words held budget s) (keeps : KeepsFixed s t) (have : HasMaps (slice_index words)) (left : List ℕ) where
   closed_header : IsClosedImage (slice_index t.parts.words.volatile) (slice_index left) → length left ≡ length words → LeavesHeader (slice_index words) (length left) (slice_index left)
-  closed_header closed long = header_closed words held budget s t ready.formed opened keeps left (used_seen t) closed (long ∙ sym (long_opened words held budget s t opened keeps))
+  closed_header closed long = header_closed words held budget s t ready.formed opened keeps have.kinds left (used_seen t) closed (long ∙ sym (long_opened words held budget s t opened keeps))
 
   crashed_header : length t.parts.words.durable ≡ length words → IsCrashImage (slice_index t.parts.words.durable) (slice_index left) → length left ≡ length words
       → LeavesHeader (slice_index words) (length left) (slice_index left)
-  crashed_header durable crashed long = header_crashed words held budget s t ready.formed opened keeps left (used_durable t) crashed durable (long ∙ sym durable)
+  crashed_header durable crashed long = header_crashed words held budget s t ready.formed opened keeps have.kinds left (used_durable t) crashed durable (long ∙ sym durable)
 
   between : MayLeave t (slice_index left) → LeavesHeader (slice_index words) (length left) (slice_index left) → (rs : List (Request × Reply)) → HasAnswered (slice_index words) rs (seat_of t)
       → CanBeRun (length left) (slice_index left)
   between may header rs has = record {
     well_formed = header.well_formed;
-    nothing_outside = (left_others (slice_index words) (seat_of t) (slice_index left) (seat_law t) has.stands (mixed_law t (slice_index left) may) (named_law t (slice_index left) may)).nothing_outside;
+    version_is = header.version_is;
+    nothing_outside = (left_others (slice_index words) (seat_of t) (slice_index left) (seat_law t) has.stands (mixed_law t (slice_index left) may) (named_law t (slice_index left) may) (stored_law t (slice_index left) may)).nothing_outside;
     maps = record {
+      kinds = kinds_left have header;
       each = λ shard small.
           let first = have.each shard small in (
             after first.0 (of_shard shard rs),
-            left_answered (slice_index words) rs (seat_of t) (slice_index left) (seat_law t) has (mixed_law t (slice_index left) may) (named_law t (slice_index left) may) shard first.0 small first.1,
+            left_answered (slice_index words) rs (seat_of t) (slice_index left) (seat_law t) has (mixed_law t (slice_index left) may) (named_law t (slice_index left) may) (stored_law t (slice_index left) may) shard first.0 small first.1,
           );
     };
   }
@@ -97,15 +107,19 @@ module _ (words : List ℕ) (held : List Block) (budget : ℕ) (s t : SeqState) 
       let may = crash_left t (slice_index left) crashed in
       let mixed = mixed_law t (slice_index left) may in
       let named = named_law t (slice_index left) may in
+      let stored = stored_law t (slice_index left) may in
+      let header = crashed_header durable crashed long in
       record {
-        well_formed = (crashed_header durable crashed long).well_formed;
+        well_formed = header.well_formed;
+        version_is = header.version_is;
         nothing_outside = (left_others (slice_index words) (seat_of t) (slice_index left) (seat_law t)
-            (stands_on (slice_index words) (seat_of u) (seat_of t) request has.stands change) mixed named).nothing_outside;
+            (stands_on (slice_index words) (seat_of u) (seat_of t) request has.stands change) mixed named stored).nothing_outside;
         maps = record {
+          kinds = kinds_left have header;
           each = λ shard small.
               let first = have.each shard small in
               one_left (slice_index left) shard (after first.0 (of_shard shard rs)) _ (request ∷ [])
-              (left_stopped (slice_index words) rs (seat_of u) (seat_of t) request (seat_law u) has change (slice_index left) [] (seat_law t) mixed named shard first.0 small first.1);
+              (left_stopped (slice_index words) rs (seat_of u) (seat_of t) request (seat_law u) has change (slice_index left) [] (seat_law t) mixed named stored shard first.0 small first.1);
         };
       }
 

@@ -7,7 +7,7 @@ use Rattle.heap_model.specs.Image.{Image}
 use Rattle.heap_seat.specs.View.{View}
 use Rattle.line_memory.specs.View.{View as MemoryView}
 use Rattle.block_heap.specs.Closing.{IsOpened, KeepsFixed}
-use Rattle.block_heap.specs.Laws.{seat_law, mixed_law, named_law}
+use Rattle.block_heap.specs.Laws.{seat_law, mixed_law, named_law, stored_law}
 use Rattle.block_heap.specs.SeqState.{SeqState, seat_of, MayLeave}
 use Rattle.block_heap.proofs.FixedLemmas.{looks_opened, row_draws}
 use Rattle.dict_model.specs.Requests.{Request, Reply, after, AreReplies}
@@ -98,11 +98,11 @@ module _ (image : Image) (t : SeqState) (left : Image) (may : MayLeave t left) w
   maps_answered requests replies final worked final_is = record {
     each = λ shard m small is.
         inl (subst (λ rs. MapOf left shard (after m (of_shard shard rs))) (sym (ends_answered image requests [] replies final (seat_of t) worked final_is))
-        (left_answered image worked.rs (seat_of t) left (seat_law t) worked.answered (mixed_law t left may) (named_law t left may) shard m small is));
+        (left_answered image worked.rs (seat_of t) left (seat_law t) worked.answered (mixed_law t left may) (named_law t left may) (stored_law t left may) shard m small is));
   }
 
   pub others_answered : (requests : List Request) (replies : Replies) → HasWorked image requests [] replies (seat_of t) → LeavesOthers image left
-  others_answered requests replies worked = left_others image (seat_of t) left (seat_law t) worked.answered.stands (mixed_law t left may) (named_law t left may)
+  others_answered requests replies worked = left_others image (seat_of t) left (seat_law t) worked.answered.stands (mixed_law t left may) (named_law t left may) (stored_law t left may)
 
   module _ (requests : List Request) (replies final : Replies) (stop : HasStopped image requests replies (seat_of t)) where
     pub maps_stopped : final ≡ replies ++ replicate (length requests - length replies) None → LeavesMaps image requests final true left
@@ -110,11 +110,11 @@ module _ (image : Image) (t : SeqState) (left : Image) (may : MayLeave t left) w
       each = λ shard m small is.
           subst (λ rs. IsMapLeft left shard (after m (of_shard shard rs)) true (unanswered requests final)) (sym (ends_answered image requests (stop.request ∷ stop.others) replies final stop.before stop.worked final_is))
           (subst (IsMapLeft left shard (after m (of_shard shard stop.worked.rs)) true) (sym (left_over image requests (stop.request ∷ stop.others) replies final stop.before stop.worked final_is))
-          (left_stopped image stop.worked.rs stop.before (seat_of t) stop.request stop.seat stop.worked.answered stop.may left stop.others (seat_law t) (mixed_law t left may) (named_law t left may) shard m small is));
+          (left_stopped image stop.worked.rs stop.before (seat_of t) stop.request stop.seat stop.worked.answered stop.may left stop.others (seat_law t) (mixed_law t left may) (named_law t left may) (stored_law t left may) shard m small is));
     }
 
     pub others_stopped : LeavesOthers image left
-    others_stopped = left_others image (seat_of t) left (seat_law t) (stands_on image stop.before (seat_of t) stop.request stop.worked.answered.stands stop.may) (mixed_law t left may) (named_law t left may)
+    others_stopped = left_others image (seat_of t) left (seat_law t) (stands_on image stop.before (seat_of t) stop.request stop.worked.answered.stands stop.may) (mixed_law t left may) (named_law t left may) (stored_law t left may)
 
 -- how a run has ended: all requests were worked off, or it was stopped in one
 pub data HasEnded (image : Image) (requests : List Request) (replies : Replies) (stopped : Bool) (v : View) : Type 0 where

@@ -4,15 +4,16 @@ use Rattle.std.proofs.lemmas.Bool.{cases_eq}
 use Rattle.heap_model.specs.declared.block.Block.{Block}
 use Rattle.heap_model.specs.Geometry.{root_word}
 use Rattle.heap_model.specs.Image.{Image}
+use Rattle.heap_model.specs.Header.{kinds_of}
 use Rattle.heap_model.specs.Pointers.{pointer_tag, IsPointerTo, Leads}
-use Rattle.heap_model.specs.Reach.{AnyRoot, ReachFrom, Reach, by_start, by_link, IsTraced, is_root, is_linked, IsReached}
+use Rattle.heap_model.specs.Reach.{AnyRoot, ReachFrom, ReachIn, by_start, by_link, IsTraced, is_root, is_linked, IsReachedIn}
 use Rattle.heap_model.proofs.DecisionLemmas.{both, at_most}
 use Rattle.heap_model.proofs.MemberLemmas.{in_none, in_head, in_rest, head_or_rest}
 use Rattle.heap_model.proofs.ReachLemmas.{closure_least, more_roots, reached_block}
 use Rattle.heap_seat.specs.View.{View}
 use Rattle.heap_seat.specs.Words.{IsOwn, in_root, in_block, MayBe, MayRead, MixesOwn}
 use Rattle.heap_seat.specs.Sound.{IsSeat}
-use Rattle.dict_model.specs.Links.{shards, root_kind, dict_links}
+use Rattle.dict_model.specs.Links.{shards, dict_links}
 use Rattle.dict_model.specs.Shards.{Map, LeadsTo, LeadsAlone, MapOf, IsMap}
 use Rattle.dict_model.proofs.MapLemmas.{map_wider, map_stays}
 use Rattle.dict_seat.specs.Maps.{IsMapIn, GivesMap}
@@ -53,15 +54,15 @@ module _ (image : Image) (v : View) (seat : IsSeat v) (opened : IsOpenedOver ima
   leads_in at value b own may leads =
       let reached = (opened.dictionary.exact b).0 leads.0 in
       subst (λ w. Leads image w b) (read_is at value own may)
-      (record { pointer = leads.1; names = record { begins_at = refl; block = reached_block image root_kind dict_links b reached.kind reached.reach } })
+      (record { pointer = leads.1; names = record { begins_at = refl; block = reached_block image (kinds_of image) dict_links b reached.kind reached.reach } })
 
-  reach_back : (root : ℕ) (b : Block) (kind : ℕ) → MayReach v root b kind → ReachFrom image (λ r. r ≡ root) root_kind dict_links b kind
-  reach_back root = closure_least (ReachFrom image (λ r. r ≡ root) root_kind dict_links)
+  reach_back : (root : ℕ) (b : Block) (kind : ℕ) → MayReach v root b kind → ReachFrom image (λ r. r ≡ root) (kinds_of image) dict_links b kind
+  reach_back root = closure_least (ReachFrom image (λ r. r ≡ root) (kinds_of image) dict_links)
       (λ b kind start. by_start b kind (record {
         root = root;
         below = seat.roots_are root start.owned;
         is_chosen = refl;
-        kind_is = start.kind_is;
+        kind_is = start.kind_is ∙ sym (opened.kinds.each root (seat.roots_are root start.owned));
         leads = leads_in (root_word root) start.value b (in_root root (root_word root) start.owned refl) start.read start.leads;
       }))
       (λ a b from kind reached has link. by_link a b from kind has (record {
@@ -71,7 +72,7 @@ module _ (image : Image) (v : View) (seat : IsSeat v) (opened : IsOpenedOver ima
       }))
 
   -- what the image has where a trace looks is null or leads to a held block
-  good : (at : ℕ) → IsTraced image root_kind dict_links at → ((b : Block) → Leads image (image at) b → IsReached image root_kind dict_links b) → IsNullOrHeld v (image at)
+  good : (at : ℕ) → IsTraced image (kinds_of image) dict_links at → ((b : Block) → Leads image (image at) b → IsReachedIn image dict_links b) → IsNullOrHeld v (image at)
   good at traced reached = elim (cases_eq (image at) 0) as (λ _. IsNullOrHeld v (image at)) [
     | inl null ↦ inl null
     | inr some ↦ elim (led_or_not (image at) v.held) as (λ _. IsNullOrHeld v (image at)) [
@@ -83,8 +84,8 @@ module _ (image : Image) (v : View) (seat : IsSeat v) (opened : IsOpenedOver ima
     ]
   ]
 
-  any_reach : (root : ℕ) (b : Block) (kind : ℕ) → MayReach v root b kind → Reach image root_kind dict_links b kind
-  any_reach root b kind reached = more_roots {chosen = λ r. r ≡ root} {chosen' = AnyRoot} image root_kind dict_links (λ r e. tt) b kind (reach_back root b kind reached)
+  any_reach : (root : ℕ) (b : Block) (kind : ℕ) → MayReach v root b kind → ReachIn image dict_links b kind
+  any_reach root b kind reached = more_roots {chosen = λ r. r ≡ root} {chosen' = AnyRoot} image (kinds_of image) dict_links (λ r e. tt) b kind (reach_back root b kind reached)
 
   pub only_opened : ReachesOnlyHeld v
   only_opened = record {
@@ -92,8 +93,8 @@ module _ (image : Image) (v : View) (seat : IsSeat v) (opened : IsOpenedOver ima
         let below = seat.roots_are root owned in
         subst (IsNullOrHeld v) (sym (read_is (root_word root) value (in_root root (root_word root) owned refl) may))
         (good (root_word root) (is_root root (root_word root) below tt refl) (λ b leads. record {
-          kind = root_kind root;
-          reach = by_start b (root_kind root) (record { root = root; below = below; is_chosen = tt; kind_is = refl; leads = leads });
+          kind = kinds_of image root;
+          reach = by_start b (kinds_of image root) (record { root = root; below = below; is_chosen = tt; kind_is = refl; leads = leads });
         }));
     links = λ root a from position kind value reached is may.
         let there = any_reach root a from reached in
@@ -105,8 +106,8 @@ module _ (image : Image) (v : View) (seat : IsSeat v) (opened : IsOpenedOver ima
         }));
     alone = λ shard root b kind other small differs p q.
         let map = opened.dictionary.maps.each shard small in
-        reached_alone image shard small map.0 map.1 b kind other (reach_back shard b kind p)
-        (more_roots {chosen = λ r. r ≡ root} {chosen' = λ r. r ≢ shard} image root_kind dict_links (λ r e same. differs (sym same ∙ e)) b other (reach_back root b other q));
+        reached_alone image shard small map.1.kind_is map.0 map.1 b kind other (reach_back shard b kind p)
+        (more_roots {chosen = λ r. r ≡ root} {chosen' = λ r. r ≢ shard} image (kinds_of image) dict_links (λ r e same. differs (sym same ∙ e)) b other (reach_back root b other q));
   }
 
   pub gives_opened : (shard : ℕ) (map : Map) → shard < shards → MapOf image shard map → GivesMap v shard map
@@ -114,7 +115,7 @@ module _ (image : Image) (v : View) (seat : IsSeat v) (opened : IsOpenedOver ima
     by_image : (mixed : Image) → MixesOwn v mixed → IsMapIn v mixed shard map
     by_image mixed mixes =
         let first : IsMap (LeadsTo (Contains v.held)) image shard map = map_wider (LeadsAlone image shard) (LeadsTo (Contains v.held)) image shard map
-        (λ word b used leads. let reached = used_in_image image shard small b used in ((opened.dictionary.exact b).1 (record { kind = reached.0; reach = reached.1 }), leads.0.pointer)) is in
+        (λ word b used leads. let reached = used_in_image image shard small is.kind_is b used in ((opened.dictionary.exact b).1 (record { kind = reached.0; reach = reached.1 }), leads.0.pointer)) is.is_map in
         map_stays (Contains v.held) (are_placed v seat) (LeadsTo (Contains v.held)) (λ word b leads. leads.0) image mixed shard
         (settled_in v mixed mixes (root_word shard) (image (root_word shard)) (in_root shard (root_word shard) (opened.all_roots shard (omega arith)) refl) (opened.words (root_word shard) (in_root shard (root_word shard) (opened.all_roots shard (omega arith)) refl)))
         (λ b h word inside. settled_in v mixed mixes word (image word) (in_block b word h inside) (opened.words word (in_block b word h inside))) map first
@@ -125,8 +126,8 @@ module _ (image : Image) (v : View) (seat : IsSeat v) (opened : IsOpenedOver ima
     blocks = held_other;
     words = λ b kind word reach inside. opened.words word (in_block b word (held_other b kind reach) inside);
   } where
-    held_other : (b : Block) (kind : ℕ) → ReachFrom image IsOtherRoot root_kind dict_links b kind → Contains v.held b
+    held_other : (b : Block) (kind : ℕ) → ReachFrom image IsOtherRoot (kinds_of image) dict_links b kind → Contains v.held b
     held_other b kind reach = (opened.dictionary.exact b).1 (record {
       kind = kind;
-      reach = more_roots {chosen = IsOtherRoot} {chosen' = AnyRoot} image root_kind dict_links (λ r e. tt) b kind reach;
+      reach = more_roots {chosen = IsOtherRoot} {chosen' = AnyRoot} image (kinds_of image) dict_links (λ r e. tt) b kind reach;
     })

@@ -1,10 +1,11 @@
 -- A heap that was opened over a dictionary stands for the image, so that a run over it begins.
-use Rattle.std.proofs.Common.{ℕ, List, [], Some, Contains, ap, slice_index, arith}
+use Rattle.std.proofs.Common.{ℕ, List, [], Some, Contains, ap, slice_index, sym, arith}
 use Rattle.heap_model.specs.declared.block.Block.{Block}
 use Rattle.heap_model.specs.Geometry.{roots}
 use Rattle.line_memory.specs.View.{View, volatile_at, durable_at}
 use Rattle.block_heap.specs.Closing.{IsOpened}
-use Rattle.block_heap.specs.Laws.{seat_law}
+use Rattle.block_heap.specs.Laws.{seat_law, keeps_none_law}
+use Rattle.block_heap.proofs.FixedLemmas.{kinds_opened}
 use Rattle.block_heap.specs.SeqState.{SeqState, seat_of}
 use Rattle.trace_run.specs.Opened.{IsDictionary, IsOpenedOver}
 use Rattle.trace_run.specs.Progress.{HasAnswered}
@@ -14,6 +15,7 @@ use Rattle.heap_model.proofs.ListLemmas.{in_numbers}
 pub opened_over : (words : List ℕ) (held : List Block) (budget : ℕ) (s : SeqState) → IsOpened words held budget s → IsDictionary (slice_index words) (Contains held)
     → IsOpenedOver (slice_index words) (seat_of s)
 opened_over words held budget s is has = record {
+  kinds = record { each = λ root below. sym (kinds_opened words held budget s s is (keeps_none_law s) root below) };
   dictionary = record {
     nothing_outside = has.nothing_outside;
     maps = has.maps;

@@ -1,14 +1,15 @@
 -- A run goes on by one request, and what it leaves where the next one is stopped.
-use Rattle.std.proofs.Common.{◌≡◌, ◌≢◌, ℕ, ◌<◌, inl, inr, List, [], ◌∷◌, ◌++◌, Contains, cond, refl, subst, sym, ap, ◌∙◌, arith}
+use Rattle.std.proofs.Common.{◌≡◌, ◌≢◌, ℕ, ◌<◌, inl, inr, List, [], ◌∷◌, ◌++◌, Contains, cond, slice_index, refl, subst, sym, ap, ◌∙◌, arith}
 use Rattle.std.specs.Prelude.{true}
 use Rattle.std.proofs.Math.Nat.{mod-lt}
 use Rattle.std.proofs.lemmas.Bool.{cases_eq, cond-true, cond-false, ne_eqb, eq-eqb}
 use Rattle.std.proofs.lemmas.List.Elements.{filter-append}
 use Rattle.heap_model.specs.Image.{Image}
+use Rattle.heap_model.specs.Header.{kinds_of}
 use Rattle.heap_seat.specs.View.{View}
-use Rattle.heap_seat.specs.Words.{MixesOwn, NamesAll}
+use Rattle.heap_seat.specs.Words.{MixesOwn, NamesAll, StoresKinds}
 use Rattle.heap_seat.specs.Sound.{IsSeat}
-use Rattle.dict_model.specs.Links.{shards}
+use Rattle.dict_model.specs.Links.{shards, table_kind}
 use Rattle.dict_model.specs.Requests.{Request, Reply, done, after, after_one, IsReply, AreReplies}
 use Rattle.dict_model.specs.Shards.{Map, MapOf}
 use Rattle.dict_seat.specs.Maps.{IsMapIn, GivesMap}
@@ -45,8 +46,9 @@ small_shard request = mod-lt (key_of request) (omega arith)
 -- what belongs to no shard stands over a request, wherever it ends
 pub stands_on : (image : Image) (v w : View) (request : Request) → StandsOver image v → MayAnswer request v w → StandsOver image w
 stands_on image v w request stands may = record {
+  kinds = record { each = λ root below. stands.kinds.each root below ∙ sym (ap (λ (ks : List ℕ). slice_index ks root) may.others.kinds) };
   only = may.only;
-  others = others_stay image v stands.others stands.all_roots w (shard_asked request) (small_shard request) stands.only may.others;
+  others = others_stay image v stands.kinds stands.others stands.all_roots w (shard_asked request) (small_shard request) stands.only may.others;
   all_roots = λ root below. subst (λ (ns : List ℕ). Contains ns root) (sym may.others.roots) (stands.all_roots root below);
 }
 
@@ -77,15 +79,15 @@ module _ (image : Image) (rs : List (Request × Reply)) (v w : View) (request : 
   }
 
   -- where the request was stopped, what is left of each shard is its map, or of the one shard the map after the request too
-  pub left_stopped : (left : Image) (others : List Request) → IsSeat w → MixesOwn w left → NamesAll left w.held → (shard : ℕ) (map : Map) → shard < shards → MapOf image shard map
+  pub left_stopped : (left : Image) (others : List Request) → IsSeat w → MixesOwn w left → NamesAll left w.held → StoresKinds w left → (shard : ℕ) (map : Map) → shard < shards → MapOf image shard map
       → IsMapLeft left shard (after map (of_shard shard rs)) true (request ∷ others)
-  left_stopped left others seat_w mixes named shard map small is = elim (cases_eq (shard_asked request) shard)
+  left_stopped left others seat_w mixes named kinds shard map small is = elim (cases_eq (shard_asked request) shard)
       as (λ _. IsMapLeft left shard (after map (of_shard shard rs)) true (request ∷ others)) [
         | inl same ↦
             let before = after map (of_shard shard rs) in
             let either = (may.either before (subst (λ n. GivesMap v n before) (sym same) (has.gives shard map small is))).each left mixes in
             elim either as (λ _. IsMapLeft left shard before true (request ∷ others)) [
-              | inl one ↦ inl (on_left shard before small (subst (λ n. IsMapIn w left n before) same one))
+              | inl one ↦ inl (on_left shard before small is.kind_is (subst (λ n. IsMapIn w left n before) same one))
               | inr two ↦ inr (
                 refl,
                 record {
@@ -93,32 +95,35 @@ module _ (image : Image) (rs : List (Request × Reply)) (v w : View) (request : 
                   others = others;
                   first = refl;
                   to_shard = eq-eqb (shard_asked request) shard same;
-                  map_is = on_left shard (after_one before request done) small (subst (λ n. IsMapIn w left n (after_one before request done)) same two);
+                  map_is = on_left shard (after_one before request done) small is.kind_is (subst (λ n. IsMapIn w left n (after_one before request done)) same two);
                 },
               )
             ]
-        | inr other ↦ inl (on_left shard (after map (of_shard shard rs)) small ((other_gives shard map small (λ e. other (sym e)) is).each left mixes))
+        | inr other ↦ inl (on_left shard (after map (of_shard shard rs)) small is.kind_is ((other_gives shard map small (λ e. other (sym e)) is).each left mixes))
       ] where
-        on_left : (shard : ℕ) (m : Map) → shard < shards → IsMapIn w left shard m → MapOf left shard m
-        on_left = let stands = stands_on image v w request has.stands may in map_left w left seat_w stands.only mixes named stands.all_roots
+        on_left : (shard : ℕ) (m : Map) → shard < shards → kinds_of image shard ≡ table_kind → IsMapIn w left shard m → MapOf left shard m
+        on_left shard m small is_table =
+            let stands = stands_on image v w request has.stands may in
+            map_left w left seat_w stands.only mixes named kinds stands.all_roots shard m small (sym (stands.kinds.each shard (omega arith)) ∙ is_table)
 
 -- what a run leaves that has come so far
-pub left_answered : (image : Image) (rs : List (Request × Reply)) (v : View) (left : Image) → IsSeat v → HasAnswered image rs v → MixesOwn v left → NamesAll left v.held
+pub left_answered : (image : Image) (rs : List (Request × Reply)) (v : View) (left : Image) → IsSeat v → HasAnswered image rs v → MixesOwn v left → NamesAll left v.held → StoresKinds v left
     → (shard : ℕ) (map : Map) → shard < shards → MapOf image shard map → MapOf left shard (after map (of_shard shard rs))
-left_answered image rs v left seat has mixes named shard map small is =
-    map_left v left seat has.stands.only mixes named has.stands.all_roots shard (after map (of_shard shard rs)) small ((has.gives shard map small is).each left mixes)
+left_answered image rs v left seat has mixes named kinds shard map small is =
+    map_left v left seat has.stands.only mixes named kinds has.stands.all_roots shard (after map (of_shard shard rs)) small
+    (sym (has.stands.kinds.each shard (omega arith)) ∙ is.kind_is) ((has.gives shard map small is).each left mixes)
 
-pub left_others : (image : Image) (v : View) (left : Image) → IsSeat v → StandsOver image v → MixesOwn v left → NamesAll left v.held → LeavesOthers image left
-left_others image v left seat stands mixes named = record {
-  nothing_outside = nothing_outside v left seat stands.only mixes named stands.all_roots;
-  roots_are = root_in_left image v stands.others stands.all_roots left mixes;
-  blocks_are = block_in_left image v stands.others stands.all_roots left mixes;
+pub left_others : (image : Image) (v : View) (left : Image) → IsSeat v → StandsOver image v → MixesOwn v left → NamesAll left v.held → StoresKinds v left → LeavesOthers image left
+left_others image v left seat stands mixes named kinds = record {
+  nothing_outside = nothing_outside v left seat stands.only mixes named kinds stands.all_roots;
+  roots_are = root_in_left image v stands.kinds stands.others stands.all_roots left mixes;
+  blocks_are = block_in_left image v stands.kinds stands.others stands.all_roots left mixes;
 }
 
 -- a run that begins
 pub begins : (image : Image) (v : View) → IsSeat v → IsOpenedOver image v → HasAnswered image [] v
 begins image v seat opened = record {
-  stands = record { only = only_opened image v seat opened; others = others_opened image v seat opened; all_roots = opened.all_roots };
+  stands = record { kinds = opened.kinds; only = only_opened image v seat opened; others = others_opened image v seat opened; all_roots = opened.all_roots };
   right = λ shard map small is. tt;
   gives = λ shard map small is. gives_opened image v seat opened shard map small is;
 }

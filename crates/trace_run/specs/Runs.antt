@@ -2,11 +2,11 @@
 use Rattle.std.specs.Prelude.{◌≡◌, ℕ, ◌+◌, ◌*◌, ◌<◌, ◌⊎◌, Bool, true, false, cond, List, [], ◌∷◌, ◌++◌, length, map, filter, replicate, sum_by, Option, None, Some}
 use Rattle.heap_model.specs.declared.block.Block.{Block}
 use Rattle.heap_model.specs.Image.{Image}
-use Rattle.heap_model.specs.Geometry.{clean, dirty, state_word, root_word, roots, IsReserved}
-use Rattle.heap_model.specs.Header.{header_fault, capacity_of, used_of}
+use Rattle.heap_model.specs.Geometry.{clean, dirty, version, state_word, version_word, root_word, roots, IsReserved}
+use Rattle.heap_model.specs.Header.{header_fault, capacity_of, used_of, kinds_of}
 use Rattle.heap_model.specs.Blocks.{IsIn}
-use Rattle.heap_model.specs.Reach.{ReachFrom, IsOutside}
-use Rattle.dict_model.specs.Links.{shards, dict_links, root_kind}
+use Rattle.heap_model.specs.Reach.{ReachFrom, IsOutsideIn}
+use Rattle.dict_model.specs.Links.{shards, dict_links, kind_count}
 use Rattle.dict_model.specs.Requests.{Request, put, Reply, done, full, after, after_one, AreReplies}
 use Rattle.dict_model.specs.Shards.{Map, MapOf}
 use Rattle.trace_run.specs.Stands.{IsOtherRoot}
@@ -78,14 +78,16 @@ pub record LeavesMaps (image : Image) (requests : List Request) (replies : Repli
 
 -- the image that is left has a good header and nothing outside, so it can be opened again; and what belongs to no shard is in it as it was
 pub record LeavesHeader (image : Image) (words_left : ℕ) (left : Image) : Type 0 where
-  pub well_formed : header_fault (8 * words_left) left ≡ None
+  pub well_formed : header_fault (Some kind_count) (8 * words_left) left ≡ None
+  pub version_is : left version_word ≡ version
   pub capacity : capacity_of left ≡ capacity_of image
+  pub kinds : (root : ℕ) → root < roots → kinds_of left root ≡ kinds_of image root
   pub without_meaning : (word : ℕ) → IsReserved (capacity_of image) word → left word ≡ image word
 
 pub record LeavesOthers (image left : Image) : Type 0 where
-  pub nothing_outside : (at : ℕ) → IsOutside left root_kind dict_links at → ⊥
+  pub nothing_outside : (at : ℕ) → IsOutsideIn left dict_links at → ⊥
   pub roots_are : (root : ℕ) → IsOtherRoot root → root < roots → left (root_word root) ≡ image (root_word root)
-  pub blocks_are : (b : Block) (kind word : ℕ) → ReachFrom image IsOtherRoot root_kind dict_links b kind → IsIn b word
+  pub blocks_are : (b : Block) (kind word : ℕ) → ReachFrom image IsOtherRoot (kinds_of image) dict_links b kind → IsIn b word
       → left word ≡ image word
 
 -- it was closed where the run wasn't stopped

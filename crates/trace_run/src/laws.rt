@@ -1,22 +1,22 @@
 //! What follows from the definitions, as functions with nothing to run: a caller cites their
 //! clauses.
 
-ghost use Rattle.std.specs.Prelude.{◌≡◌, ℕ, ◌+◌, ◌<◌, ◌≤◌, Bool, true, List, [], ◌∷◌, ◌++◌, length, slice_index, Contains};
+ghost use Rattle.std.specs.Prelude.{◌≡◌, ℕ, ◌+◌, ◌<◌, ◌≤◌, Bool, true, List, [], ◌∷◌, ◌++◌, length, slice_index, Some, Contains};
 ghost use Rattle.std.specs.BTreeMap.{BTreeMap};
 ghost use Rattle.heap_model.specs.declared.block.Block.{Block};
 ghost use Rattle.heap_model.specs.Durability.{IsCrashImage, IsClosedImage};
 ghost use Rattle.heap_model.specs.Image.{Image};
-ghost use Rattle.heap_model.specs.Reach.{IsReached};
+ghost use Rattle.heap_model.specs.Reach.{IsReachedIn};
 ghost use Rattle.heap_model.specs.Recovered.{AreAscending};
 ghost use Rattle.heap_model.specs.Rest.{IsReady};
 ghost use Rattle.block_heap.specs.Closing.{IsOpened, KeepsFixed};
 ghost use Rattle.block_heap.specs.SeqState.{SeqState, seat_of};
 ghost use Rattle.dictionary.specs.Reading.{AreMaps, RecoversTo};
-ghost use Rattle.heap_model.specs.Header.{capacity_of, used_of};
+ghost use Rattle.heap_model.specs.Header.{capacity_of, used_of, HasKindsBelow};
 ghost use Rattle.heap_seat.specs.View.{View};
-ghost use Rattle.heap_seat.specs.Words.{MixesOwn, NamesAll};
+ghost use Rattle.heap_seat.specs.Words.{MixesOwn, NamesAll, StoresKinds};
 ghost use Rattle.heap_seat.specs.Sound.{IsSeat};
-ghost use Rattle.dict_model.specs.Links.{shards, root_kind, dict_links};
+ghost use Rattle.dict_model.specs.Links.{shards, kind_count, dict_links};
 ghost use Rattle.dict_model.specs.Requests.{Request, Reply, put, full, after};
 ghost use Rattle.dict_model.specs.Shards.{Map, MapOf};
 ghost use Rattle.trace_run.specs.Needs.{superblocks_needed, ListsKeysOf};
@@ -57,8 +57,8 @@ pub fn a_read_trace_is_short()
 pub fn a_recovered_dictionary_begins_a_run()
     ensures dictionary { (old new : Image) (held : List Block) (maps : List (BTreeMap ℕ (List ℕ)))
         → RecoversTo old new → AreAscending (λ (b : Block). b.first_word)
-        (IsReached old root_kind dict_links) held
-        → AreMaps new shards maps → IsDictionary new (Contains held) }
+        (IsReachedIn old dict_links) held
+        → HasKindsBelow (Some kind_count) new → AreMaps new shards maps → IsDictionary new (Contains held) }
     ensures begins { (words : List ℕ) (held : List Block) (budget : ℕ) (s : SeqState)
         → IsOpened words held budget s → IsDictionary (slice_index words) (Contains held)
         → HasAnswered (slice_index words) [] (seat_of s) }
@@ -119,16 +119,17 @@ pub fn a_run_goes_on_request_by_request()
 pub fn what_a_run_leaves_is_a_dictionary()
     ensures maps { (image : Image) (rs : List (Request × Reply)) (v : View) (left : Image)
         → IsSeat v → HasAnswered image rs v → MixesOwn v left → NamesAll left v.held
+        → StoresKinds v left
         → (shard : ℕ) (map : Map) → shard < shards → MapOf image shard map
         → MapOf left shard (after map (of_shard shard rs)) }
     ensures stopped { (image : Image) (rs : List (Request × Reply)) (v w : View)
         (request : Request) → IsSeat v → HasAnswered image rs v → MayAnswer request v w
         → (left : Image) (others : List Request) → IsSeat w → MixesOwn w left
-        → NamesAll left w.held → (shard : ℕ) (map : Map) → shard < shards
-        → MapOf image shard map
+        → NamesAll left w.held → StoresKinds w left
+        → (shard : ℕ) (map : Map) → shard < shards → MapOf image shard map
         → IsMapLeft left shard (after map (of_shard shard rs)) true (request ∷ others) }
     ensures others { (image : Image) (v : View) (left : Image) → IsSeat v
-        → StandsOver image v → MixesOwn v left → NamesAll left v.held
+        → StandsOver image v → MixesOwn v left → NamesAll left v.held → StoresKinds v left
         → LeavesOthers image left }
 {}
 

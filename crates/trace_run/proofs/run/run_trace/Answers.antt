@@ -183,7 +183,7 @@ returns-clause-header g c =
     let durable_long = ap length durable in
     let long = long_opened words c.args.heap.held c.args.budget s t opened c.work_off-stopped.ensures.kept in
     by_stop stopped
-    (λ going. header_closed words c.args.heap.held c.args.budget s t formed opened c.work_off-stopped.ensures.kept image c.finish.ensures.used
+    (λ going. header_closed words c.args.heap.held c.args.budget s t formed opened c.work_off-stopped.ensures.kept c.requires.dictionary.maps.kinds image c.finish.ensures.used
     (subst (λ ws. IsClosedImage (slice_index ws) (slice_index image)) seen (c.image_left-image.ensures.closed going)) (omega arith))
-    (λ halted. header_crashed words c.args.heap.held c.args.budget s t formed opened c.work_off-stopped.ensures.kept image c.finish.ensures.used_durable
+    (λ halted. header_crashed words c.args.heap.held c.args.budget s t formed opened c.work_off-stopped.ensures.kept c.requires.dictionary.maps.kinds image c.finish.ensures.used_durable
     (subst (λ ws. IsCrashImage (slice_index ws) (slice_index image)) durable (c.image_left-image.ensures.crashed halted)) (omega arith) (omega arith))
