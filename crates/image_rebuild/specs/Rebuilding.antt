@@ -7,7 +7,7 @@ use Rattle.heap_model.specs.Durability.{IsTransient}
 use Rattle.heap_model.specs.Recovery.{IsRecovered}
 use Rattle.region_header.specs.Words.{AreWordsOf}
 use Rattle.heap_recover.specs.InPlace.{differences, RecoversAlike}
-use Rattle.dict_model.specs.Links.{dict_links, root_kind}
+use Rattle.dict_model.specs.Links.{dict_links}
 use Rattle.trace_text.specs.Report.{line_feed}
 use Rattle.image_run.specs.Reporting.{IsKept, TellsHeap}
 
@@ -17,7 +17,7 @@ pub record IsRebuilt (image : Image) (count budget : ℕ) (stopped : Bool) (left
   pub new : List ℕ
   pub recovered : IsRecovered image (slice_index new) (IsKept image)
   pub long : length left ≡ count
-  pub alike : RecoversAlike (8 * count) image (slice_index left) root_kind dict_links
+  pub alike : RecoversAlike (8 * count) image (slice_index left) dict_links
   pub state : slice_index left state_word ≡ dirty
   pub done : stopped ≡ false → left ≡ new
   pub cause : stopped ≡ true → budget ≤ 2 * differences image (slice_index new) count

@@ -2,7 +2,7 @@
 ghost use Rattle.std.specs.Prelude.{◌≡◌, ◌^◌, ◌*◌, ◌<◌, ◌++◌, ℕ, length, slice_index, IfOk, None};
 ghost use Rattle.heap_model.specs.Header.{header_fault};
 ghost use Rattle.heap_recover.specs.InPlace.{IsRecoveryOf};
-ghost use Rattle.dict_model.specs.Links.{dict_links, root_kind};
+ghost use Rattle.dict_model.specs.Links.{dict_links};
 ghost use Rattle.image_run.specs.Reporting.{PointsOutside, TellsHeap};
 ghost use Rattle.image_rebuild.specs.Rebuilding.{IsRebuilt, Rebuilds, rebuilt_line};
 
@@ -42,7 +42,7 @@ pub fn rebuild_image<C: Chances>(
     seed: u64,
     chances: &mut C,
 ) -> Result<RebuildProduct, AllocError>
-    requires { IsRecoveryOf words.now root_kind dict_links heap.now.words heap.now.held }
+    requires { IsRecoveryOf words.now dict_links heap.now.words heap.now.held }
     ensures ok { IfOk result (λ product. Rebuilds (slice_index words.now) (length words.now)
         budget product.image product.text) }
 {
@@ -62,7 +62,7 @@ fn rebuild_words<C: Chances>(
     budget: u64,
     chances: &mut C,
 ) -> Result<Rebuilt, AllocError>
-    requires { IsRecoveryOf words.now root_kind dict_links heap.now.words heap.now.held }
+    requires { IsRecoveryOf words.now dict_links heap.now.words heap.now.held }
     ensures { IfOk result (λ rebuilt. IsRebuilt (slice_index words.now) (length words.now)
         budget rebuilt.stopped rebuilt.words.items) }
 {

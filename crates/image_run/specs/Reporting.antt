@@ -1,35 +1,44 @@
 -- What recovery makes of an image, and the report on it.
-use Rattle.std.specs.Prelude.{◌≡◌, ◌↔◌, ℕ, ◌<◌, Bool, List, [], ◌++◌, length, nat_eq, if◌then◌else◌, Option, Some, slice_index}
+use Rattle.std.specs.Prelude.{◌≡◌, ◌↔◌, ℕ, ◌/◌, ◌<◌, Bool, List, [], ◌++◌, length, nat_eq, if◌then◌else◌, Option, Some, slice_index}
 use Rattle.std.specs.BTreeMap.{BTreeMap}
 use Rattle.heap_model.specs.declared.header.BadHeader.{BadHeader}
 use Rattle.heap_model.specs.declared.block.Block.{Block}
 use Rattle.heap_model.specs.Blocks.{layout_of}
-use Rattle.heap_model.specs.Reach.{IsReached, IsOutside}
+use Rattle.heap_model.specs.Reach.{IsReachedIn, IsOutsideIn}
 use Rattle.heap_model.specs.Recovered.{IsFreeSuperblock, AreAscending}
 use Rattle.heap_model.specs.Recovery.{IsRecovered}
 use Rattle.heap_model.specs.Geometry.{clean}
-use Rattle.heap_model.specs.Image.{Image, image_of_bytes}
-use Rattle.heap_model.specs.Header.{capacity_of, state_of, header_fault}
+use Rattle.heap_model.specs.Image.{Image, image_of_bytes, words_from}
+use Rattle.heap_model.specs.Header.{capacity_of, state_of, header_fault, first_kinds, HasKindsBelow}
+use Rattle.region_header.specs.Migration.{current_words}
 use Rattle.heap_recover.specs.declared.answer.Recovered.{Recovered}
 use Rattle.heap_recover.specs.declared.answer.Was.TheVariants.{Clean}
-use Rattle.dict_model.specs.Links.{dict_links, root_kind, shards}
+use Rattle.dict_model.specs.Links.{dict_links, kind_count, shards}
 use Rattle.dict_model.specs.Shards.{Map, MapOf}
 use Rattle.trace_text.specs.Report.{report_of}
 use Rattle.trace_text.specs.Keys.{Entries, keys_text, TellsKeys}
 use Rattle.trace_text.specs.HeapMap.{map_of}
 use Rattle.trace_text.specs.Recovered.{is_clean}
 
--- the first cause for which an image of these bytes is malformed
+-- the first cause for which an image of these bytes is malformed, where the kinds are those of the dictionary
 abbrev pub fault_of : List ℕ → Option BadHeader
-fault_of bytes = header_fault (length bytes) (image_of_bytes bytes)
+fault_of bytes = header_fault (Some kind_count) (length bytes) (image_of_bytes bytes)
+
+-- the words in the bytes of a file
+abbrev pub words_in_bytes : List ℕ → List ℕ
+words_in_bytes bytes = words_from (image_of_bytes bytes) 0 (length bytes / 8)
+
+-- the image in the bytes of a file, in the new version: one of the old version is migrated, with the kinds that `format` gives
+abbrev pub image_in : List ℕ → Image
+image_in bytes = slice_index (current_words (words_in_bytes bytes) first_kinds)
 
 -- what the tool's filter reaches in an image: the dictionary's tables and nodes, and what the other roots lead to
 abbrev pub IsKept : Image → Block → Type 0
-IsKept image = IsReached image root_kind dict_links
+IsKept image = IsReachedIn image dict_links
 
 -- a root or linked word that points to no block
 abbrev pub PointsOutside : Image → ℕ → Type 0
-PointsOutside image at = IsOutside image root_kind dict_links at
+PointsOutside image at = IsOutsideIn image dict_links at
 
 -- recovery of the image keeps exactly these blocks, frees these superblocks, and leaves these words
 pub record Recovers (image : Image) (held : List Block) (free : List ℕ) (words : Image) : Type 0 where
@@ -41,6 +50,7 @@ pub record Recovers (image : Image) (held : List Block) (free : List ℕ) (words
 pub record IsRecoveredHeap (image : Image) (recovered : Recovered) : Type 0 where
   pub recovers : Recovers image recovered.heap.held recovered.free.items (slice_index recovered.heap.words)
   pub was : (recovered.was ≡ Clean) ↔ (state_of image ≡ clean)
+  pub kinds : HasKindsBelow (Some kind_count) (slice_index recovered.heap.words)
 
 -- the report on an image once it is recovered, without its keys
 pub record TellsHeap (image : Image) (text : List ℕ) : Type 0 where

@@ -2,12 +2,12 @@
 ghost use Rattle.std.specs.Prelude.{◌≡◌, ℕ, List, None};
 ghost use Rattle.std.specs.BTreeMap.{BTreeMap};
 ghost use Rattle.heap_model.specs.declared.block.Block.{Block};
-ghost use Rattle.heap_model.specs.Image.{Image, image_of_bytes};
+ghost use Rattle.heap_model.specs.Image.{Image};
 ghost use Rattle.dict_model.specs.Links.{shards};
 ghost use Rattle.dict_model.specs.Requests.{Request};
 ghost use Rattle.dictionary.specs.Reading.{RecoversTo, AreMaps};
 ghost use Rattle.trace_run.specs.Opened.{HasMaps};
-ghost use Rattle.image_run.specs.Reporting.{fault_of, PointsOutside, Recovers};
+ghost use Rattle.image_run.specs.Reporting.{fault_of, image_in, PointsOutside, Recovers};
 ghost use Rattle.image_run.specs.Running.{Options, RunsRequests};
 
 /// A run over what recovery leaves of an image is one over the image itself.
@@ -27,10 +27,10 @@ pub fn what_a_run_puts_can_be_run_again()
         → fault_of put ≡ None }
     ensures nothing_outside { (image : Image) (requests : List Request) (options : Options)
         (put text : List ℕ) → HasMaps image → RunsRequests image requests options put text
-        → (at : ℕ) → PointsOutside (image_of_bytes put) at → ⊥ }
+        → (at : ℕ) → PointsOutside (image_in put) at → ⊥ }
     ensures maps { (image : Image) (requests : List Request) (options : Options)
         (put text : List ℕ) → HasMaps image → RunsRequests image requests options put text
-        → HasMaps (image_of_bytes put) }
+        → HasMaps (image_in put) }
 {}
 
 /// Recovery of an image leaves one heap: it keeps the same list of blocks, frees the same list of

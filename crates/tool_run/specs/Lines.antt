@@ -34,6 +34,7 @@ cause_name Capacity = codes "capacity"
 cause_name Length = codes "length"
 cause_name State = codes "state"
 cause_name Used = codes "used"
+cause_name Kind = codes "kind"
 
 -- the line on a malformed header
 abbrev pub bad_header_line : BadHeader → List ℕ

@@ -8,10 +8,10 @@ use Rattle.heap_model.specs.Recovered.{IsDrained, AreAscending}
 use Rattle.dict_model.specs.Links.{shards}
 use Rattle.dict_model.specs.Shards.{Map, MapOf, BadShard}
 use Rattle.heap_model.specs.Geometry.{image_words}
-use Rattle.heap_model.specs.Image.{Image, image_of_bytes, bytes_of_words}
+use Rattle.heap_model.specs.Image.{Image, bytes_of_words}
 use Rattle.heap_model.specs.Sizes.{size_of}
 use Rattle.heap_model.specs.Header.{capacity_of, empty_words}
-pub use Rattle.image_run.specs.Reporting.{fault_of, IsKept, PointsOutside, Recovers, IsEntryOf, shown_text, Reports}
+pub use Rattle.image_run.specs.Reporting.{fault_of, image_in, IsKept, PointsOutside, Recovers, IsEntryOf, shown_text, Reports}
 pub use Rattle.image_rebuild.specs.Rebuilding.{Rebuilds}
 pub use Rattle.image_replay.specs.Replaying.{Replays, LeavesOutside}
 pub use Rattle.image_run.specs.Running.{Options, RunsRequests}
@@ -58,17 +58,17 @@ pub record Shows (contents : Contents) (name : List ℕ) (with_map : Bool) (text
   pub bytes : List ℕ
   pub is_there : Holds contents name bytes
   pub good : fault_of bytes ≡ None
-  pub inside : (at : ℕ) → PointsOutside (image_of_bytes bytes) at → ⊥
-  pub report : Reports (image_of_bytes bytes) false with_map text
+  pub inside : (at : ℕ) → PointsOutside (image_in bytes) at → ⊥
+  pub report : Reports (image_in bytes) false with_map text
 
 -- the text on what the class gives of a named image that can be recovered
 pub record TellsDrained (contents : Contents) (name : List ℕ) (class : ℕ) (text : List ℕ) : Type 0 where
   pub bytes : List ℕ
   pub is_there : Holds contents name bytes
   pub good : fault_of bytes ≡ None
-  pub inside : (at : ℕ) → PointsOutside (image_of_bytes bytes) at → ⊥
+  pub inside : (at : ℕ) → PointsOutside (image_in bytes) at → ⊥
   pub offsets : List ℕ
-  pub drained : AreAscending (λ offset. offset) (IsOffsetDrained (image_of_bytes bytes) class) offsets
+  pub drained : AreAscending (λ offset. offset) (IsOffsetDrained (image_in bytes) class) offsets
   pub text_is : text ≡ drained_text class offsets
 
 -- the bytes of a named image, whose header has this cause first
@@ -82,8 +82,8 @@ pub record HasOutside (contents : Contents) (name : List ℕ) (at value : ℕ) :
   pub bytes : List ℕ
   pub is_there : Holds contents name bytes
   pub good : fault_of bytes ≡ None
-  pub points : PointsOutside (image_of_bytes bytes) at
-  pub value_is : value ≡ image_of_bytes bytes at
+  pub points : PointsOutside (image_in bytes) at
+  pub value_is : value ≡ image_in bytes at
 
 -- the shard is the lowest of the image that has no map, and this is its first bad place
 pub record IsLowestBad (image : Image) (shard at : ℕ) : Type 0 where
@@ -96,16 +96,16 @@ pub record HasBadShard (contents : Contents) (name : List ℕ) (shard at : ℕ) 
   pub bytes : List ℕ
   pub is_there : Holds contents name bytes
   pub good : fault_of bytes ≡ None
-  pub inside : (at : ℕ) → PointsOutside (image_of_bytes bytes) at → ⊥
-  pub lowest : IsLowestBad (image_of_bytes bytes) shard at
+  pub inside : (at : ℕ) → PointsOutside (image_in bytes) at → ⊥
+  pub lowest : IsLowestBad (image_in bytes) shard at
 
 -- the store has an image of this name that can be recovered, and each shard of it has a map
 pub record HasMapped (contents : Contents) (name : List ℕ) : Type 0 where
   pub bytes : List ℕ
   pub is_there : Holds contents name bytes
   pub good : fault_of bytes ≡ None
-  pub inside : (at : ℕ) → PointsOutside (image_of_bytes bytes) at → ⊥
-  pub maps : (i : ℕ) → i < shards → (map : Map) × MapOf (image_of_bytes bytes) i map
+  pub inside : (at : ℕ) → PointsOutside (image_in bytes) at → ⊥
+  pub maps : (i : ℕ) → i < shards → (map : Map) × MapOf (image_in bytes) i map
 
 -- where the source tells, these are all the bytes that it has left
 abbrev pub HasLeft : Option (List ℕ) → List ℕ → Type 0
@@ -140,31 +140,31 @@ pub record RunsTrace (contents : Contents) (left : Option (List ℕ)) (name : Li
   pub lines_are : AreLines (lines_of trace) lines
   pub image : List ℕ
   pub put_is : put ≡ Some image
-  pub runs : RunsRequests (image_of_bytes mapped.bytes) (requests_of lines) options image text
+  pub runs : RunsRequests (image_in mapped.bytes) (requests_of lines) options image text
 
 -- recovery, made in place, of a named image that can be recovered
 pub record RebuildsNamed (contents : Contents) (name : List ℕ) (budget : ℕ) (put : Option (List ℕ)) (text : List ℕ) : Type 0 where
   pub bytes : List ℕ
   pub is_there : Holds contents name bytes
   pub good : fault_of bytes ≡ None
-  pub inside : (at : ℕ) → PointsOutside (image_of_bytes bytes) at → ⊥
+  pub inside : (at : ℕ) → PointsOutside (image_in bytes) at → ⊥
   pub image : List ℕ
   pub put_is : put ≡ Some image
-  pub rebuilds : Rebuilds (image_of_bytes bytes) (image_words (capacity_of (image_of_bytes bytes))) budget image text
+  pub rebuilds : Rebuilds (image_in bytes) (image_words (capacity_of (image_in bytes))) budget image text
 
 -- the store has an image of this name that can be recovered
 pub record HasGood (contents : Contents) (name : List ℕ) : Type 0 where
   pub bytes : List ℕ
   pub is_there : Holds contents name bytes
   pub good : fault_of bytes ≡ None
-  pub inside : (at : ℕ) → PointsOutside (image_of_bytes bytes) at → ⊥
+  pub inside : (at : ℕ) → PointsOutside (image_in bytes) at → ⊥
 
 -- these are the words and the held blocks of the heap that recovery makes of it
 pub record HasHeap (contents : Contents) (name words : List ℕ) (held : List Block) : Type 0 where
   pub image : HasGood contents name
   pub free : List ℕ
-  pub recovers : Recovers (image_of_bytes image.bytes) held free (slice_index words)
-  pub long : 8 * length words ≡ length image.bytes
+  pub recovers : Recovers (image_in image.bytes) held free (slice_index words)
+  pub long : length words ≡ image_words (capacity_of (image_in image.bytes))
 
 -- the schedule that the source has left, of at most the longest length of a trace
 pub record HasSchedule (left : Option (List ℕ)) (schedule : Schedule) : Type 0 where

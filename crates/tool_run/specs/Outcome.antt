@@ -11,10 +11,9 @@ use Rattle.trace_text.specs.Schedule.{IsSchedule, IsFirstBad}
 use Rattle.trace_text.specs.Trace.{lines_of, AreLines, IsFirstOutside}
 use Rattle.tool_command.specs.Command.{Command, format_image, show_image, drain_image, gen_trace, run_image, rebuild_image, replay_image, image_name, Asks, AsksToRun, AsksToReplay}
 use Rattle.tool_run.specs.Lines.{Tells, write_line, no_image_line, bad_header_line, outside_line, bad_shard_line, bad_line_line, bad_step_line, too_long_line}
-use Rattle.tool_run.specs.Making.{Makes, GetsImage, Reads, PutsBack, ReadsSource, Options, IsMalformed, HasOutside, HasBadShard, HasMapped, HasBadLine, HasTooMuch, HasGood, HasBadStep, HasOutsideLeft, PointsOutside, fault_of, longest_trace}
+use Rattle.tool_run.specs.Making.{Makes, GetsImage, Reads, PutsBack, ReadsSource, Options, IsMalformed, HasOutside, HasBadShard, HasMapped, HasBadLine, HasTooMuch, HasGood, HasBadStep, HasOutsideLeft, PointsOutside, fault_of, image_in, longest_trace}
 use Rattle.dict_model.specs.Links.{shards}
 use Rattle.dict_model.specs.Shards.{Map, MapOf, BadShard}
-use Rattle.heap_model.specs.Image.{image_of_bytes}
 
 -- The image, if there is one, is under the name, and every other name has what it had.
 abbrev pub Puts : List ℕ → Option (List ℕ) → Contents → Contents → Type 0
@@ -142,14 +141,14 @@ pub record HoldsOutside (contents : Contents) (name : List ℕ) (at : ℕ) : Typ
   pub bytes : List ℕ
   pub held : told_of contents name ≡ Some (Some bytes)
   pub good : fault_of bytes ≡ None
-  pub points : PointsOutside (image_of_bytes bytes) at
+  pub points : PointsOutside (image_in bytes) at
 
 -- the store tells that it has an image of this name that can be recovered
 pub record HoldsGood (contents : Contents) (name : List ℕ) : Type 0 where
   pub bytes : List ℕ
   pub held : told_of contents name ≡ Some (Some bytes)
   pub good : fault_of bytes ≡ None
-  pub inside : (at : ℕ) → PointsOutside (image_of_bytes bytes) at → ⊥
+  pub inside : (at : ℕ) → PointsOutside (image_in bytes) at → ⊥
 
 -- the words ask for a command that reads the maps of the image of this name
 pub record AsksToRead (words : List (List ℕ)) (name : List ℕ) : Type 0 where
@@ -172,17 +171,17 @@ pub record HoldsBadShard (contents : Contents) (name : List ℕ) (shard at : ℕ
   pub bytes : List ℕ
   pub held : told_of contents name ≡ Some (Some bytes)
   pub good : fault_of bytes ≡ None
-  pub inside : (w : ℕ) → PointsOutside (image_of_bytes bytes) w → ⊥
+  pub inside : (w : ℕ) → PointsOutside (image_in bytes) w → ⊥
   pub below : shard < shards
-  pub bad : BadShard (image_of_bytes bytes) shard at
+  pub bad : BadShard (image_in bytes) shard at
 
 -- the store tells that it has an image of this name that can be recovered, in which each shard has a map
 pub record HoldsMaps (contents : Contents) (name : List ℕ) : Type 0 where
   pub bytes : List ℕ
   pub held : told_of contents name ≡ Some (Some bytes)
   pub good : fault_of bytes ≡ None
-  pub inside : (at : ℕ) → PointsOutside (image_of_bytes bytes) at → ⊥
-  pub maps : (shard : ℕ) → shard < shards → (map : Map) × MapOf (image_of_bytes bytes) shard map
+  pub inside : (at : ℕ) → PointsOutside (image_in bytes) at → ⊥
+  pub maps : (shard : ℕ) → shard < shards → (map : Map) × MapOf (image_in bytes) shard map
 
 -- the words ask for a run or a replay over an image that is good, and the trace or the schedule is refused: a line of it asks for
 -- nothing, of which the first is told, or it is too long

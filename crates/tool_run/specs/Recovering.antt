@@ -1,21 +1,21 @@
 -- What recovery of an image gives the tool, and what draining a class of it gives.
 use Rattle.std.specs.Prelude.{◌≡◌, ◌≢◌, ℕ, ◌*◌, List, length, None, Contains, AllPairs, slice_index}
 use Rattle.heap_model.specs.declared.block.Block.{Block}
-use Rattle.heap_model.specs.Image.{Image, image_of_bytes}
-use Rattle.heap_model.specs.Header.{capacity_of}
+use Rattle.heap_model.specs.Image.{Image}
+use Rattle.heap_model.specs.Header.{capacity_of, first_kinds}
 use Rattle.heap_model.specs.Recovered.{AreAscending}
 use Rattle.heap_recover.specs.declared.answer.Recovered.{Recovered}
 use Rattle.heap_recover.specs.declared.fault.RecoverFault.{RecoverFault}
 use Rattle.heap_recover.specs.declared.fault.RecoverFault.TheVariants.{Header, Outside, Memory}
 use Rattle.heap_shape.specs.Draining.{IsDrainable, IsToDrain}
-use Rattle.region_header.specs.Words.{AreWordsOf}
+use Rattle.region_header.specs.Migration.{current_words}
 use Rattle.tool_ports.specs.Contents.{Contents, Holds}
-pub use Rattle.image_run.specs.Reporting.{IsRecoveredHeap, IsTextOf}
+pub use Rattle.image_run.specs.Reporting.{IsRecoveredHeap, IsTextOf, words_in_bytes}
 use Rattle.std.specs.BTreeMap.{BTreeMap}
 use Rattle.dict_model.specs.Links.{shards}
 use Rattle.dictionary.specs.Reading.{RecoversTo, AreMaps}
 use Rattle.trace_run.specs.Opened.{IsDictionary}
-use Rattle.tool_run.specs.Making.{PointsOutside, HasMapped, fault_of, drained_text}
+use Rattle.tool_run.specs.Making.{PointsOutside, HasMapped, fault_of, image_in, drained_text}
 
 -- the bytes are the image of this name, and their header is good
 pub record IsGoodImage (contents : Contents) (name bytes : List ℕ) : Type 0 where
@@ -27,19 +27,19 @@ pub record IsRecoveredHeapOf (contents : Contents) (name : List ℕ) (recovered 
   pub bytes : List ℕ
   pub is_there : Holds contents name bytes
   pub good : fault_of bytes ≡ None
-  pub inside : (at : ℕ) → PointsOutside (image_of_bytes bytes) at → ⊥
-  pub is : IsRecoveredHeap (image_of_bytes bytes) recovered
+  pub inside : (at : ℕ) → PointsOutside (image_in bytes) at → ⊥
+  pub is : IsRecoveredHeap (image_in bytes) recovered
 
--- and these are the words of that image
+-- and these are the words of that image, in the new version
 pub record IsRecoveredFrom (contents : Contents) (name words : List ℕ) (recovered : Recovered) : Type 0 where
   pub image : IsRecoveredHeapOf contents name recovered
-  pub words_are : AreWordsOf words image.bytes
+  pub words_are : words ≡ current_words (words_in_bytes image.bytes) first_kinds
   pub long : length recovered.heap.words ≡ length words
 
 -- the heap is what recovery makes of the image of this name, and each shard of it has a map
 pub record IsMapped (contents : Contents) (name words : List ℕ) (held : List Block) : Type 0 where
   pub image : HasMapped contents name
-  pub to : RecoversTo (image_of_bytes image.bytes) (slice_index words)
+  pub to : RecoversTo (image_in image.bytes) (slice_index words)
   pub maps : List (BTreeMap ℕ (List ℕ))
   pub are : AreMaps (slice_index words) shards maps
   pub dictionary : IsDictionary (slice_index words) (Contains held)

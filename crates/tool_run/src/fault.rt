@@ -117,6 +117,7 @@ fn name_of_cause(cause: BadHeader) -> &'static str
         BadHeader::Length => "length",
         BadHeader::State => "state",
         BadHeader::Used => "used",
+        BadHeader::Kind => "kind",
     }
 }
 

@@ -1,20 +1,23 @@
 //! Gets the image that a command names, and recovers it.
-ghost use Rattle.std.specs.Prelude.{◌≡◌, ◌%◌, ◌≤◌, ℕ, length, IfOk, IfErr, OnOk};
+ghost use Rattle.std.specs.Prelude.{◌≡◌, ◌%◌, ◌≤◌, ℕ, Some, length, IfOk, IfErr, OnOk};
 ghost use Rattle.heap_model.specs.Image.{image_of_bytes};
-ghost use Rattle.heap_model.specs.Header.{IsWellFormed};
+ghost use Rattle.heap_model.specs.Header.{HasGoodHeader, first_kinds};
+ghost use Rattle.region_header.specs.Migration.{current_words};
 ghost use Rattle.region_header.specs.Words.{AreWordsOf};
+ghost use Rattle.dict_model.specs.Links.{kind_count};
 ghost use Rattle.tool_ports.specs.Calls.{with_get};
 ghost use Rattle.tool_ports.specs.Causes.{Rose};
 ghost use Rattle.tool_run.specs.Calls.{get_limit};
 ghost use Rattle.tool_command.specs.Command.{Command, image_name};
 ghost use Rattle.tool_run.specs.Inside.{Refuses};
-ghost use Rattle.tool_run.specs.Making.{GetsImage, PointsOutside};
-ghost use Rattle.tool_run.specs.Recovering.{IsGoodImage, IsRecoveredHeapOf, IsRecoveredFrom, IsRecoveredHeap, IsRecoveryFault};
+ghost use Rattle.tool_run.specs.Making.{GetsImage, PointsOutside, image_in};
+ghost use Rattle.tool_run.specs.Recovering.{IsGoodImage, IsRecoveredHeapOf, IsRecoveredFrom, IsRecoveredHeap, IsRecoveryFault, words_in_bytes};
 
 use crate::fault::Fault;
 use dictionary::{DictFilter, root_kinds};
 use heap_recover::{RecoverFault, Recovered, recover, recover_owned};
-use region_header::{bytes_to_words, check_bytes};
+use filter_trace::Filter;
+use region_header::{bytes_to_words, check_bytes, current};
 use std::alloc::{AllocError, Global};
 use super_block::{LONGEST_IMAGE, constants_agree};
 use tool_ports::ImageStore;
@@ -61,8 +64,8 @@ pub fn recover_words<I: ImageStore>(
 // The bytes of the image of this name, whose header is good.
 fn good_image<I: ImageStore>(alloc: Global, name: &str, images: &mut I) -> Result<Vec<u8>, Fault>
     ensures ok { IfOk result (λ image. IsGoodImage (I.contents images.old) name.now image.items) }
-    ensures formed { IfOk result (λ image.
-        IsWellFormed (length image.items) (image_of_bytes image.items)) }
+    ensures header { IfOk result (λ image. HasGoodHeader (Some kind_count) (length image.items)
+        (image_of_bytes image.items)) }
     ensures err { IfErr result (λ fault. (command : Command) → GetsImage command
         → image_name command ≡ name.now → Refuses command (I.contents images.old)
         (Rose (I.faults images.old) (I.faults images.new)) fault) }
@@ -71,7 +74,7 @@ fn good_image<I: ImageStore>(alloc: Global, name: &str, images: &mut I) -> Resul
     ensures calls { I.calls images.new ≡ with_get get_limit (I.calls images.old) }
 {
     let image = images.get(alloc, name, most_bytes())?;
-    check_bytes(&image)?;
+    check_bytes(&image, Some(DictFilter::KINDS))?;
     Ok(image)
 }
 
@@ -86,26 +89,27 @@ fn most_bytes() -> usize
 
 // Recovers an image of these bytes, whose header is good, in one room for its words.
 fn recover_bytes(alloc: Global, bytes: Vec<u8>) -> Result<Recovered, RecoverFault>
-    requires { IsWellFormed (length bytes.items) (image_of_bytes bytes.items) }
-    ensures ok { IfOk result (IsRecoveredHeap (image_of_bytes bytes.items)) }
-    ensures none { OnOk result ((at : ℕ) → PointsOutside (image_of_bytes bytes.items) at → ⊥) }
-    ensures err { IfErr result (IsRecoveryFault (image_of_bytes bytes.items)) }
+    requires { HasGoodHeader (Some kind_count) (length bytes.items) (image_of_bytes bytes.items) }
+    ensures ok { IfOk result (IsRecoveredHeap (image_in bytes.items)) }
+    ensures none { OnOk result ((at : ℕ) → PointsOutside (image_in bytes.items) at → ⊥) }
+    ensures err { IfErr result (IsRecoveryFault (image_in bytes.items)) }
 {
     let words = words_in(alloc, bytes)?;
     let recovered = recover_owned(alloc, words, &root_kinds(), &DictFilter)?;
     Ok(recovered)
 }
 
-// The same beside the words of the image.
+// The same beside the words of the image, in the new version.
 fn recover_beside(alloc: Global, bytes: Vec<u8>) -> Result<(Vec<u64>, Recovered), RecoverFault>
-    requires { IsWellFormed (length bytes.items) (image_of_bytes bytes.items) }
-    ensures ok { IfOk result (λ both. IsRecoveredHeap (image_of_bytes bytes.items) both.1) }
-    ensures words { IfOk result (λ both. AreWordsOf both.0.items bytes.items) }
+    requires { HasGoodHeader (Some kind_count) (length bytes.items) (image_of_bytes bytes.items) }
+    ensures ok { IfOk result (λ both. IsRecoveredHeap (image_in bytes.items) both.1) }
+    ensures words { IfOk result (λ both. both.0.items
+        ≡ current_words (words_in_bytes bytes.items) first_kinds) }
     ensures long { IfOk result (λ both. length both.1.heap.words ≡ length both.0.items) }
-    ensures none { OnOk result ((at : ℕ) → PointsOutside (image_of_bytes bytes.items) at → ⊥) }
-    ensures err { IfErr result (IsRecoveryFault (image_of_bytes bytes.items)) }
+    ensures none { OnOk result ((at : ℕ) → PointsOutside (image_in bytes.items) at → ⊥) }
+    ensures err { IfErr result (IsRecoveryFault (image_in bytes.items)) }
 {
-    let words = words_in(alloc, bytes)?;
+    let words = current(alloc, words_in(alloc, bytes)?, &root_kinds())?;
     let recovered = recover(alloc, &words, &root_kinds(), &DictFilter)?;
     Ok((words, recovered))
 }
