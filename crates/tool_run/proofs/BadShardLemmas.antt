@@ -1,9 +1,9 @@
 -- What a command that reads the maps of an image comes to, where the store tells that a shard of it has no map.
 use Rattle.std.proofs.Common.{◌≡◌, ◌⊎◌, ℕ, List, Option, Some, None, inl, inr, sym, subst}
 use Rattle.tool_ports.specs.Contents.{Contents}
-use Rattle.heap_model.specs.Image.{image_of_bytes}
+use Rattle.tool_run.specs.Making.{image_in}
 use Rattle.dict_model.specs.Shards.{LeadsAlone, BadShard as IsBadShard}
-use Rattle.dict_model.proofs.ShardLemmas.{no_bad_place, alone_once}
+use Rattle.dict_model.proofs.ShardLemmas.{no_bad_shard}
 use Rattle.tool_command.specs.Command.{Command, format_image, show_image, drain_image, gen_trace, run_image, rebuild_image, replay_image, image_name, Asks}
 use Rattle.tool_run.specs.declared.fault.Fault.{Fault}
 use Rattle.tool_run.specs.declared.fault.Fault.TheVariants.{Usage, Memory, ReadFault, WriteFault, Absent, Malformed, Outside, BadShard, BadLine, BadStep, TooLong}
@@ -19,8 +19,8 @@ mapped_shard : (contents : Contents) (n name : List ℕ) (shard at : ℕ) → n 
 mapped_shard contents n name shard at named mapped has =
     let same : mapped.bytes ≡ has.bytes = same_bytes contents n name mapped.bytes has.bytes named mapped.is_there has.held in
     let map = mapped.maps shard has.below in
-    no_bad_place (LeadsAlone (image_of_bytes mapped.bytes) shard) (alone_once (image_of_bytes mapped.bytes) shard) (image_of_bytes mapped.bytes) shard map.0 at map.1
-    (subst (λ (l : List ℕ). IsBadShard (image_of_bytes l) shard at) (sym same) has.bad)
+    no_bad_shard (image_in mapped.bytes) shard at map.0 map.1
+    (subst (λ (l : List ℕ). IsBadShard (image_in l) shard at) (sym same) has.bad)
 
 -- nothing is made then
 not_made : (command : Command) (contents : Contents) (name : List ℕ) (shard at : ℕ) (left image : Option (List ℕ)) (text : List ℕ)
@@ -29,8 +29,8 @@ not_made (format_image n capacity) contents name shard at left image text reads 
 not_made (show_image n with_map) contents name shard at left image text reads named has made =
     let same : made.1.bytes ≡ has.bytes = same_bytes contents n name made.1.bytes has.bytes named made.1.is_there has.held in
     let map = made.1.report.maps shard has.below in
-    no_bad_place (LeadsAlone (image_of_bytes made.1.bytes) shard) (alone_once (image_of_bytes made.1.bytes) shard) (image_of_bytes made.1.bytes) shard map.0 at map.1
-    (subst (λ (l : List ℕ). IsBadShard (image_of_bytes l) shard at) (sym same) has.bad)
+    no_bad_shard (image_in made.1.bytes) shard at map.0 map.1
+    (subst (λ (l : List ℕ). IsBadShard (image_in l) shard at) (sym same) has.bad)
 not_made (drain_image n class) contents name shard at left image text reads named has made = reads
 not_made (gen_trace requests seed) contents name shard at left image text reads named has made = reads
 not_made (rebuild_image n budget seed) contents name shard at left image text reads named has made = reads
@@ -55,7 +55,7 @@ refused command contents name shard at get_failed status (Malformed cause) named
     absurd (cc)
 refused command contents name shard at get_failed status (Outside place value) named has is why =
     let same : why.1.bytes ≡ has.bytes = same_bytes contents (image_name command) name why.1.bytes has.bytes named why.1.is_there has.held in
-    absurd (has.inside place (subst (λ (l : List ℕ). PointsOutside (image_of_bytes l) place) same why.1.points))
+    absurd (has.inside place (subst (λ (l : List ℕ). PointsOutside (image_in l) place) same why.1.points))
 refused command contents name shard at get_failed status (BadShard other place) named has is why = inl is
 refused command contents name shard at get_failed status (BadLine line) named has is why = absurd why
 refused command contents name shard at get_failed status (BadStep line) named has is why = absurd why

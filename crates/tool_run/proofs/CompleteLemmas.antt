@@ -1,9 +1,9 @@
 -- A command against which nothing stands stops for want of memory alone, where neither the store nor the sink fails.
 use Rattle.std.proofs.Common.{◌≡◌, ◌⊎◌, ℕ, ◌<◌, List, length, Option, Some, None, inl, inr, sym, subst, arith}
 use Rattle.tool_ports.specs.Contents.{Contents}
-use Rattle.heap_model.specs.Image.{image_of_bytes}
+use Rattle.tool_run.specs.Making.{image_in}
 use Rattle.dict_model.specs.Shards.{LeadsAlone, BadShard as IsBadShard}
-use Rattle.dict_model.proofs.ShardLemmas.{no_bad_place, alone_once}
+use Rattle.dict_model.proofs.ShardLemmas.{no_bad_shard}
 use Rattle.tool_command.specs.Command.{Command, format_image, show_image, drain_image, gen_trace, run_image, rebuild_image, replay_image, image_name, Asks}
 use Rattle.tool_run.specs.declared.fault.Fault.{Fault}
 use Rattle.tool_run.specs.declared.fault.Fault.TheVariants.{Usage, Memory, ReadFault, WriteFault, Absent, Malformed, Outside, BadShard, BadLine, BadStep, TooLong}
@@ -122,13 +122,13 @@ module _ (command : Command) (contents : Contents) (left : Option (List ℕ)) (g
   refused (Outside at value) is why =
       let has = good_of command contents left why.0 can in
       let same : why.1.bytes ≡ has.bytes = same_bytes contents (image_name command) (image_name command) why.1.bytes has.bytes (λ i. image_name command) why.1.is_there has.held in
-      absurd (has.inside at (subst (λ (l : List ℕ). PointsOutside (image_of_bytes l) at) same why.1.points))
+      absurd (has.inside at (subst (λ (l : List ℕ). PointsOutside (image_in l) at) same why.1.points))
   refused (BadShard shard at) is why =
       let has = maps_of command contents left why.0 can in
       let same : why.1.bytes ≡ has.bytes = same_bytes contents (image_name command) (image_name command) why.1.bytes has.bytes (λ i. image_name command) why.1.is_there has.held in
       let map = has.maps shard why.1.lowest.below in
-      absurd (no_bad_place (LeadsAlone (image_of_bytes has.bytes) shard) (alone_once (image_of_bytes has.bytes) shard) (image_of_bytes has.bytes) shard map.0 at map.1
-      (subst (λ (l : List ℕ). IsBadShard (image_of_bytes l) shard at) same why.1.lowest.bad))
+      absurd (no_bad_shard (image_in has.bytes) shard at map.0 map.1
+      (subst (λ (l : List ℕ). IsBadShard (image_in l) shard at) same why.1.lowest.bad))
   refused (BadLine line) is why = absurd why
   refused (BadStep line) is why = absurd why
   refused TooLong is why = absurd why

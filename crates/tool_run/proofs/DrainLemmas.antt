@@ -2,24 +2,23 @@
 use Rattle.std.proofs.Common.{◌≡◌, ◌↔◌, ℕ, ◌≤◌, List, Contains, slice_index, inl, inr, refl, sym, subst}
 use Rattle.heap_model.specs.declared.block.Block.{Block}
 use Rattle.heap_model.specs.Geometry.{largest_capacity, capacity_word}
-use Rattle.heap_model.specs.Image.{Image, image_of_bytes}
-use Rattle.heap_model.specs.Header.{capacity_of}
+use Rattle.heap_model.specs.Image.{Image}
+use Rattle.heap_model.specs.Header.{capacity_of, kinds_of}
 use Rattle.heap_model.specs.Blocks.{layout_of, IsBlock}
 use Rattle.heap_model.specs.Recovered.{IsDrained}
 use Rattle.heap_model.specs.Recovery.{in_header}
-use Rattle.heap_model.proofs.HeaderLemmas.{well_formed}
 use Rattle.heap_model.proofs.ReachLemmas.{reached_block}
-use Rattle.dict_model.specs.Links.{dict_links, root_kind}
+use Rattle.dict_model.specs.Links.{dict_links}
 use Rattle.heap_shape.specs.Draining.{IsDrainable, IsToDrain}
 use Rattle.heap_shape.proofs.RecoveredLemmas.{recovered_drainable, recovered_drains}
 use Rattle.heap_recover.specs.declared.answer.Recovered.{Recovered}
 use Rattle.tool_ports.specs.Contents.{Contents}
-use Rattle.tool_run.specs.Making.{IsKept, IsOffsetDrained, TellsDrained}
+use Rattle.tool_run.specs.Making.{image_in, IsKept, IsOffsetDrained, TellsDrained}
 use Rattle.tool_run.specs.Recovering.{IsRecoveredHeapOf, IsDrainableAtRest, IsGiven, IsOffsetGiven, IsGivenText}
 
 module _ (contents : Contents) (name : List ℕ) (recovered : Recovered) (is : IsRecoveredHeapOf contents name recovered) where
   abbrev image : Image
-  image = image_of_bytes is.bytes
+  image = image_in is.bytes
 
   abbrev words : Image
   words = slice_index recovered.heap.words
@@ -28,10 +27,10 @@ module _ (contents : Contents) (name : List ℕ) (recovered : Recovered) (is : I
   held_are b = (is.is.recovers.held_are.sound b, is.is.recovers.held_are.complete b)
 
   named : (b : Block) → IsKept image b → IsBlock (layout_of image) b
-  named b kept = reached_block image root_kind dict_links b kept.kind kept.reach
+  named b kept = reached_block image (kinds_of image) dict_links b kept.kind kept.reach
 
   small : capacity_of image ≤ largest_capacity
-  small = (well_formed _ image is.good).small
+  small = is.formed.small
 
   capacity_stays : capacity_of words ≡ capacity_of image
   capacity_stays = is.is.recovers.words_are.same capacity_word (in_header capacity_word (inr (inr (inl refl))))

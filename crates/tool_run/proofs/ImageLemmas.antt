@@ -1,19 +1,19 @@
 -- What the first bytes of an image tell of it, where they are more than the longest image has.
-use Rattle.std.proofs.Common.{◌≡◌, ℕ, ◌+◌, ◌-◌, ◌*◌, ◌<◌, ◌≤◌, Bool, true, false, ◌||◌, nat_eq, nat_lt, List, length, take, drop, slice_index, Option, Some, None, IsSomeAnd, refl, sym, ap, ◌∙◌, subst, inl, inr, arith}
+use Rattle.std.proofs.Common.{◌≡◌, ℕ, ◌+◌, ◌-◌, ◌*◌, ◌<◌, ◌≤◌, Bool, true, false, ◌||◌, cond, nat_eq, nat_lt, List, length, take, drop, slice_index, Option, Some, None, IsSomeAnd, refl, sym, ap, ◌∙◌, subst, inl, inr, arith}
 use Rattle.std.proofs.lemmas.Bool.{cases_lt, le-ltb, ltb-false, ne_eqb, or_parts}
 use Rattle.std.proofs.lemmas.List.{drop-take, take_all, length-take-le}
 use Rattle.byteorder.specs.Endian.{little_number}
 use Rattle.byteorder.specs.Numbers.{little_from-take}
 use Rattle.heap_model.specs.declared.header.BadHeader.{BadHeader}
 use Rattle.heap_model.specs.Image.{Image, image_of_bytes}
-use Rattle.heap_model.specs.Header.{header_fault, has_fault, IsWellFormed}
-use Rattle.heap_model.specs.Geometry.{image_words, largest_capacity}
+use Rattle.heap_model.specs.Header.{header_fault, has_fault, HasGoodHeader, is_old, most_superblocks, whole_words, first_kinds}
+use Rattle.heap_model.specs.Geometry.{image_words, old_image_words, largest_capacity, largest_old_capacity, old_capacities_fit}
 use Rattle.heap_model.proofs.HeaderLemmas.{no_fault}
 use Rattle.heap_recover.specs.declared.answer.Recovered.{Recovered}
 use Rattle.heap_recover.specs.declared.fault.RecoverFault.{RecoverFault}
 use Rattle.heap_recover.specs.declared.fault.RecoverFault.TheVariants.{Header, Outside as OutsideFound, Memory as RecoverMemory}
-use Rattle.region_header.specs.Words.{AreWordsOf}
-use Rattle.region_header.proofs.SameHeader.{SameHeader, same_fault}
+use Rattle.region_header.specs.Migration.{current_words}
+use Rattle.region_header.proofs.SameHeader.{SameHeader}
 use Rattle.tool_ports.specs.Contents.{Contents, Holds, HoldsFirst, Lacks}
 use Rattle.tool_ports.specs.declared.image_store.GetFault.{GetFault}
 use Rattle.tool_ports.specs.declared.image_store.GetFault.TheVariants.{Absent as NoSuchImage, Failed as GetFailed, Memory as GetMemory}
@@ -22,11 +22,11 @@ use Rattle.tool_run.specs.declared.fault.Fault.TheVariants.{Malformed}
 use Rattle.tool_run.specs.Calls.{get_limit}
 use Rattle.tool_command.specs.Command.{Command, image_name}
 use Rattle.tool_run.specs.Inside.{Refuses, fault_of_recovery, fault_of_get}
-use Rattle.tool_run.specs.Making.{GetsImage, fault_of, Shows, IsMalformed, HasOutside, PointsOutside}
-use Rattle.tool_run.specs.Recovering.{IsGoodImage, IsRecoveredHeapOf, IsRecoveredFrom, IsRecoveredHeap, IsRecoveryFault, IsTextOf}
+use Rattle.tool_run.specs.Making.{GetsImage, fault_of, image_in, Shows, IsMalformed, HasOutside, PointsOutside}
+use Rattle.tool_run.specs.Recovering.{IsGoodImage, HoldsImage, IsRecoveredHeapOf, IsRecoveredFrom, IsRecoveredHeap, IsRecoveryFault, IsTextOf, words_in_bytes}
 use Rattle.std.specs.BTreeMap.{BTreeMap}
 use Rattle.heap_model.specs.Rest.{IsReady}
-use Rattle.dict_model.specs.Links.{shards}
+use Rattle.dict_model.specs.Links.{shards, kind_count}
 use Rattle.dictionary.specs.Reading.{AreMaps}
 use Rattle.image_run.proofs.RecoveredLemmas.{recovers_to, maps_of_image}
 use Rattle.image_run.proofs.TextLemmas.{reports}
@@ -43,20 +43,30 @@ first_words bytes i below =
     ap (λ n. drop (8 * i) (take n bytes)) whole ∙ drop-take (8 * i) (get_limit - 8 * i) bytes in
     ap (little_number 8) front ∙ little_from-take 0 8 (get_limit - 8 * i) (drop (8 * i) bytes) (omega arith)
 
--- images of the same words that are too long have the same fault
-long_fault : (m n : ℕ) (image : Image) (wide : Bool) → get_limit ≤ m → get_limit ≤ n → (nat_eq (image 2) 0 || nat_lt largest_capacity (image 2)) ≡ wide → header_fault m image ≡ header_fault n image
+-- a whole image of a version, with a capacity that it may have, is shorter than what is got at most
+fits : (old : Bool) (capacity : ℕ) → capacity ≤ cond old largest_old_capacity largest_capacity
+    → 8 * cond old (old_image_words capacity) (image_words capacity) < get_limit
+fits true capacity small = omega (arith, small, old_capacities_fit)
+fits false capacity small = omega (arith, small)
+
+-- images with the same header that are too long have the same fault, which is found before their kinds are looked at
+long_fault : (limit : Option ℕ) (m n : ℕ) (image other : Image) (wide : Bool) → SameHeader image other → get_limit ≤ m → get_limit ≤ n
+    → (nat_eq (other 2) 0 || nat_lt (most_superblocks other) (other 2)) ≡ wide → header_fault limit m image ≡ header_fault limit n other
 unfolding header_fault has_fault
-long_fault m n image true long longer is =
-    rw (le-ltb m 8512 (omega arith), le-ltb n 8512 (omega arith), is) refl
-long_fault m n image false long longer is =
-    let range = or_parts (nat_eq (image 2) 0) (nat_lt largest_capacity (image 2)) is in
-    let small = ltb-false largest_capacity (image 2) range.1 in
+long_fault limit m n image other true same long longer is =
+    rw (same 0 (omega arith), same 1 (omega arith), same 2 (omega arith), le-ltb m 8512 (omega arith), le-ltb n 8512 (omega arith), is) refl
+long_fault limit m n image other false same long longer is =
+    let range = or_parts (nat_eq (other 2) 0) (nat_lt (most_superblocks other) (other 2)) is in
+    let short = fits (is_old other) (other 2) (ltb-false (most_superblocks other) (other 2) range.1) in
     rw (
+      same 0 (omega arith),
+      same 1 (omega arith),
+      same 2 (omega arith),
       le-ltb m 8512 (omega arith),
       le-ltb n 8512 (omega arith),
       is,
-      ne_eqb m (8 * image_words (image 2)) (λ e. omega (arith, small)),
-      ne_eqb n (8 * image_words (image 2)) (λ e. omega (arith, small)),
+      ne_eqb m (8 * whole_words other) (λ e. omega (arith, short)),
+      ne_eqb n (8 * whole_words other) (λ e. omega (arith, short)),
     ) refl
 
 -- the first bytes have the fault that all have
@@ -64,8 +74,8 @@ first_fault : (bytes : List ℕ) → fault_of (take get_limit bytes) ≡ fault_o
 first_fault bytes = elim (cases_lt (length bytes) get_limit) [
   | inl short ↦ ap fault_of (take_all get_limit bytes (omega arith))
   | inr long ↦
-      same_fault (length (take get_limit bytes)) (image_of_bytes (take get_limit bytes)) (image_of_bytes bytes) (first_words bytes)
-      ∙ long_fault (length (take get_limit bytes)) (length bytes) (image_of_bytes bytes) _ (omega (arith, length-take-le get_limit bytes long)) long refl
+      long_fault (Some kind_count) (length (take get_limit bytes)) (length bytes) (image_of_bytes (take get_limit bytes)) (image_of_bytes bytes) _ (first_words bytes)
+      (omega (arith, length-take-le get_limit bytes long)) long refl
 ]
 
 -- The bytes that a store gave are the first of those of an image which, where the store tells, is the one it has.
@@ -98,29 +108,36 @@ short_whole bytes short = elim (cases_lt (length bytes) get_limit) as (λ _. len
   | inr long ↦ let cut = length-take-le get_limit bytes long in omega (arith, cut)
 ]
 
-pub whole_image : (contents : Contents) (name got : List ℕ) → HoldsFirst contents name get_limit got → IsWellFormed (length got) (image_of_bytes got) → IsGoodImage contents name got
-whole_image None name got first good = record { is_there = tt; good = no_fault (length got) (image_of_bytes got) good }
+-- an image with a good header is shorter than what is got at most
+good_short : (bytes : ℕ) (image : Image) → HasGoodHeader (Some kind_count) bytes image → bytes < get_limit
+good_short bytes image (inl old) = let long = old.length_is in let short = fits true (image 2) old.small in omega arith
+good_short bytes image (inr (new, kinds)) = let long = new.length_is in let short = fits false (image 2) new.small in omega arith
+
+pub whole_image : (contents : Contents) (name got : List ℕ) → HoldsFirst contents name get_limit got → HasGoodHeader (Some kind_count) (length got) (image_of_bytes got)
+    → IsGoodImage contents name got
+whole_image None name got first good = record { is_there = tt; good = no_fault (Some kind_count) (length got) (image_of_bytes got) good }
 whole_image (Some image_of) name got first good =
     let at = held_image (image_of name) got first in
-    let short : length got < get_limit = let length_is = good.length_is in let small = good.small in omega arith in
-    let cut : length (take get_limit at.0) < get_limit = subst (λ (l : List ℕ). length l < get_limit) at.2 short in
+    let cut : length (take get_limit at.0) < get_limit = subst (λ (l : List ℕ). length l < get_limit) at.2 (good_short (length got) (image_of_bytes got) good) in
     let whole : got ≡ at.0 = at.2 ∙ take_all get_limit at.0 (short_whole at.0 cut) in
-    record { is_there = at.1 ∙ ap (λ (l : List ℕ). Some l) (sym whole); good = no_fault (length got) (image_of_bytes got) good }
+    record { is_there = at.1 ∙ ap (λ (l : List ℕ). Some l) (sym whole); good = no_fault (Some kind_count) (length got) (image_of_bytes got) good }
 
 -- the same, where the header of other bytes that are these was looked at
-pub whole_shown : (contents : Contents) (name got shown : List ℕ) → HoldsFirst contents name get_limit got → shown ≡ got → IsWellFormed (length shown) (image_of_bytes shown) → IsGoodImage contents name got
-whole_shown contents name got shown first are good = whole_image contents name got first (subst (λ (l : List ℕ). IsWellFormed (length l) (image_of_bytes l)) are good)
+pub whole_shown : (contents : Contents) (name got shown : List ℕ) → HoldsFirst contents name get_limit got → shown ≡ got
+    → HasGoodHeader (Some kind_count) (length shown) (image_of_bytes shown) → IsGoodImage contents name got
+whole_shown contents name got shown first are good =
+    whole_image contents name got first (subst (λ (l : List ℕ). HasGoodHeader (Some kind_count) (length l) (image_of_bytes l)) are good)
 
 -- what the tool tells of a recovery that failed, where a command gets the image
 pub is_refused : (contents : Contents) (name got shown : List ℕ) (get_failed : Type 0) (cause : RecoverFault) (fault : Fault)
-    → fault ≡ fault_of_recovery cause → IsGoodImage contents name got → shown ≡ got → IsRecoveryFault (image_of_bytes shown) cause
+    → fault ≡ fault_of_recovery cause → IsGoodImage contents name got → shown ≡ got → IsRecoveryFault (image_in shown) cause
     → (command : Command) → GetsImage command → image_name command ≡ name → Refuses command contents get_failed fault
 is_refused contents name got shown get_failed (Header cause) fault is whole are why command gets named = absurd why
 is_refused contents name got shown get_failed RecoverMemory fault is whole are why command gets named =
     subst (λ (f : Fault). Refuses command contents get_failed f) (sym is) tt
 is_refused contents name got shown get_failed (OutsideFound at value) fault is whole are why command gets named =
-    let here : PointsOutside (image_of_bytes got) at = subst (λ (l : List ℕ). PointsOutside (image_of_bytes l) at) are why.0 in
-    let there : value ≡ image_of_bytes got at = why.1 ∙ ap (λ (l : List ℕ). image_of_bytes l at) are in
+    let here : PointsOutside (image_in got) at = subst (λ (l : List ℕ). PointsOutside (image_in l) at) are why.0 in
+    let there : value ≡ image_in got at = why.1 ∙ ap (λ (l : List ℕ). image_in l at) are in
     let has : HasOutside contents name at value = record { bytes = got; is_there = whole.is_there; good = whole.good; points = here; value_is = there } in
     subst (λ (f : Fault). Refuses command contents get_failed f) (sym is) (gets, subst (λ (n : List ℕ). HasOutside contents n at value) (sym named) has)
 
@@ -137,23 +154,24 @@ is_not_got contents name get_failed GetMemory fault is lacks failed command gets
 
 -- an image that was recovered
 pub is_recovered : (contents : Contents) (name got shown : List ℕ) (recovered : Recovered) → IsGoodImage contents name got → shown ≡ got
-    → IsRecoveredHeap (image_of_bytes shown) recovered → ((at : ℕ) → PointsOutside (image_of_bytes shown) at → ⊥) → IsRecoveredHeapOf contents name recovered
-is_recovered contents name got shown recovered whole are is inside = record {
+    → IsRecoveredHeap (image_in shown) recovered → ((at : ℕ) → PointsOutside (image_in shown) at → ⊥) → HoldsImage shown → IsRecoveredHeapOf contents name recovered
+is_recovered contents name got shown recovered whole are is inside formed = record {
   bytes = got;
   is_there = whole.is_there;
   good = whole.good;
-  inside = subst (λ (l : List ℕ). (at : ℕ) → PointsOutside (image_of_bytes l) at → ⊥) are inside;
-  is = subst (λ (l : List ℕ). IsRecoveredHeap (image_of_bytes l) recovered) are is;
+  inside = subst (λ (l : List ℕ). (at : ℕ) → PointsOutside (image_in l) at → ⊥) are inside;
+  formed = subst (λ (l : List ℕ). HoldsImage l) are formed;
+  is = subst (λ (l : List ℕ). IsRecoveredHeap (image_in l) recovered) are is;
 }
 
 -- and its words beside it
 pub is_recovered_from : (contents : Contents) (name got shown words : List ℕ) (recovered : Recovered) → IsGoodImage contents name got → shown ≡ got
-    → IsRecoveredHeap (image_of_bytes shown) recovered → ((at : ℕ) → PointsOutside (image_of_bytes shown) at → ⊥)
-    → AreWordsOf words shown → length recovered.heap.words ≡ length words → IsRecoveredFrom contents name words recovered
+    → IsRecoveredHeap (image_in shown) recovered → ((at : ℕ) → PointsOutside (image_in shown) at → ⊥) → HoldsImage shown
+    → words ≡ current_words (words_in_bytes shown) first_kinds → length recovered.heap.words ≡ length words → IsRecoveredFrom contents name words recovered
 unfolding is_recovered
-is_recovered_from contents name got shown words recovered whole are is inside words_are long = record {
-  image = is_recovered contents name got shown recovered whole are is inside;
-  words_are = subst (λ (l : List ℕ). AreWordsOf words l) are words_are;
+is_recovered_from contents name got shown words recovered whole are is inside formed words_are long = record {
+  image = is_recovered contents name got shown recovered whole are is inside formed;
+  words_are = subst (λ (l : List ℕ). words ≡ current_words (words_in_bytes l) first_kinds) are words_are;
   long = long;
 }
 
@@ -162,14 +180,14 @@ pub shows : (contents : Contents) (name text : List ℕ) (maps : List (BTreeMap 
     → IsReady recovered.heap.words recovered.heap.held → AreMaps (slice_index recovered.heap.words) shards maps
     → IsTextOf recovered maps false with_map text → Shows contents name with_map text
 shows contents name text maps with_map recovered is ready are text_is =
-    let to = recovers_to (image_of_bytes is.bytes) recovered is.is is.inside ready in
-    let of_image = maps_of_image (image_of_bytes is.bytes) (slice_index recovered.heap.words) to maps are in
+    let to = recovers_to (image_in is.bytes) recovered is.is is.inside ready in
+    let of_image = maps_of_image (image_in is.bytes) (slice_index recovered.heap.words) to maps are in
     record {
       bytes = is.bytes;
       is_there = is.is_there;
       good = is.good;
       inside = is.inside;
-      report = reports (image_of_bytes is.bytes) recovered maps false with_map text is.is of_image text_is;
+      report = reports (image_in is.bytes) recovered maps false with_map text is.is of_image text_is;
     }
 
 -- the cause of a bad header, where a command gets the image

@@ -3,7 +3,7 @@ use Rattle.std.proofs.Common.{◌≡◌, ℕ, List, slice_index, sym, subst, ari
 use Rattle.std.specs.BTreeMap.{BTreeMap, get}
 use Rattle.std.specs.Ordering.{nat_cmp}
 use Rattle.heap_model.specs.Rest.{IsReady}
-use Rattle.heap_model.specs.Image.{image_of_bytes}
+use Rattle.tool_run.specs.Making.{image_in}
 use Rattle.dict_model.specs.Links.{shards}
 use Rattle.dictionary.specs.declared.fault.MapFault.{MapFault}
 use Rattle.dictionary.specs.declared.fault.MapFault.TheVariants.{BadShard as NoMap, Memory as MapMemory}
@@ -20,12 +20,12 @@ use Rattle.tool_run.specs.Making.{Reads, HasBadShard}
 use Rattle.tool_run.specs.Recovering.{IsRecoveredHeapOf, IsMapped}
 
 module _ (contents : Contents) (name : List ℕ) (recovered : Recovered) (is : IsRecoveredHeapOf contents name recovered) (ready : IsReady recovered.heap.words recovered.heap.held) where
-  pub to_words : RecoversTo (image_of_bytes is.bytes) (slice_index recovered.heap.words)
-  to_words = recovers_to (image_of_bytes is.bytes) recovered is.is is.inside ready
+  pub to_words : RecoversTo (image_in is.bytes) (slice_index recovered.heap.words)
+  to_words = recovers_to (image_in is.bytes) recovered is.is is.inside ready
 
   pub is_mapped : (maps : List (BTreeMap ℕ (List ℕ))) → AreMaps (slice_index recovered.heap.words) shards maps → IsMapped contents name recovered.heap.words recovered.heap.held
   is_mapped maps are =
-      let of_image = maps_of_image (image_of_bytes is.bytes) (slice_index recovered.heap.words) to_words maps are in
+      let of_image = maps_of_image (image_in is.bytes) (slice_index recovered.heap.words) to_words maps are in
       record {
         image = record {
           bytes = is.bytes;
@@ -37,7 +37,7 @@ module _ (contents : Contents) (name : List ℕ) (recovered : Recovered) (is : I
         to = to_words;
         maps = maps;
         are = are;
-        dictionary = recovered_dictionary (image_of_bytes is.bytes) (slice_index recovered.heap.words) to_words recovered.heap.held is.is.recovers.held_are maps are;
+        dictionary = recovered_dictionary (image_in is.bytes) (slice_index recovered.heap.words) to_words recovered.heap.held is.is.recovers.held_are maps is.is.kinds are;
       }
 
   pub refuses_maps : (command : Command) (get_failed : Type 0) (cause : MapFault) (fault : Fault) → fault ≡ fault_of_maps cause → TellsLowest (slice_index recovered.heap.words) cause
@@ -51,9 +51,9 @@ module _ (contents : Contents) (name : List ℕ) (recovered : Recovered) (is : I
         inside = is.inside;
         lowest = record {
           below = tells.0;
-          bad = bad_kept (image_of_bytes is.bytes) (slice_index recovered.heap.words) to_words shard at tells.0 tells.1;
+          bad = bad_kept (image_in is.bytes) (slice_index recovered.heap.words) to_words shard at tells.0 tells.1;
           lower = λ i low. let map = tells.2 i low in
-              (map.0, map_kept (image_of_bytes is.bytes) (slice_index recovered.heap.words) to_words i map.0 (omega arith) map.1);
+              (map.0, map_kept (image_in is.bytes) (slice_index recovered.heap.words) to_words i map.0 (omega arith) map.1);
         };
       } in
       subst (λ (f : Fault). Refuses command contents get_failed f) (sym same) (reads, subst (λ (n : List ℕ). HasBadShard contents n shard at) (sym named) has)

@@ -2,7 +2,7 @@
 use Rattle.std.proofs.Common.{◌≡◌, ◌⊎◌, ℕ, List, length, Option, slice_index, inl, inr, refl, ap, sym, subst, ◌∙◌, arith}
 use Rattle.std.proofs.lemmas.Grind.{same_number_lists}
 use Rattle.heap_model.specs.declared.block.Block.{Block}
-use Rattle.heap_model.specs.Image.{image_of_bytes}
+use Rattle.tool_run.specs.Making.{image_in}
 use Rattle.core_model.specs.declared.event.Event.{Event}
 use Rattle.image_run.specs.Reporting.{Recovers}
 use Rattle.image_run.proofs.OneRecoveryLemmas.{one_held, one_recovered}
@@ -34,12 +34,12 @@ one_heap : (contents : Contents) (name words words' : List ℕ) (held held' : Li
 one_heap contents name words words' held held' good is too =
     let bytes : too.image.bytes ≡ is.image.bytes =
     same_bytes contents name name too.image.bytes good.bytes refl too.image.is_there good.held ∙ sym (same_bytes contents name name is.image.bytes good.bytes refl is.image.is_there good.held) in
-    let recovers : Recovers (image_of_bytes is.image.bytes) held' too.free (slice_index words') =
-    subst (λ (l : List ℕ). Recovers (image_of_bytes l) held' too.free (slice_index words')) bytes too.recovers in
+    let recovers : Recovers (image_in is.image.bytes) held' too.free (slice_index words') =
+    subst (λ (l : List ℕ). Recovers (image_in l) held' too.free (slice_index words')) bytes too.recovers in
     let long : length words' ≡ length words = let a = is.long in let b = too.long in let c = ap (λ (l : List ℕ). length l) bytes in omega arith in (
       same_number_lists words' words long
-          (λ k below. one_recovered (image_of_bytes is.image.bytes) (slice_index words) (slice_index words') held held' is.free too.free is.recovers recovers k),
-      one_held (image_of_bytes is.image.bytes) (slice_index words) (slice_index words') held held' is.free too.free is.recovers recovers,
+          (λ k below. one_recovered (image_in is.image.bytes) (slice_index words) (slice_index words') held held' is.free too.free is.recovers recovers k),
+      one_held (image_in is.image.bytes) (slice_index words) (slice_index words') held held' is.free too.free is.recovers recovers,
     )
 
 -- where the source tells what it has left, that is one schedule

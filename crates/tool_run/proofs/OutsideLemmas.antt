@@ -1,7 +1,7 @@
 -- What a command that gets an image comes to, where the store tells that a word of it points outside.
 use Rattle.std.proofs.Common.{◌≡◌, ◌⊎◌, ℕ, List, Option, Some, None, IfSome, inl, inr, sym, subst}
 use Rattle.tool_ports.specs.Contents.{Contents, Holds, told_of}
-use Rattle.heap_model.specs.Image.{image_of_bytes}
+use Rattle.tool_run.specs.Making.{image_in}
 use Rattle.tool_command.specs.Command.{Command, format_image, show_image, drain_image, gen_trace, run_image, rebuild_image, replay_image, image_name, Asks}
 use Rattle.tool_run.specs.declared.fault.Fault.{Fault}
 use Rattle.tool_run.specs.declared.fault.Fault.TheVariants.{Usage, Memory, ReadFault, WriteFault, Absent, Malformed, Outside, BadShard, BadLine, BadStep, TooLong}
@@ -25,13 +25,13 @@ same_bytes contents n name a b named holds told =
 pub mapped_inside : (contents : Contents) (n name : List ℕ) (at : ℕ) → n ≡ name → HasMapped contents n → HoldsOutside contents name at → ⊥
 mapped_inside contents n name at named mapped has =
     let same : mapped.bytes ≡ has.bytes = same_bytes contents n name mapped.bytes has.bytes named mapped.is_there has.held in
-    mapped.inside at (subst (λ (l : List ℕ). PointsOutside (image_of_bytes l) at) (sym same) has.points)
+    mapped.inside at (subst (λ (l : List ℕ). PointsOutside (image_in l) at) (sym same) has.points)
 
 -- nor has one that can be recovered
 pub good_inside : (contents : Contents) (n name : List ℕ) (at : ℕ) → n ≡ name → HasGood contents n → HoldsOutside contents name at → ⊥
 good_inside contents n name at named image has =
     let same : image.bytes ≡ has.bytes = same_bytes contents n name image.bytes has.bytes named image.is_there has.held in
-    image.inside at (subst (λ (l : List ℕ). PointsOutside (image_of_bytes l) at) (sym same) has.points)
+    image.inside at (subst (λ (l : List ℕ). PointsOutside (image_in l) at) (sym same) has.points)
 
 -- nothing is made then
 not_made : (command : Command) (contents : Contents) (name : List ℕ) (at : ℕ) (left image : Option (List ℕ)) (text : List ℕ)
@@ -41,14 +41,14 @@ not_made (gen_trace requests seed) contents name at left image text gets named h
 not_made (run_image n options) contents name at left image text gets named has made = mapped_inside contents n name at named made.mapped has
 not_made (rebuild_image n budget seed) contents name at left image text gets named has made =
     let same : made.bytes ≡ has.bytes = same_bytes contents n name made.bytes has.bytes named made.is_there has.held in
-    made.inside at (subst (λ (l : List ℕ). PointsOutside (image_of_bytes l) at) (sym same) has.points)
+    made.inside at (subst (λ (l : List ℕ). PointsOutside (image_in l) at) (sym same) has.points)
 not_made (replay_image n seed) contents name at left image text gets named has made = good_inside contents n name at named made.1.heap.image has
 not_made (show_image n with_map) contents name at left image text gets named has made =
     let same : made.1.bytes ≡ has.bytes = same_bytes contents n name made.1.bytes has.bytes named made.1.is_there has.held in
-    made.1.inside at (subst (λ (l : List ℕ). PointsOutside (image_of_bytes l) at) (sym same) has.points)
+    made.1.inside at (subst (λ (l : List ℕ). PointsOutside (image_in l) at) (sym same) has.points)
 not_made (drain_image n class) contents name at left image text gets named has made =
     let same : made.1.bytes ≡ has.bytes = same_bytes contents n name made.1.bytes has.bytes named made.1.is_there has.held in
-    made.1.inside at (subst (λ (l : List ℕ). PointsOutside (image_of_bytes l) at) (sym same) has.points)
+    made.1.inside at (subst (λ (l : List ℕ). PointsOutside (image_in l) at) (sym same) has.points)
 
 -- want of memory, a failed get, or that
 refused : (command : Command) (contents : Contents) (name : List ℕ) (at : ℕ) (get_failed : Type 0) (status : ℕ) (fault : Fault)
@@ -68,7 +68,7 @@ refused command contents name at get_failed status (Malformed cause) named has i
     absurd (cc)
 refused command contents name at get_failed status (BadShard shard place) named has is why =
     let same : why.1.bytes ≡ has.bytes = same_bytes contents (image_name command) name why.1.bytes has.bytes named why.1.is_there has.held in
-    absurd (why.1.inside at (subst (λ (l : List ℕ). PointsOutside (image_of_bytes l) at) (sym same) has.points))
+    absurd (why.1.inside at (subst (λ (l : List ℕ). PointsOutside (image_in l) at) (sym same) has.points))
 refused command contents name at get_failed status (Outside place value) named has is why = inl is
 refused command contents name at get_failed status (BadLine line) named has is why = absurd why
 refused command contents name at get_failed status (BadStep line) named has is why = absurd why

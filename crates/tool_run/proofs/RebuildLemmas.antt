@@ -1,29 +1,33 @@
 -- An image that was recovered, with its words beside it, can be rebuilt, and what that gives is said of its bytes.
-use Rattle.std.proofs.Common.{◌≡◌, ℕ, ◌*◌, List, length, Some, slice_index, refl, sym, subst, arith}
+use Rattle.std.proofs.Common.{◌≡◌, ℕ, ◌*◌, List, length, Some, slice_index, refl, sym, ap, subst, arith}
 use Rattle.heap_model.specs.declared.block.Block.{Block}
 use Rattle.heap_model.specs.Geometry.{image_words}
 use Rattle.heap_model.specs.Header.{IsWellFormed, capacity_of}
-use Rattle.heap_model.specs.Image.{Image, image_of_bytes}
+use Rattle.heap_model.specs.Image.{Image}
 use Rattle.heap_model.specs.Recovered.{AreAscending}
 use Rattle.heap_model.specs.Recovery.{IsRecovered as HasWords}
-use Rattle.heap_model.proofs.HeaderLemmas.{well_formed}
 use Rattle.heap_recover.specs.InPlace.{IsRecoveryOf}
 use Rattle.heap_recover.specs.declared.answer.Recovered.{Recovered}
-use Rattle.dict_model.specs.Links.{dict_links, root_kind}
+use Rattle.dict_model.specs.Links.{dict_links}
 use Rattle.tool_ports.specs.Contents.{Contents}
-use Rattle.tool_run.specs.Making.{IsKept, PointsOutside, Rebuilds, RebuildsNamed}
+use Rattle.tool_run.specs.Making.{image_in, IsKept, PointsOutside, Rebuilds, RebuildsNamed}
 use Rattle.tool_run.specs.Recovering.{IsRecoveredFrom}
 
 module _ (contents : Contents) (name words : List ℕ) (recovered : Recovered) (is : IsRecoveredFrom contents name words recovered) where
-  same : image_of_bytes is.image.bytes ≡ slice_index words
-  same = λ i at. sym (is.words_are.word at) i
+  same : image_in is.image.bytes ≡ slice_index words
+  same = ap (λ (ws : List ℕ). slice_index ws) (sym is.words_are)
 
-  formed : IsWellFormed (8 * length words) (image_of_bytes is.image.bytes)
-  formed = subst (λ n. IsWellFormed n (image_of_bytes is.image.bytes)) (sym is.words_are.count) (well_formed (length is.image.bytes) (image_of_bytes is.image.bytes) is.image.good)
+  pub count : length words ≡ image_words (capacity_of (image_in is.image.bytes))
+  count =
+      let whole = is.image.formed.length_is in
+      let same_length = ap (λ (ws : List ℕ). length ws) is.words_are in omega arith
 
-  pub recovery_of_words : IsRecoveryOf words root_kind dict_links recovered.heap.words recovered.heap.held
+  formed : IsWellFormed (8 * length words) (slice_index words)
+  formed = subst (λ (ws : List ℕ). IsWellFormed (8 * length ws) (slice_index ws)) (sym is.words_are) is.image.formed
+
+  pub recovery_of_words : IsRecoveryOf words dict_links recovered.heap.words recovered.heap.held
   recovery_of_words = record {
-    formed = subst (λ (image : Image). IsWellFormed (8 * length words) image) same formed;
+    formed = formed;
     none_outside = subst (λ (image : Image). (at : ℕ) → PointsOutside image at → ⊥) same is.image.inside;
     held_are = subst (λ (image : Image). AreAscending (λ (b : Block). b.first_word) (IsKept image) recovered.heap.held) same is.image.is.recovers.held_are;
     long = is.long;
@@ -39,8 +43,6 @@ module _ (contents : Contents) (name words : List ℕ) (recovered : Recovered) (
     inside = is.image.inside;
     image = image;
     put_is = refl;
-    rebuilds = subst (λ n. Rebuilds (image_of_bytes is.image.bytes) n budget image text) count
+    rebuilds = subst (λ n. Rebuilds (image_in is.image.bytes) n budget image text) count
         (subst (λ (i : Image). Rebuilds i (length words) budget image text) (sym same) rebuilds);
-  } where
-    count : length words ≡ image_words (capacity_of (image_of_bytes is.image.bytes))
-    count = let long = formed.length_is in omega arith
+  }

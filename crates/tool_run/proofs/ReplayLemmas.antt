@@ -12,6 +12,7 @@ use Rattle.trace_text.proofs.ScheduleLemmas.{steps_of_seats}
 use Rattle.tool_run.specs.declared.fault.Fault.{Fault}
 use Rattle.tool_run.specs.declared.fault.Fault.TheVariants.{Usage, Memory, ReadFault, WriteFault, Absent, Malformed, Outside, BadShard, BadLine, BadStep, TooLong}
 use Rattle.tool_command.specs.Command.{replay_image}
+use Rattle.tool_run.proofs.RebuildLemmas.{count}
 use Rattle.tool_run.specs.Inside.{IsReplayFault, IsBeforeReading, RefusesEither, fault_of_replay}
 use Rattle.tool_run.specs.Making.{HasHeap, HasSchedule}
 use Rattle.tool_run.specs.Recovering.{IsRecoveredFrom}
@@ -44,7 +45,7 @@ module _ (contents : Contents) (name words : List ℕ) (recovered : Recovered) (
     image = record { bytes = is.image.bytes; is_there = is.image.is_there; good = is.image.good; inside = is.image.inside };
     free = recovered.free.items;
     recovers = is.image.is.recovers;
-    long = ap (λ n. 8 * n) is.long ∙ is.words_are.count;
+    long = is.long ∙ count contents name words recovered is;
   }
 
   -- what was refused once the image was good

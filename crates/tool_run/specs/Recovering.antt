@@ -2,7 +2,7 @@
 use Rattle.std.specs.Prelude.{◌≡◌, ◌≢◌, ℕ, ◌*◌, List, length, None, Contains, AllPairs, slice_index}
 use Rattle.heap_model.specs.declared.block.Block.{Block}
 use Rattle.heap_model.specs.Image.{Image}
-use Rattle.heap_model.specs.Header.{capacity_of, first_kinds}
+use Rattle.heap_model.specs.Header.{IsWellFormed, capacity_of, first_kinds}
 use Rattle.heap_model.specs.Recovered.{AreAscending}
 use Rattle.heap_recover.specs.declared.answer.Recovered.{Recovered}
 use Rattle.heap_recover.specs.declared.fault.RecoverFault.{RecoverFault}
@@ -22,12 +22,17 @@ pub record IsGoodImage (contents : Contents) (name bytes : List ℕ) : Type 0 wh
   pub is_there : Holds contents name bytes
   pub good : fault_of bytes ≡ None
 
+-- the bytes hold an image with a good header, in the new version
+abbrev pub HoldsImage : List ℕ → Type 0
+HoldsImage bytes = IsWellFormed (8 * length (current_words (words_in_bytes bytes) first_kinds)) (image_in bytes)
+
 -- the heap is what recovery of the image of this name gives
 pub record IsRecoveredHeapOf (contents : Contents) (name : List ℕ) (recovered : Recovered) : Type 0 where
   pub bytes : List ℕ
   pub is_there : Holds contents name bytes
   pub good : fault_of bytes ≡ None
   pub inside : (at : ℕ) → PointsOutside (image_in bytes) at → ⊥
+  pub formed : HoldsImage bytes
   pub is : IsRecoveredHeap (image_in bytes) recovered
 
 -- and these are the words of that image, in the new version

@@ -11,7 +11,7 @@ ghost use Rattle.tool_run.specs.Calls.{get_limit};
 ghost use Rattle.tool_command.specs.Command.{Command, image_name};
 ghost use Rattle.tool_run.specs.Inside.{Refuses};
 ghost use Rattle.tool_run.specs.Making.{GetsImage, PointsOutside, image_in};
-ghost use Rattle.tool_run.specs.Recovering.{IsGoodImage, IsRecoveredHeapOf, IsRecoveredFrom, IsRecoveredHeap, IsRecoveryFault, words_in_bytes};
+ghost use Rattle.tool_run.specs.Recovering.{IsGoodImage, HoldsImage, IsRecoveredHeapOf, IsRecoveredFrom, IsRecoveredHeap, IsRecoveryFault, words_in_bytes};
 
 use crate::fault::Fault;
 use dictionary::{DictFilter, root_kinds};
@@ -91,6 +91,7 @@ fn most_bytes() -> usize
 fn recover_bytes(alloc: Global, bytes: Vec<u8>) -> Result<Recovered, RecoverFault>
     requires { HasGoodHeader (Some kind_count) (length bytes.items) (image_of_bytes bytes.items) }
     ensures ok { IfOk result (IsRecoveredHeap (image_in bytes.items)) }
+    ensures formed { OnOk result (HoldsImage bytes.items) }
     ensures none { OnOk result ((at : ℕ) → PointsOutside (image_in bytes.items) at → ⊥) }
     ensures err { IfErr result (IsRecoveryFault (image_in bytes.items)) }
 {
@@ -103,6 +104,7 @@ fn recover_bytes(alloc: Global, bytes: Vec<u8>) -> Result<Recovered, RecoverFaul
 fn recover_beside(alloc: Global, bytes: Vec<u8>) -> Result<(Vec<u64>, Recovered), RecoverFault>
     requires { HasGoodHeader (Some kind_count) (length bytes.items) (image_of_bytes bytes.items) }
     ensures ok { IfOk result (λ both. IsRecoveredHeap (image_in bytes.items) both.1) }
+    ensures formed { OnOk result (HoldsImage bytes.items) }
     ensures words { IfOk result (λ both. both.0.items
         ≡ current_words (words_in_bytes bytes.items) first_kinds) }
     ensures long { IfOk result (λ both. length both.1.heap.words ≡ length both.0.items) }

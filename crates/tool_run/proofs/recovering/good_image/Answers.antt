@@ -11,4 +11,4 @@ returns-in_err-check_bytes-clause-err g c =
 pub returns-clause-ok : goal.returns-clause-ok
 returns-clause-ok g c =
     let first = first_limited (g.I.ImageStore.contents c.args.images.now) c.args.name.now c.in_ok-image.image.items _ c.most_bytes.ensures c.in_ok-image.ensures.ok in
-    whole_shown _ _ _ _ first c.deref.ensures.value c.in_ok-check_bytes.ensures.well_formed
+    whole_shown _ _ _ _ first c.deref.ensures.value c.in_ok-check_bytes.ensures.good

@@ -1,5 +1,5 @@
 use Rattle.std.proofs.Common.{List, refl, sym, subst, slice_index}
-use Rattle.heap_model.specs.Image.{image_of_bytes}
+use Rattle.tool_run.specs.Making.{image_in}
 use Rattle.image_run.proofs.CarryLemmas.{runs_carried}
 use Rattle.image_run.specs.Running.{RunsRequests, options_of}
 use Rattle.tool_command.specs.Command.{run_image}
@@ -33,7 +33,7 @@ returns-clause-ok g c =
       lines_are = lines.lines_are;
       image = c.in_ok-product.product.image;
       put_is = refl;
-      runs = runs_carried (image_of_bytes heap.image.bytes) (slice_index c.in_ok-heap.heap.words) heap.to heap.maps heap.are
+      runs = runs_carried (image_in heap.image.bytes) (slice_index c.in_ok-heap.heap.words) heap.to heap.maps heap.are
           (requests_of c.in_ok-requests.requests.items) (options_of c.args.options) c.in_ok-product.product.image c.in_ok-product.product.text
           (subst (λ (l : List Line). RunsRequests (slice_index c.in_ok-heap.heap.words) (requests_of l) (options_of c.args.options) c.in_ok-product.product.image c.in_ok-product.product.text)
           c.deref.ensures.value c.in_ok-product.ensures.ok);
