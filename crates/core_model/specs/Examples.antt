@@ -372,7 +372,7 @@ lifts_linked = refl
 abbrev pub behind : Bool → View
 behind linked = record cached {
   batch = record { descriptor = 0; class = 20; blocks = 4664 ∷ 6456 ∷ []; linked = linked };
-  volatile = replicate 17464 None;
+  volatile = replicate 18488 None;
 }
 
 -- the last block's first word leads to the first cached block

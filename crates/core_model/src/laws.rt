@@ -1,7 +1,7 @@
 //! What follows from the definitions, as functions with nothing to run: a caller cites their
 //! clauses.
 
-ghost use Rattle.std.specs.Prelude.{◌≡◌, ◌≢◌, ◌<◌, ◌≤◌, ◌*◌, ◌++◌, ◌∷◌, [], ℕ, List, get_or, set, length, slice_index, ◌↔◌, ◌+◌, None};
+ghost use Rattle.std.specs.Prelude.{◌≡◌, ◌≢◌, ◌<◌, ◌≤◌, ◌*◌, ◌++◌, ◌∷◌, [], ℕ, List, get_or, set, length, slice_index, ◌↔◌, ◌+◌, Option, None};
 ghost use Rattle.heap_model.specs.declared.block.Block.{Block};
 ghost use Rattle.heap_model.specs.Geometry.{capacity_word, image_words, roots};
 ghost use Rattle.heap_model.specs.Counting.{times};
@@ -17,7 +17,7 @@ ghost use Rattle.core_model.specs.Steps.{Keeps, TableState, IsSoundState, Runs, 
 ghost use Rattle.core_model.specs.Splitting.{Choice, remaining, given_off};
 ghost use Rattle.core_model.specs.Opening.{AreOwners, HasDoneNothing, IsOwnerOf, setup_of, opened_view, opened_state};
 ghost use Rattle.core_model.specs.Held.{AreHeldOnce, IsHeld, IsHeldBy, IsFirm, volatile_image, durable_image};
-ghost use Rattle.heap_model.specs.Header.{IsWellFormed, header_fault};
+ghost use Rattle.heap_model.specs.Header.{IsWellFormed, HasKindsBelow, header_fault};
 ghost use Rattle.heap_model.specs.Image.{Image};
 ghost use Rattle.heap_model.specs.Blocks.{Names, layout_of};
 ghost use Rattle.heap_model.specs.Durability.{IsCrashImage, IsClosedImage};
@@ -113,13 +113,15 @@ pub fn a_crash_leaves_each_held_block_named()
         → (b : Block) → IsHeldBy s.views b → Names image (8 * b.first_word) b }
 {}
 
-/// Whatever a crash leaves of a sound state, whose opened image has a good header, has one too; so
-/// does what it leaves of any state that the seats of an opened heap at rest come to.
+/// Whatever a crash leaves of a sound state, whose opened image has a good header, has one too, with
+/// any limit that the kinds of its roots were below; so does what it leaves of any state that the
+/// seats of an opened heap at rest come to.
 pub fn a_crash_leaves_a_good_header()
     ensures sound { (k : Setup) (s : TableState) → IsSoundState k s
-        → IsWellFormed (8 * length k.opened) (slice_index k.opened) → (image : Image)
+        → IsWellFormed (8 * length k.opened) (slice_index k.opened) → (limit : Option ℕ)
+        → HasKindsBelow limit (slice_index k.opened) → (image : Image)
         → IsCrashImage (durable_image k.capacity s.words) image
-        → header_fault (8 * image_words k.capacity) image ≡ None }
+        → header_fault limit (8 * image_words k.capacity) image ≡ None }
     ensures running { (words : List ℕ) (held : List Block) (budget seats : ℕ)
         (block_owners root_owners : List ℕ) → IsReady words held
         → AreOwners held seats block_owners root_owners
@@ -127,9 +129,9 @@ pub fn a_crash_leaves_a_good_header()
         → Runs (setup_of words budget seats)
         (opened_state (setup_of words budget seats) held block_owners root_owners seats) events
         answers s
-        → (image : Image)
+        → (limit : Option ℕ) → HasKindsBelow limit (slice_index words) → (image : Image)
         → IsCrashImage (durable_image (slice_index words capacity_word) s.words) image
-        → header_fault (8 * image_words (slice_index words capacity_word)) image ≡ None }
+        → header_fault limit (8 * image_words (slice_index words capacity_word)) image ≡ None }
 {}
 
 /// Whatever a crash leaves of the same durable words, it is laid out the same, it reaches the same
