@@ -28,7 +28,7 @@ module _ (v : View) (class : ℕ) (s : HasSoundState v) (i b : ℕ) (less : i < 
   own = let t = in_lists_total b class v.caches (entry_times (of_class v.caches class) i b less at) in omega arith
 
   pub cached_below : b < image_words v.setup.capacity
-  cached_below = (block_range v s b own).1
+  cached_below = let inside = (block_range v s b own).1 in omega arith
 
   pub next_at : (found : ℕ) → found ≡ get_or s.words b 0 → i + 1 < length (of_class v.caches class) → get_or (of_class v.caches class) (i + 1) found ≡ found
   next_at found is more = subst (λ n. get_or (of_class v.caches class) n found ≡ found) (sym (add-one i))

@@ -1,22 +1,23 @@
 -- What a crash or a close leaves of a sound state, and what a seat's view tells of it.
-use Rattle.std.proofs.Common.{◌≡◌, ◌≢◌, ◌*◌, ◌<◌, ℕ, inl, inr, cond, true, nat_eq, nat_lt, nat_le, length, slice_index, None, refl, ap, sym, subst, ◌∙◌, lt-ltb, ltb-true, leb-true, arith}
+use Rattle.std.proofs.Common.{◌≡◌, ◌≢◌, ◌*◌, ◌<◌, ℕ, inl, inr, cond, true, nat_eq, nat_lt, nat_le, length, slice_index, Option, None, refl, ap, sym, subst, ◌∙◌, lt-ltb, ltb-true, leb-true, arith}
 use Rattle.heap_model.specs.declared.block.Block.{Block}
 use Rattle.heap_model.specs.Blocks.{Names}
 use Rattle.heap_model.specs.Durability.{IsTransient, is_head, is_anchor, is_link}
-use Rattle.heap_model.specs.Geometry.{IsFixed, in_header, in_descriptor, image_words, lists, start_word, state_word, dirty, clean}
-use Rattle.heap_model.specs.Header.{IsWellFormed, capacity_of, header_fault}
+use Rattle.heap_model.specs.Geometry.{IsFixed, in_header, in_descriptor, image_words, old_image_words, lists, start_word, state_word, dirty, clean}
+use Rattle.heap_model.specs.Header.{IsWellFormed, HasKindsBelow, capacity_of, header_fault}
 use Rattle.heap_model.specs.Image.{Image}
 use Rattle.core_model.specs.Cells.{Cell, used_cell, head_cell, info_cell, anchor_cell, link_cell, root_cell, data_cell, no_cell, cell_at, is_cell, index_of}
 use Rattle.core_model.specs.Guards.{IsOwn}
 use Rattle.core_model.specs.Held.{IsHeld, volatile_image, durable_image}
 use Rattle.core_model.specs.View.{View, times_own}
-use Rattle.core_model.proofs.HeaderLemmas.{crash_header, closed_header}
+use Rattle.core_model.proofs.HeaderLemmas.{crash_header, closed_header, kind_lasts}
 use Rattle.core_model.proofs.HeldLemmas.{crash_names, closed_names}
 use Rattle.heap_model.proofs.HeaderLemmas.{header_lasts}
 use Rattle.core_model.proofs.PlaceLemmas.{and_both, cell_at_index, cell_there, index_at, not-eq, pick, skip}
 use Rattle.heap_rule.specs.Left.{HasDurableRecords, HasFixedWordsButState, HasTransients, HasVolatileRecords, IsCloseOf, IsCrashOf, Lasts, an_info, a_root, a_data, MayBeLeft, mixed, crashed, closed, MixesLasting}
 use Rattle.heap_table.specs.Plays.{HasSoundState}
-use Rattle.heap_rule.proofs.SeatImageLemmas.{fixed_below, image_fixed, image_header, image_mixes, image_names, kept_recorded, now_recorded}
+use Rattle.core_model.proofs.TableLemmas.{fixed_below}
+use Rattle.heap_rule.proofs.SeatImageLemmas.{image_fixed, image_header, image_mixes, image_names, kept_recorded, now_recorded}
 use Rattle.heap_rule.proofs.SettleLemmas.{own_index, own_there}
 
 -- the word of a cell that lasts is none that a crash leaves with any value
@@ -28,24 +29,25 @@ lasting c cell is (a_root n) word at (is_head list w few same) = omega (arith, a
 lasting c cell is (a_root n) word at (is_anchor e w less same) = omega (arith, at, same, ltb-true n 1024 is)
 lasting c cell is (a_root n) word at (is_link e w less same) = omega (arith, at, same, ltb-true n 1024 is)
 lasting c cell is (a_data x) word at (is_head list w few same) =
-    omega (arith, at, same, few, leb-true (start_word c 0) x (and_both (nat_le (start_word c 0) x) (nat_lt x (image_words c)) is).0)
+    omega (arith, at, same, few, leb-true (start_word c 0) x (and_both (nat_le (start_word c 0) x) (nat_lt x (old_image_words c)) is).0)
 lasting c cell is (a_data x) word at (is_anchor e w less same) =
-    omega (arith, at, same, less, leb-true (start_word c 0) x (and_both (nat_le (start_word c 0) x) (nat_lt x (image_words c)) is).0)
+    omega (arith, at, same, less, leb-true (start_word c 0) x (and_both (nat_le (start_word c 0) x) (nat_lt x (old_image_words c)) is).0)
 lasting c cell is (a_data x) word at (is_link e w less same) =
-    omega (arith, at, same, less, leb-true (start_word c 0) x (and_both (nat_le (start_word c 0) x) (nat_lt x (image_words c)) is).0)
+    omega (arith, at, same, less, leb-true (start_word c 0) x (and_both (nat_le (start_word c 0) x) (nat_lt x (old_image_words c)) is).0)
 
 -- nor is a word that no step changes
-fixed_lasts : (c k word : ℕ) → IsFixed c word → IsTransient k word → ⊥
-fixed_lasts c k word (inl low) (is_head list w few same) = omega (arith, same, low)
-fixed_lasts c k word (inl low) (is_anchor e w less same) = omega (arith, same, low)
-fixed_lasts c k word (inl low) (is_link e w less same) = omega (arith, same, low)
-fixed_lasts c k word (inr (in_header x behind before other (inl low))) (is_head list w few same) = omega (arith, same, low)
-fixed_lasts c k word (inr (in_header x behind before other (inr high))) (is_head list w few same) = omega (arith, same, high, few)
-fixed_lasts c k word (inr (in_header x behind before other list)) (is_anchor e w less same) = omega (arith, same, before)
-fixed_lasts c k word (inr (in_header x behind before other list)) (is_link e w less same) = omega (arith, same, before)
-fixed_lasts c k word (inr (in_descriptor d at x less low high is)) (is_head list w few same) = omega (arith, same, is, few)
-fixed_lasts c k word (inr (in_descriptor d at x less low high is)) (is_anchor e w less' same) = omega (arith, same, is, low, high)
-fixed_lasts c k word (inr (in_descriptor d at x less low high is)) (is_link e w less' same) = omega (arith, same, is, low, high)
+fixed_lasts : (c word : ℕ) → IsFixed c word → IsTransient c word → ⊥
+fixed_lasts c word (inl low) (is_head list w few same) = omega (arith, same, low)
+fixed_lasts c word (inl low) (is_anchor e w less same) = omega (arith, same, low)
+fixed_lasts c word (inl low) (is_link e w less same) = omega (arith, same, low)
+fixed_lasts c word (inr (inl (in_header x behind before other (inl low)))) (is_head list w few same) = omega (arith, same, low)
+fixed_lasts c word (inr (inl (in_header x behind before other (inr high)))) (is_head list w few same) = omega (arith, same, high, few)
+fixed_lasts c word (inr (inl (in_header x behind before other list))) (is_anchor e w less same) = omega (arith, same, before)
+fixed_lasts c word (inr (inl (in_header x behind before other list))) (is_link e w less same) = omega (arith, same, before)
+fixed_lasts c word (inr (inl (in_descriptor d at x less low high is))) (is_head list w few same) = omega (arith, same, is, few)
+fixed_lasts c word (inr (inl (in_descriptor d at x less low high is))) (is_anchor e w less' same) = omega (arith, same, is, low, high)
+fixed_lasts c word (inr (inl (in_descriptor d at x less low high is))) (is_link e w less' same) = omega (arith, same, is, low, high)
+fixed_lasts c word (inr (inr kind)) lost = kind_lasts c word kind lost
 
 -- the state is no seat's own
 own_not_state : (v : View) (word : ℕ) → IsOwn v (cell_at v.setup.capacity word) → word ≢ state_word
@@ -70,11 +72,12 @@ module _ (v : View) (image : Image) (is : IsCrashOf v image) where
 
   pub crash_fixed : HasFixedWordsButState v.setup image
   crash_fixed = record {
-    each = λ word fixed other. is.crash.others word other (fixed_lasts v.setup.capacity (capacity_of (durable_image v.setup.capacity is.has.words)) word fixed)
+    each = λ word fixed other. is.crash.others word other (λ lost. fixed_lasts v.setup.capacity word fixed (subst (λ c. IsTransient c word) (kept_capacity v is.has) lost))
         ∙ pick (nat_lt word (image_words v.setup.capacity)) _ _ (lt-ltb word (image_words v.setup.capacity) (fixed_below v.setup.capacity word fixed)) ∙ (is.has.sound.fixed word fixed).1;
   }
 
-  pub crash_good : IsWellFormed (8 * length v.setup.opened) (slice_index v.setup.opened) → header_fault (8 * image_words v.setup.capacity) image ≡ None
+  pub crash_good : IsWellFormed (8 * length v.setup.opened) (slice_index v.setup.opened) → (limit : Option ℕ) → HasKindsBelow limit (slice_index v.setup.opened)
+      → header_fault limit (8 * image_words v.setup.capacity) image ≡ None
   crash_good good = crash_header v.setup is.has.words is.has.views is.has.sound image is.crash good
 
 module _ (v : View) (image : Image) (is : IsCloseOf v image) where
@@ -93,7 +96,8 @@ module _ (v : View) (image : Image) (is : IsCloseOf v image) where
         ∙ pick (nat_lt word (image_words v.setup.capacity)) _ _ (lt-ltb word (image_words v.setup.capacity) (fixed_below v.setup.capacity word fixed)) ∙ (is.has.sound.fixed word fixed).0;
   }
 
-  pub close_good : IsWellFormed (8 * length v.setup.opened) (slice_index v.setup.opened) → header_fault (8 * image_words v.setup.capacity) image ≡ None
+  pub close_good : IsWellFormed (8 * length v.setup.opened) (slice_index v.setup.opened) → (limit : Option ℕ) → HasKindsBelow limit (slice_index v.setup.opened)
+      → header_fault limit (8 * image_words v.setup.capacity) image ≡ None
   close_good good = closed_header v.setup is.has.words is.has.views is.has.sound image is.close good
 
 module _ (v : View) (image : Image) where
@@ -112,7 +116,8 @@ module _ (v : View) (image : Image) where
   left_fixed (crashed is) = crash_fixed v image is
   left_fixed (closed is) = close_fixed v image is
 
-  pub left_good : MayBeLeft v image → IsWellFormed (8 * length v.setup.opened) (slice_index v.setup.opened) → header_fault (8 * image_words v.setup.capacity) image ≡ None
+  pub left_good : MayBeLeft v image → IsWellFormed (8 * length v.setup.opened) (slice_index v.setup.opened) → (limit : Option ℕ)
+      → HasKindsBelow limit (slice_index v.setup.opened) → header_fault limit (8 * image_words v.setup.capacity) image ≡ None
   left_good (mixed is) = image_header v image is
   left_good (crashed is) = crash_good v image is
   left_good (closed is) = close_good v image is

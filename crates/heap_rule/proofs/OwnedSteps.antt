@@ -298,7 +298,7 @@ module _ (v w : View) (d found : ℕ) (event : IsEvent (TakeAll d) v found w) (s
 
   -- all in the image
   pub taken_inside : (b : ℕ) → 0 < times b taken_blocks → b < image_words v.setup.capacity
-  taken_inside b there = (cut_range v.setup.capacity class d b claim.0 take_below (taken_cut b there)).1
+  taken_inside b there = let inside = (cut_range v.setup.capacity class d b claim.0 take_below (taken_cut b there)).1 in omega arith
 
   -- no more than a superblock has
   pub taken_short : (c : ℕ) → c ≡ class → length (of_class w.caches c) ≤ blocks_of c

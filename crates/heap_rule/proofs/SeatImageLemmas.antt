@@ -1,10 +1,10 @@
 -- The mixed images of a sound state, and what a seat's view tells of them.
-use Rattle.std.proofs.Common.{◌≡◌, ◌⊎◌, ℕ, ◌+◌, ◌*◌, ◌<◌, inl, inr, Bool, true, false, cond, nat_lt, List, length, slice_index, get_or, None, refl, ap, sym, ◌∙◌, lt-ltb, arith}
+use Rattle.std.proofs.Common.{◌≡◌, ◌⊎◌, ℕ, ◌+◌, ◌*◌, ◌<◌, inl, inr, Bool, true, false, cond, nat_lt, List, length, slice_index, get_or, Option, None, refl, ap, sym, ◌∙◌, lt-ltb, arith}
 use Rattle.heap_model.specs.declared.block.Block.{Block}
 use Rattle.heap_model.specs.Blocks.{Names}
 use Rattle.heap_model.specs.Durability.{Mixes}
-use Rattle.heap_model.specs.Geometry.{image_words, IsFixed, in_header, in_descriptor}
-use Rattle.heap_model.specs.Header.{IsWellFormed, header_fault}
+use Rattle.heap_model.specs.Geometry.{image_words, IsFixed}
+use Rattle.heap_model.specs.Header.{IsWellFormed, HasKindsBelow, header_fault}
 use Rattle.heap_model.specs.Image.{Image}
 use Rattle.core_model.specs.Cells.{cell_at, is_cell}
 use Rattle.core_model.specs.Guards.{IsOwn}
@@ -14,16 +14,11 @@ use Rattle.core_model.specs.View.{Setup, View}
 use Rattle.core_model.proofs.HeaderLemmas.{mixture_header}
 use Rattle.core_model.proofs.HeldLemmas.{firm}
 use Rattle.core_model.proofs.PlaceLemmas.{pick}
+use Rattle.core_model.proofs.TableLemmas.{fixed_below}
 use Rattle.heap_rule.specs.Images.{Agrees, HasPickedRecords, HasRecorded, IsImageOf, HasFixedWords, MixesRecorded}
 use Rattle.heap_table.specs.Plays.{HasSoundState}
 use Rattle.heap_rule.proofs.SettleLemmas.{own_there, own_index, own_below}
 use Rattle.heap_rule.proofs.ViewLemmas.{shown, shown_durable}
-
--- the words that no step changes lie in the image
-pub fixed_below : (c word : ℕ) → IsFixed c word → word < image_words c
-fixed_below c word (inl first) = omega arith
-fixed_below c word (inr (in_header w after before other list)) = omega (arith, before)
-fixed_below c word (inr (in_descriptor d at w less low high is)) = omega (arith, less, high, is)
 
 module _ (k : Setup) (words : List ℕ) (views : List View) (sound : Sound k words views) (image : Image) (mixed : Mixes (volatile_image k.capacity words) (durable_image k.capacity words) image) where
   -- a word of the image is the volatile or the durable one
@@ -42,8 +37,9 @@ module _ (k : Setup) (words : List ℕ) (views : List View) (sound : Sound k wor
   pub mixed_fixed : HasFixedWords k image
   mixed_fixed = record { each = opened_is }
 
-  pub mixed_header : IsWellFormed (8 * length k.opened) (slice_index k.opened) → header_fault (8 * image_words k.capacity) image ≡ None
-  mixed_header good = mixture_header k words views sound image (λ word low other. either word (omega arith))
+  pub mixed_header : IsWellFormed (8 * length k.opened) (slice_index k.opened) → (limit : Option ℕ) → HasKindsBelow limit (slice_index k.opened)
+      → header_fault limit (8 * image_words k.capacity) image ≡ None
+  mixed_header good = mixture_header k words views sound image (λ word low other. either word (omega arith)) (λ word kind. opened_is word (inr (inr kind)))
       (elim good.state [ inl clean ↦ inl (opened_is 3 (inl (omega arith)) ∙ clean) | inr dirty ↦ inr (opened_is 3 (inl (omega arith)) ∙ dirty) ]) good
 
 -- one of the two
@@ -105,5 +101,6 @@ module _ (v : View) (image : Image) (is : IsImageOf v image) where
   pub image_fixed : HasFixedWords v.setup image
   image_fixed = mixed_fixed v.setup is.has.words is.has.views is.has.sound image is.mixed
 
-  pub image_header : IsWellFormed (8 * length v.setup.opened) (slice_index v.setup.opened) → header_fault (8 * image_words v.setup.capacity) image ≡ None
+  pub image_header : IsWellFormed (8 * length v.setup.opened) (slice_index v.setup.opened) → (limit : Option ℕ) → HasKindsBelow limit (slice_index v.setup.opened)
+      → header_fault limit (8 * image_words v.setup.capacity) image ≡ None
   image_header good = mixed_header v.setup is.has.words is.has.views is.has.sound image is.mixed good

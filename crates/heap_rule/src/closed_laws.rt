@@ -1,11 +1,11 @@
 //! What a closed heap leaves in its words, as functions with nothing to run: a caller cites their
 //! clauses.
 
-ghost use Rattle.std.specs.Prelude.{◌≡◌, ◌≤◌, ◌+◌, ◌*◌, ℕ, List, None, length, slice_index};
+ghost use Rattle.std.specs.Prelude.{◌≡◌, ◌≤◌, ◌+◌, ◌*◌, ℕ, List, Option, None, length, slice_index};
 ghost use Rattle.heap_model.specs.Counting.{total};
 ghost use Rattle.heap_model.specs.Durability.{IsClosedImage, IsCrashImage, Mixes};
 ghost use Rattle.heap_model.specs.Geometry.{image_words, used_word};
-ghost use Rattle.heap_model.specs.Header.{IsWellFormed, header_fault};
+ghost use Rattle.heap_model.specs.Header.{IsWellFormed, HasKindsBelow, header_fault};
 ghost use Rattle.heap_model.specs.Image.{Image};
 ghost use Rattle.core_model.specs.Sound.{Each};
 ghost use Rattle.core_model.specs.View.{Setup, View, one_if_some};
@@ -29,8 +29,9 @@ pub fn a_closed_heap_has_the_opened_header()
     ensures header { (k : Setup) (now kept : List ℕ) (views : List View)
         → IsClosedSound k now kept views
         → IsWellFormed (8 * length k.opened) (slice_index k.opened)
+        → (limit : Option ℕ) → HasKindsBelow limit (slice_index k.opened)
         → (image : Image) → Mixes (slice_index now) (slice_index kept) image
-        → header_fault (8 * image_words k.capacity) image ≡ None }
+        → header_fault limit (8 * image_words k.capacity) image ≡ None }
 {}
 
 /// The mark has risen by the superblocks that the seats took, within the capacity, and its durable

@@ -1,11 +1,11 @@
 //! What a seat's view tells of the images that may be left, as functions with nothing to run: a
 //! caller cites their clauses.
 
-ghost use Rattle.std.specs.Prelude.{◌≡◌, ◌*◌, ℕ, Bool, None, length, slice_index};
+ghost use Rattle.std.specs.Prelude.{◌≡◌, ◌*◌, ℕ, Bool, Option, None, length, slice_index};
 ghost use Rattle.heap_model.specs.declared.block.Block.{Block};
 ghost use Rattle.heap_model.specs.Blocks.{Names};
 ghost use Rattle.heap_model.specs.Geometry.{image_words};
-ghost use Rattle.heap_model.specs.Header.{IsWellFormed, header_fault};
+ghost use Rattle.heap_model.specs.Header.{IsWellFormed, HasKindsBelow, header_fault};
 ghost use Rattle.heap_model.specs.Image.{Image};
 ghost use Rattle.core_model.specs.Held.{IsHeld};
 ghost use Rattle.core_model.specs.View.{View};
@@ -23,7 +23,8 @@ pub fn an_image_of_a_seat_has_its_blocks_and_words()
     ensures fixed { (v : View) (image : Image) → IsImageOf v image → HasFixedWords v.setup image }
     ensures header { (v : View) (image : Image) → IsImageOf v image
         → IsWellFormed (8 * length v.setup.opened) (slice_index v.setup.opened)
-        → header_fault (8 * image_words v.setup.capacity) image ≡ None }
+        → (limit : Option ℕ) → HasKindsBelow limit (slice_index v.setup.opened)
+        → header_fault limit (8 * image_words v.setup.capacity) image ≡ None }
 {}
 
 /// However one of the two recorded values of each own word is picked, a seat whose view some sound
@@ -45,7 +46,8 @@ pub fn a_crash_leaves_a_seat_its_blocks_and_words()
         → HasFixedWordsButState v.setup image }
     ensures header { (v : View) (image : Image) → IsCrashOf v image
         → IsWellFormed (8 * length v.setup.opened) (slice_index v.setup.opened)
-        → header_fault (8 * image_words v.setup.capacity) image ≡ None }
+        → (limit : Option ℕ) → HasKindsBelow limit (slice_index v.setup.opened)
+        → header_fault limit (8 * image_words v.setup.capacity) image ≡ None }
 {}
 
 /// The same of what a close leaves, which has the recorded volatile value of each own word.
@@ -57,7 +59,8 @@ pub fn a_close_leaves_a_seat_its_blocks_and_words()
         → HasFixedWordsButState v.setup image }
     ensures header { (v : View) (image : Image) → IsCloseOf v image
         → IsWellFormed (8 * length v.setup.opened) (slice_index v.setup.opened)
-        → header_fault (8 * image_words v.setup.capacity) image ≡ None }
+        → (limit : Option ℕ) → HasKindsBelow limit (slice_index v.setup.opened)
+        → header_fault limit (8 * image_words v.setup.capacity) image ≡ None }
 {}
 
 /// What may be left while a seat has its view is a mixture, what a crash leaves, or a close. It names
@@ -74,7 +77,8 @@ pub fn what_may_be_left_has_a_seats_blocks_and_words()
         → HasFixedWordsButState v.setup image }
     ensures header { (v : View) (image : Image) → MayBeLeft v image
         → IsWellFormed (8 * length v.setup.opened) (slice_index v.setup.opened)
-        → header_fault (8 * image_words v.setup.capacity) image ≡ None }
+        → (limit : Option ℕ) → HasKindsBelow limit (slice_index v.setup.opened)
+        → header_fault limit (8 * image_words v.setup.capacity) image ≡ None }
 {}
 
 /// A crash may leave any heads, anchors and links while a seat has a view that some sound state

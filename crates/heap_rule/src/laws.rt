@@ -6,7 +6,7 @@ ghost use Rattle.heap_model.specs.declared.block.Block.{Block};
 ghost use Rattle.heap_model.specs.Blocks.{Names};
 ghost use Rattle.heap_model.specs.Durability.{IsCrashImage, IsClosedImage, NamesAreDurable};
 ghost use Rattle.heap_model.specs.Geometry.{image_words};
-ghost use Rattle.heap_model.specs.Header.{IsWellFormed, header_fault};
+ghost use Rattle.heap_model.specs.Header.{IsWellFormed, HasKindsBelow, header_fault};
 ghost use Rattle.heap_model.specs.Image.{Image};
 ghost use Rattle.core_model.specs.declared.event.Event.{Event};
 ghost use Rattle.core_model.specs.declared.event.Event.TheVariants.{Tick, Load};
@@ -55,13 +55,15 @@ pub fn a_closed_heap_names_each_held_block()
     ensures header { (k : Setup) (now kept : List ℕ) (views : List View)
         → IsClosedSound k now kept views
         → IsWellFormed (8 * length k.opened) (slice_index k.opened)
+        → (limit : Option ℕ) → HasKindsBelow limit (slice_index k.opened)
         → (image : Image) → IsCrashImage (slice_index kept) image
-        → header_fault (8 * image_words k.capacity) image ≡ None }
+        → header_fault limit (8 * image_words k.capacity) image ≡ None }
     ensures closed_header { (k : Setup) (now kept : List ℕ) (views : List View)
         → IsClosedSound k now kept views
         → IsWellFormed (8 * length k.opened) (slice_index k.opened)
+        → (limit : Option ℕ) → HasKindsBelow limit (slice_index k.opened)
         → (image : Image) → IsClosedImage (slice_index now) image
-        → header_fault (8 * image_words k.capacity) image ≡ None }
+        → header_fault limit (8 * image_words k.capacity) image ≡ None }
 {}
 
 /// No block is held twice: of the seats of a shared heap between any two steps of any of them, of

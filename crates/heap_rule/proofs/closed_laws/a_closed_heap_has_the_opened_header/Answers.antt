@@ -8,5 +8,5 @@ returns-clause-fixed c k now kept views closed image mixed =
     mixed_fixed k (now ++ (kept ++ (closed.drawn ∷ []))) views closed.sound image (mixed_is k now kept views closed image mixed)
 
 pub returns-clause-header : goal.returns-clause-header
-returns-clause-header c k now kept views closed good image mixed =
-    mixed_header k (now ++ (kept ++ (closed.drawn ∷ []))) views closed.sound image (mixed_is k now kept views closed image mixed) good
+returns-clause-header c k now kept views closed good limit below image mixed =
+    mixed_header k (now ++ (kept ++ (closed.drawn ∷ []))) views closed.sound image (mixed_is k now kept views closed image mixed) good limit below

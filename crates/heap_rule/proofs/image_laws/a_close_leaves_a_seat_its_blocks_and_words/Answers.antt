@@ -11,4 +11,4 @@ pub returns-clause-fixed : goal.returns-clause-fixed
 returns-clause-fixed c v image is = close_fixed v image is
 
 pub returns-clause-header : goal.returns-clause-header
-returns-clause-header c v image is good = close_good v image is good
+returns-clause-header c v image is = close_good v image is

@@ -12,7 +12,7 @@ pub returns-clause-fixed : goal.returns-clause-fixed
 returns-clause-fixed c v image is = left_fixed v image is
 
 pub returns-clause-header : goal.returns-clause-header
-returns-clause-header c v image is good = left_good v image is good
+returns-clause-header c v image is = left_good v image is
 
 pub returns-clause-by_mixture : goal.returns-clause-by_mixture
 returns-clause-by_mixture c v image is = mixed is

@@ -24,11 +24,11 @@ returns-clause-closed c k now kept views closed image is =
     (subst (λ (i : Image). IsClosedImage i image) (sym (volatile_is k.capacity now kept closed.drawn closed.now_long closed.kept_long)) is)
 
 pub returns-clause-header : goal.returns-clause-header
-returns-clause-header c k now kept views closed good image crash =
+returns-clause-header c k now kept views closed good limit below image crash =
     crash_header k (now ++ (kept ++ (closed.drawn ∷ []))) views closed.sound image
-    (subst (λ (i : Image). IsCrashImage i image) (sym (durable_is k.capacity now kept closed.drawn closed.now_long closed.kept_long)) crash) good
+    (subst (λ (i : Image). IsCrashImage i image) (sym (durable_is k.capacity now kept closed.drawn closed.now_long closed.kept_long)) crash) good limit below
 
 pub returns-clause-closed_header : goal.returns-clause-closed_header
-returns-clause-closed_header c k now kept views closed good image is =
+returns-clause-closed_header c k now kept views closed good limit below image is =
     closed_header k (now ++ (kept ++ (closed.drawn ∷ []))) views closed.sound image
-    (subst (λ (i : Image). IsClosedImage i image) (sym (volatile_is k.capacity now kept closed.drawn closed.now_long closed.kept_long)) is) good
+    (subst (λ (i : Image). IsClosedImage i image) (sym (volatile_is k.capacity now kept closed.drawn closed.now_long closed.kept_long)) is) good limit below
