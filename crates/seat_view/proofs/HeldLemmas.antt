@@ -1,5 +1,5 @@
 -- The held blocks of a seat of the core, as a list.
-use Rattle.std.proofs.Common.{◌≡◌, ◌≢◌, ◌<◌, ◌≤◌, ◌⊎◌, ℕ, zero, suc, ◌+◌, ◌*◌, ◌^◌, inl, inr, Bool, true, false, cond, nat_lt, nat_le, List, [], ◌∷◌, ◌++◌, get_or, length, Option, None, Some, refl, ap, sym, subst, ◌∙◌, eq-eqb, ne_eqb, lt-ltb, le-leb, arith}
+use Rattle.std.proofs.Common.{◌≡◌, ◌≢◌, ◌<◌, ◌≤◌, ◌⊎◌, ℕ, zero, suc, ◌+◌, ◌*◌, ◌^◌, inl, inr, Bool, true, false, cond, nat_lt, nat_le, List, [], ◌∷◌, ◌++◌, get_or, length, Option, None, Some, slice_index, refl, ap, sym, subst, ◌∙◌, eq-eqb, ne_eqb, lt-ltb, le-leb, arith}
 use Rattle.std.specs.Prelude.{Contains}
 use Rattle.std.proofs.Math.Logic.{∥∥₁_elim}
 use Rattle.std.proofs.lemmas.Bool.{cases_eq}
@@ -7,13 +7,14 @@ use Rattle.std.proofs.lemmas.List.Elements.{Contains-append_cases}
 use Rattle.heap_model.specs.declared.block.Block.{Block}
 use Rattle.heap_model.specs.Blocks.{IsIn, AreOneOrApart}
 use Rattle.heap_model.specs.Counting.{times}
-use Rattle.heap_model.specs.Geometry.{fixed_words, roots, start_word, superblock_words, image_words, largest_capacity}
+use Rattle.heap_model.specs.Geometry.{fixed_words, roots, start_word, superblock_words, old_image_words, kind_word, largest_capacity}
 use Rattle.heap_model.specs.Image.{Image}
 use Rattle.heap_model.specs.Sizes.{words_of_class}
 use Rattle.heap_model.proofs.CountingLemmas.{one_if_true}
 use Rattle.heap_model.proofs.DecisionLemmas.{at_most, both}
+use Rattle.heap_model.proofs.ImageLemmas.{get_or-words_from}
 use Rattle.heap_model.proofs.PartLemmas.{same_fields}
-use Rattle.heap_seat.specs.View.{View as HeapView}
+use Rattle.heap_seat.specs.View.{View as HeapView, kind_of}
 use Rattle.heap_seat.specs.Sound.{IsSeat, IsPlaced}
 use Rattle.heap_seat.specs.Words.{IsOwn as IsOwnWord, in_block, in_root, HasPicked, KeepsOwn, KeepsPending, MayBe, MayRead, MixesOwn, NamesAll}
 use Rattle.core_model.specs.Cells.{Cell, cell_at, data_cell, root_cell, superblock_at}
@@ -25,7 +26,7 @@ use Rattle.core_model.proofs.TotalLemmas.{eq-eqb-one}
 use Rattle.crash_core.proofs.OwnDecision.{in_classes_word}
 use Rattle.heap_rule.specs.Images.{HasPickedRecords}
 use Rattle.heap_rule.specs.Left.{Lasts, MayBeLeft, mixed, crashed, closed}
-use Rattle.heap_rule.proofs.CrashLemmas.{left_mixes, left_named}
+use Rattle.heap_rule.proofs.CrashLemmas.{left_fixed, left_mixes, left_named}
 use Rattle.heap_rule.proofs.HeldLemmas.{block_words_own, held_apart, held_placed, one_large, root_own}
 use Rattle.core_model.proofs.LinkFrameLemmas.{span_covers}
 use Rattle.heap_table.specs.Plays.{HasSoundState}
@@ -34,10 +35,10 @@ use Rattle.line_memory.specs.Marks.{mark_at, marked_words}
 use Rattle.line_memory.specs.Marked.{marked_words-has, marked_words-only}
 use Rattle.heap_rule.specs.Seated.{SeatView}
 use Rattle.seat_rows.specs.Costs.{Costs}
-use Rattle.seat_rows.specs.Rows.{Row, ViewRow, after_ticket, next_of}
+use Rattle.seat_rows.specs.Rows.{Passes, Row, ViewRow, after_ticket, next_of}
 use Rattle.seat_rows.specs.Words.{IsHeldWord, MayBe as MayBeOf, left_at, seen_at, times_held}
 use Rattle.seat_rows.proofs.WordLemmas.{at_cell, owns_held}
-use Rattle.seat_view.specs.CacheState.{CacheState, blocks_of_words, small_blocks, large_blocks, held_blocks, heap_view, IsStateOf}
+use Rattle.seat_view.specs.CacheState.{CacheState, blocks_of_words, small_blocks, large_blocks, held_blocks, heap_view, opened_kinds, IsStateOf}
 
 -- a fact that can be decided, and that does not fail
 decided : {A B : Type 0} → A ⊎ (A → ⊥) → (B → A) → ∥ B ∥₁ → A
@@ -177,7 +178,7 @@ module _ (v : View) (s : HasSoundState v) where
   pub word_held : (word : ℕ) → IsOwnWord (held_blocks v) v.roots word → IsHeldWord v word
   word_held word (in_block b w c within) = let placed = held_placed v s b (held_is b c) in let low = placed.from in let high = placed.until in let most = placed.low in let from = within.from in let until = within.until in
       subst (λ (cell : Cell). 0 < times_held v cell) (sym (cell_at_index v.setup.capacity (data_cell word)
-      (and_is (nat_le (start_word v.setup.capacity 0) word) (nat_lt word (image_words v.setup.capacity)) (le-leb (start_word v.setup.capacity 0) word (omega arith)) (lt-ltb word (image_words v.setup.capacity) (omega arith)))))
+      (and_is (nat_le (start_word v.setup.capacity 0) word) (nat_lt word (old_image_words v.setup.capacity)) (le-leb (start_word v.setup.capacity 0) word (omega arith)) (lt-ltb word (old_image_words v.setup.capacity) (omega arith)))))
       (block_word b (held_is b c) word within)
   word_held word (in_root i w c is) = subst (λ n. IsHeldWord v n) (sym is)
       (subst (λ (cell : Cell). 0 < times_held v cell) (sym (cell_at_index v.setup.capacity (root_cell i) (lt-ltb i roots (root_below i c)))) (contains_times v.roots i c))
@@ -219,6 +220,15 @@ mixed_law s image is = record {
         | inr durable ↦ inr (may_of (left_at s.view word) (image word) (λ value e. durable value (at_cell s.view word has s.view.durable ∙ e)))
       ];
 }
+
+pub stored_law : (s : CacheState) (image : Image) → MayBeLeft s.view image → (i : ℕ) → i < roots → image (kind_word s.view.setup.capacity i) ≡ kind_of (heap_view s) i
+stored_law s image is i below = let c = s.view.setup.capacity in
+    (left_fixed s.view image is).each (kind_word c i) (inr (inr (record { from = omega arith; until = omega arith }))) (λ e. omega (arith, e))
+    ∙ sym (get_or-words_from (slice_index s.view.setup.opened) (kind_word c 0) roots i 0 below ∙ ap (slice_index s.view.setup.opened) (omega arith))
+
+-- no step changes the setup, which has the kinds
+pub kinds_law : (a : Costs) (s t : CacheState) (v w : SeatView) → IsStateOf s v → IsStateOf t w → Passes a v.view w.view → (heap_view t).kinds ≡ (heap_view s).kinds
+kinds_law a s t v w of_s of_t passes = ap opened_kinds (ap (λ (u : View). u.setup) (sym of_t.view) ∙ passes.setup ∙ ap (λ (u : View). u.setup) of_s.view)
 
 pub may_be_law : (s : CacheState) (choice : ℕ → Bool) → ∥ ((image : Image) × MayBeLeft s.view image × HasPicked (heap_view s) choice image) ∥₁
 may_be_law s choice = ∥∥₁_elim s.sound (λ a b. squash₁ a b) (λ (has : HasSoundState s.view). let p = picked_image s.view has choice in ∣ (p.0, mixed p.1, record { each = λ word value own e. by_choice word value own p.0 p.2 (choice word) refl e }) ∣₁) where

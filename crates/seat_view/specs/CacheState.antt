@@ -1,13 +1,14 @@
 -- What contracts see of a heap's seat that is a seat of the core.
-use Rattle.std.specs.Prelude.{◌≡◌, ℕ, ◌+◌, ◌*◌, Bool, List, [], ◌∷◌, ◌++◌, get_or}
+use Rattle.std.specs.Prelude.{◌≡◌, ℕ, ◌+◌, ◌*◌, Bool, List, [], ◌∷◌, ◌++◌, get_or, slice_index}
 use Rattle.heap_model.specs.declared.block.Block.{Block}
-use Rattle.heap_model.specs.Geometry.{start_word, superblock_words}
+use Rattle.heap_model.specs.Geometry.{roots, start_word, superblock_words, kind_word}
+use Rattle.heap_model.specs.Image.{words_from}
 use Rattle.heap_model.specs.Sizes.{words_of_class}
 use Rattle.heap_seat.specs.declared.fault.Looks.{Looks}
 use Rattle.heap_seat.specs.declared.look.Look.{Look}
 use Rattle.line_memory.specs.Marks.{marked_words}
 use Rattle.heap_seat.specs.View.{View as HeapView}
-use Rattle.core_model.specs.View.{LastLook, Span, View}
+use Rattle.core_model.specs.View.{LastLook, Setup, Span, View}
 use Rattle.heap_table.specs.Plays.{HasSoundState}
 use Rattle.heap_rule.specs.Seated.{SeatView}
 use Rattle.seat_rows.specs.Rows.{next_of}
@@ -40,6 +41,10 @@ large_blocks capacity (span ∷ spans) = record { first_word = start_word capaci
 abbrev pub held_blocks : View → List Block
 held_blocks v = small_blocks 0 v.small ++ large_blocks v.setup.capacity v.large
 
+-- the kinds of the roots, as the heap was opened
+abbrev pub opened_kinds : Setup → List ℕ
+opened_kinds k = words_from (slice_index k.opened) (kind_word k.capacity 0) roots
+
 abbrev pub look_of : LastLook → Look
 look_of look = record { seen = look.word; ticket = look.ticket; taken = look.taken }
 
@@ -51,6 +56,7 @@ heap_view s = record {
   durable = left_at s.view;
   pending = marked_words s.marks;
   capacity = s.view.setup.capacity;
+  kinds = opened_kinds s.view.setup;
   budget = s.view.setup.budget;
   next = next_of s.view;
   stopped = s.view.stopped;

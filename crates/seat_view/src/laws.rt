@@ -1,26 +1,34 @@
 //! What follows for a heap's seat that is one of the core, as a function with nothing to run.
 
-ghost use Rattle.std.specs.Prelude.{◌≡◌, ℕ, Bool};
+ghost use Rattle.std.specs.Prelude.{◌≡◌, ◌<◌, ℕ, Bool};
+ghost use Rattle.heap_model.specs.Geometry.{kind_word, roots};
 ghost use Rattle.heap_model.specs.Image.{Image};
 ghost use Rattle.heap_seat.specs.Sound.{IsSeat};
+ghost use Rattle.heap_seat.specs.View.{kind_of};
 ghost use Rattle.heap_seat.specs.Words.{HasPicked, IsOwn, KeepsOwn, KeepsPending, MixesOwn, NamesAll};
 ghost use Rattle.heap_rule.specs.Left.{MayBeLeft};
 ghost use Rattle.heap_rule.specs.Seated.{SeatView};
 ghost use Rattle.seat_rows.specs.Costs.{Costs};
-ghost use Rattle.seat_rows.specs.Rows.{Row};
+ghost use Rattle.seat_rows.specs.Rows.{Passes, Row};
 ghost use Rattle.seat_view.specs.CacheState.{CacheState, IsStateOf, heap_view};
 
 /// A heap's seat that is one of the core keeps the laws of such seats, whatever is left of it: a
-/// mixture of volatile and durable words, or what a crash leaves, or a close; and a row of steps
-/// that leaves held blocks alone keeps its own words, and their pending write-backs.
+/// mixture of volatile and durable words, or what a crash leaves, or a close, has the kinds of the
+/// roots; and a row of steps keeps these kinds, and one that leaves held blocks alone keeps its own
+/// words too, and their pending write-backs.
 pub fn a_seat_of_the_core_is_a_seat_of_a_heap()
     ensures seat { (s : CacheState) → IsSeat (heap_view s) }
     ensures mixed { (s : CacheState) (image : Image) → MayBeLeft s.view image
         → MixesOwn (heap_view s) image }
     ensures named { (s : CacheState) (image : Image) → MayBeLeft s.view image
         → NamesAll image (heap_view s).held }
+    ensures stored { (s : CacheState) (image : Image) → MayBeLeft s.view image
+        → (i : ℕ) → i < roots
+        → image (kind_word s.view.setup.capacity i) ≡ kind_of (heap_view s) i }
     ensures may_be { (s : CacheState) (pick : ℕ → Bool) → ∥ ((image : Image)
         × MayBeLeft s.view image × HasPicked (heap_view s) pick image) ∥₁ }
+    ensures kinds { (costs : Costs) (s t : CacheState) (v w : SeatView) → IsStateOf s v
+        → IsStateOf t w → Passes costs v.view w.view → (heap_view t).kinds ≡ (heap_view s).kinds }
     ensures kept { (costs : Costs) (s t : CacheState) (v w : SeatView) → IsStateOf s v
         → IsStateOf t w → Row costs v w → KeepsOwn (heap_view s) (heap_view t) }
     ensures pending { (costs : Costs) (s t : CacheState) (v w : SeatView) → IsStateOf s v

@@ -1,4 +1,4 @@
-use Rattle.seat_view.proofs.HeldLemmas.{may_be_law, mixed_law, named_law, pending_law, row_law, seat_law}
+use Rattle.seat_view.proofs.HeldLemmas.{kinds_law, may_be_law, mixed_law, named_law, pending_law, row_law, seat_law, stored_law}
 use Rattle.seat_view.proofs.laws.a_seat_of_the_core_is_a_seat_of_a_heap.Goals as goal
 
 pub returns-clause-seat : goal.returns-clause-seat
@@ -10,8 +10,14 @@ returns-clause-mixed c = mixed_law
 pub returns-clause-named : goal.returns-clause-named
 returns-clause-named c = named_law
 
+pub returns-clause-stored : goal.returns-clause-stored
+returns-clause-stored c = stored_law
+
 pub returns-clause-may_be : goal.returns-clause-may_be
 returns-clause-may_be c = may_be_law
+
+pub returns-clause-kinds : goal.returns-clause-kinds
+returns-clause-kinds c = kinds_law
 
 pub returns-clause-kept : goal.returns-clause-kept
 returns-clause-kept c = row_law
