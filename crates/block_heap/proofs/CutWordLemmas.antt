@@ -20,7 +20,7 @@ pub divide_word : (capacity d : ℕ) (held : List Block) (word : ℕ) → d < ca
 divide_word capacity d held word within none (inl inside) =
     let from = inside.from in
     let until = inside.until in
-    is_inside (omega arith) (λ b holds in_b.
+    is_inside (omega arith) (omega arith) (λ b holds in_b.
     let first = in_b.from in
     let last = in_b.until in
     none b holds (record { begins = omega arith; ends = omega arith }))

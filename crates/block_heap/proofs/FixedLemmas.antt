@@ -1,17 +1,21 @@
 -- The words that every call of a heap for one thread leaves as they are.
-use Rattle.std.proofs.Common.{◌≡◌, ℕ, ◌+◌, ◌*◌, ◌≤◌, inl, inr, List, length, ap, sym, subst, ◌∙◌, get_or, arith}
+use Rattle.std.proofs.Common.{◌≡◌, ℕ, ◌+◌, ◌*◌, ◌<◌, ◌≤◌, inl, inr, List, length, ap, sym, subst, ◌∙◌, get_or, arith}
 use Rattle.std.specs.Prelude.{slice_index}
 use Rattle.heap_model.specs.declared.block.Block.{Block}
-use Rattle.heap_model.specs.Header.{capacity_of, used_of}
+use Rattle.heap_model.specs.Durability.{IsTransient, is_head, is_anchor, is_link}
+use Rattle.heap_model.specs.Header.{capacity_of, used_of, kinds_of}
+use Rattle.heap_model.specs.Image.{Image}
+use Rattle.heap_model.proofs.ImageLemmas.{words_from-agree, get_or-words_from}
 use Rattle.heap_shape.specs.Moves.{TakesFrom}
 use Rattle.line_memory.specs.View.{View, word_count, volatile_at, durable_at}
 use Rattle.block_heap.specs.Closing.{IsOpened, KeepsFixed, most_large_draws}
 use Rattle.block_heap.specs.Medium.{StoresOnly}
 use Rattle.block_heap.specs.Parts.{held_in, image_of}
 use Rattle.block_heap.specs.Running.{LeavesHeld}
-use Rattle.block_heap.specs.SeqState.{SeqState, IsSeqHeap, all_roots, seat_of}
+use Rattle.block_heap.specs.SeqState.{SeqState, IsSeqHeap, all_roots, kinds_seen, seat_of, MayLeave}
 use Rattle.heap_seat.specs.Words.{IsOwn}
-use Rattle.heap_model.specs.Geometry.{IsFixed}
+use Rattle.heap_model.specs.Geometry.{roots, kind_word, IsFixed}
+use Rattle.heap_seat.specs.View.{kind_of}
 use Rattle.block_heap.specs.AllocatorWords.{IsAllocatorWord}
 use Rattle.heap_seat.specs.Rows.{IsRow}
 use Rattle.heap_model.specs.Geometry.{used_word}
@@ -38,6 +42,40 @@ fixed_opened words held budget s t opened keeps word is = (seen, keeps.durable w
 -- and there are as many words as in the image
 pub long_opened : (words : List ℕ) (held : List Block) (budget : ℕ) (s t : SeqState) → IsOpened words held budget s → KeepsFixed s t → word_count t.parts.words ≡ length words
 long_opened words held budget s t opened keeps = keeps.long ∙ ap word_count opened.opens.words_are
+
+-- so are the kinds of the roots, which stand in such words
+kind_fixed : (capacity i : ℕ) → i < roots → IsFixed capacity (kind_word capacity i)
+kind_fixed capacity i below = inr (inr (record { from = omega arith; until = omega arith }))
+
+pub kinds_stay : (s t : SeqState) → KeepsFixed s t → (seat_of t).kinds ≡ (seat_of s).kinds
+unfolding kinds_seen
+kinds_stay s t keeps =
+    ap (λ n. kinds_seen n t.parts.words) keeps.capacity
+    ∙ words_from-agree (image_of t.parts) (image_of s.parts) (kind_word s.parts.capacity 0) roots
+    (λ at low high. keeps.volatile at (inr (inr (record { from = low; until = omega arith }))))
+
+pub kinds_opened : (words : List ℕ) (held : List Block) (budget : ℕ) (s t : SeqState) → IsOpened words held budget s → KeepsFixed s t
+    → (i : ℕ) → i < roots → kind_of (seat_of t) i ≡ kinds_of (slice_index words) i
+unfolding kinds_seen
+kinds_opened words held budget s t opened keeps i below =
+    get_or-words_from (image_of t.parts) (kind_word t.parts.capacity 0) roots i 0 below
+    ∙ ap (image_of t.parts) (let same = keeps.capacity in let was = opened.opens.capacity in omega arith)
+    ∙ (fixed_opened words held budget s t opened keeps (kind_word (capacity_of (slice_index words)) i) (kind_fixed (capacity_of (slice_index words)) i below)).0
+
+-- and in every image that may be left
+pub kinds_left : (words : List ℕ) (held : List Block) (budget : ℕ) (s t : SeqState) → IsOpened words held budget s → KeepsFixed s t
+    → (image : Image) → MayLeave t image → (i : ℕ) → i < roots → image (kind_word (capacity_of (slice_index words)) i) ≡ kinds_of (slice_index words) i
+kinds_left words held budget s t opened keeps image left i below =
+    let word = kind_word (capacity_of (slice_index words)) i in
+    let fixed = fixed_opened words held budget s t opened keeps word (kind_fixed (capacity_of (slice_index words)) i below) in
+    elim (left.others word (λ e. omega arith) (kept (keeps.capacity ∙ opened.opens.capacity))) as (λ _. image word ≡ slice_index words word) [
+      | inl durable ↦ durable ∙ fixed.1
+      | inr volatile ↦ volatile ∙ fixed.0
+    ] where
+      kept : t.parts.capacity ≡ capacity_of (slice_index words) → IsTransient t.parts.capacity (kind_word (capacity_of (slice_index words)) i) → ⊥
+      kept same (is_head list word few at) = omega arith
+      kept same (is_anchor d word less at) = omega arith
+      kept same (is_link d word less at) = omega arith
 
 -- a call keeps them that stores to none of them
 pub fixed_by : (to : ℕ → Type 0) (s seen t : SeqState) → s ≡ seen → t.parts.capacity ≡ s.parts.capacity

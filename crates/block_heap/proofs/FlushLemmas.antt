@@ -149,7 +149,7 @@ module _ (p : Parts) (class : ℕ) (is : IsClass class) (run : IsRunning p) (pre
   -- the words that giving stores to are an allocator's
   pub give_word : (word : ℕ) → IsGiveWord prefix.d prefix.batch word → IsAllocatorWord p.capacity (held_in p) word
   give_word word (inl at) = is_anchor prefix.d is_prefix.within at
-  give_word word (inr at) = is_inside (let from = last_inside.from in omega arith)
+  give_word word (inr at) = is_inside (let from = last_inside.from in omega arith) (let within = is_prefix.within in let until = last_inside.until in omega arith)
       (λ b holds is_in. cached_apart p.capacity (image_of p) (held_in p) s class prefix.batch.last b run.is is last_cached holds
       (subst (λ x. IsIn b x) at is_in))
 

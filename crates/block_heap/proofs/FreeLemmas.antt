@@ -106,7 +106,10 @@ module _ (p : Parts) (class : ℕ) (is : IsClass class) (run : IsRunning p) (b :
 
     -- its first word is an allocator's then
     freed_word : (word : ℕ) → word ≡ b.first_word → IsAllocatorWord p.capacity (held_of h) word
-    freed_word word at = is_inside (let from = inside.0 in omega arith) apart where
+    freed_word word at = is_inside (let from = inside.0 in omega arith) until apart where
+      until : word < start_word p.capacity p.capacity
+      until = let used = run.is.used in let two = two_words class is in let ends = inside.1 in omega arith
+
       apart : (a : Block) → Contains (held_of h) a → IsIn a word → ⊥
       apart a in_a is_in =
           let from = is_in.from in

@@ -36,6 +36,7 @@ pub mod SpendLemmas
 pub mod DrawnLemmas
 pub mod ReopenLemmas
 pub mod FixedLemmas
+pub mod CountedLemmas
 pub mod DrainKeepLemmas
 pub mod OrderLemmas
 pub mod ReturnLemmas

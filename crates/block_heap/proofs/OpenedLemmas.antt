@@ -4,7 +4,7 @@ use Rattle.std.specs.Prelude.{slice_index}
 use Rattle.std.proofs.lemmas.Bool.{cases_eq}
 use Rattle.std.proofs.lemmas.List.{get_or_default, length-replicate, get_or-replicate, length_push, get_or_push, get_or_append_left}
 use Rattle.heap_model.specs.declared.block.Block.{Block}
-use Rattle.heap_model.specs.Geometry.{lists, head_word, link_word, used_word, largest_capacity, largest_capacity_fits}
+use Rattle.heap_model.specs.Geometry.{lists, head_word, link_word, used_word, largest_capacity, largest_capacity_fits, image_words}
 use Rattle.heap_model.specs.Image.{Image}
 use Rattle.heap_model.specs.Header.{capacity_of}
 use Rattle.heap_model.specs.Sizes.{IsClass}
@@ -69,7 +69,7 @@ no_cache = record { first = 0; count = 0 }
 -- an image has the word of `used`
 pub used_there : (words : List ℕ) (held : List Block) (or : ℕ) → IsReady words held → get_or words used_word or ≡ slice_index words used_word
 used_there words held or ready =
-    let length_is : 8 * length words ≡ 8 * (1064 + 8200 * capacity_of (slice_index words)) = ready.formed.length_is in
+    let length_is : 8 * length words ≡ 8 * image_words (capacity_of (slice_index words)) = ready.formed.length_is in
     get_or_default words used_word or 0 (omega arith)
 
 -- each head that was seen so far is as the list of words has it

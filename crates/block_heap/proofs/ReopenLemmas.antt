@@ -1,14 +1,14 @@
 -- What a heap is to give that was opened over a recovered image: what that image had to give.
-use Rattle.std.proofs.Common.{◌≡◌, ◌↔◌, ℕ, List, Contains, slice_index, inl, inr, refl, ap, sym, subst, ◌∙◌}
+use Rattle.std.proofs.Common.{◌≡◌, ◌↔◌, ℕ, ◌≤◌, List, Contains, slice_index, inl, inr, refl, ap, sym, subst, ◌∙◌, arith}
 use Rattle.heap_model.specs.declared.block.Block.{Block}
-use Rattle.heap_model.specs.Geometry.{capacity_word}
+use Rattle.heap_model.specs.Geometry.{capacity_word, largest_capacity, old_capacities_fit}
 use Rattle.heap_model.specs.Image.{Image}
 use Rattle.heap_model.specs.Header.{capacity_of}
 use Rattle.heap_model.specs.Blocks.{layout_of}
 use Rattle.heap_model.specs.Reach.{Links, IsReached}
 use Rattle.heap_model.specs.Recovered.{IsDrained}
 use Rattle.heap_model.specs.Recovery.{in_header}
-use Rattle.heap_model.proofs.HeaderLemmas.{well_formed}
+use Rattle.heap_model.proofs.HeaderLemmas.{good_header}
 use Rattle.heap_shape.specs.Draining.{IsDrainable, IsToDrain}
 use Rattle.heap_shape.proofs.RecoveredLemmas.{reached_drainable, reached_drains}
 use Rattle.line_memory.specs.View.{View, volatile_at}
@@ -33,10 +33,17 @@ module _ (bytes : ℕ) (old : Image) (kinds : ℕ → ℕ) (links : Links) (word
       let same = is.opened.opens.same b in
       (λ holds. is.held_are.sound b (same.0 holds), λ reached. same.1 (is.held_are.complete b reached))
 
+  -- a good header has no greater capacity, whatever its version
+  capacity_fits : capacity_of old ≤ largest_capacity
+  capacity_fits = elim (good_header is.limit bytes old is.good) as (λ _. capacity_of old ≤ largest_capacity) [
+    | inl of_old ↦ let small = of_old.small in omega (arith, old_capacities_fit)
+    | inr of_new ↦ of_new.0.small
+  ]
+
   pub reopened_drainable : (class : ℕ) → IsDrainableFor class s
   reopened_drainable class =
       let here : IsDrainable (capacity_of old) (slice_index words) (held_in s.parts) class =
-      reached_drainable old (slice_index words) kinds links (held_in s.parts) class is.recovered held_are (well_formed bytes old is.good).small in
+      reached_drainable old (slice_index words) kinds links (held_in s.parts) class is.recovered held_are capacity_fits in
       subst (λ (image : Image). IsDrainable s.parts.capacity image (held_in s.parts) class) (sym (opened_image words held budget s is.opened))
       (subst (λ n. IsDrainable n (slice_index words) (held_in s.parts) class) (sym capacity_is) here)
 

@@ -23,7 +23,7 @@ use Rattle.block_heap.specs.Steps.{look_at, IsLook}
 use Rattle.heap_seat.specs.Tickets.{Runs}
 use Rattle.block_heap.specs.Lists.{IsEmptyList, head_at}
 use Rattle.block_heap.specs.AllocatorWords.{IsAllocatorWord, UsedFits, IsStable, IsLasting}
-use Rattle.block_heap.specs.SeqState.{SeqState, IsSeqHeap, all_roots, seat_of}
+use Rattle.block_heap.specs.SeqState.{SeqState, IsSeqHeap, all_roots, kinds_seen, seat_of}
 use Rattle.heap_seat.specs.Words.{IsOwn, IsDurable, MayRead, KeepsWord, KeepsPending}
 use Rattle.block_heap.specs.Requests.{KeepsWords}
 use Rattle.heap_seat.specs.View.{View}
@@ -43,6 +43,7 @@ large_view s q o = record (seat_of s) {
   durable = λ word. Some (durable_at q.words word);
   pending = q.words.pending;
   capacity = q.capacity;
+  kinds = kinds_seen q.capacity q.words;
   budget = q.words.budget;
   next = q.words.drawn;
   stopped = o;

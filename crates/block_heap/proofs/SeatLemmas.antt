@@ -6,16 +6,15 @@ use Rattle.line_memory.specs.declared.memory.Stopped.{Stopped}
 use Rattle.block_heap.specs.Medium.{StoresOnly, RunsWithin, StopsWithin, IsLoaded, IsStored, IsWritten, IsFenced}
 use Rattle.block_heap.specs.Parts.{Parts, held_in}
 use Rattle.block_heap.specs.AllocatorWords.{IsLasting}
-use Rattle.block_heap.specs.SeqState.{SeqState, IsSeqHeap, all_roots, seat_of}
+use Rattle.block_heap.specs.SeqState.{SeqState, IsSeqHeap, all_roots, kinds_seen, seat_of}
 use Rattle.heap_seat.specs.Words.{IsOwn, in_block, in_root, IsOwnSpot}
 use Rattle.heap_seat.specs.declared.spot.Spot.{Spot}
 use Rattle.heap_seat.specs.declared.spot.Spot.TheVariants.{InBlock, Root}
 use Rattle.heap_seat.specs.View.{View as SeatView, word_of}
 use Rattle.heap_seat.specs.Calls.{Loads, Stores, WritesBack, Fences, IsWrittenWith}
 use Rattle.heap_seat.specs.Tickets.{Runs}
-use Rattle.block_heap.specs.Stable.{root_below, lies}
 use Rattle.heap_seat.proofs.CallerLemmas.{own_spot}
-use Rattle.block_heap.proofs.StableLemmas.{stable_own, own_not_used, fits_kept}
+use Rattle.block_heap.proofs.StableLemmas.{stable_own, own_not_used, own_until, fits_kept}
 use Rattle.block_heap.proofs.AccountLemmas.{accounted_same}
 use Rattle.block_heap.proofs.RunningLemmas.{running_words}
 
@@ -76,12 +75,9 @@ quiet_heap r s w o l heap ran runs_within same stops_within stores none stops = 
 
 -- an own word is one of the image
 pub own_below : (s : SeqState) (word : ℕ) → IsLasting s.parts.capacity s.parts.words (held_in s.parts) s.stopped → IsOwn (held_in s.parts) all_roots word → word < image_words s.parts.capacity
-own_below s _ lasts (in_block b word holds in_b) =
-    let inside = lies s.parts.capacity (held_in s.parts) s.parts.words b lasts.stable holds in
-    let until = in_b.until in
-    let fits = lasts.stable.fits in
-    omega (arith, inside.1)
-own_below s _ lasts (in_root i word p same) = let below = root_below i p in omega arith
+own_below s word lasts own =
+    let until = own_until s.parts.capacity (held_in s.parts) s.parts.words word lasts.stable own in
+    omega arith
 
 -- so a 64-bit number holds it
 pub own_short : (s : SeqState) (spot : Spot) → IsSeqHeap s → IsOwnSpot (seat_of s) spot → word_of spot < 281474976710656
@@ -103,6 +99,7 @@ small_view s w o = record (seat_of s) {
   volatile = λ word. Some (volatile_at w word);
   durable = λ word. Some (durable_at w word);
   pending = w.pending;
+  kinds = kinds_seen s.parts.capacity w;
   budget = w.budget;
   next = w.drawn;
   stopped = o;

@@ -1,7 +1,7 @@
--- What an allocator stores to leaves held blocks, roots and reserved words alone, so that every image left names the held blocks.
+-- What an allocator stores to leaves held blocks, roots, their kinds and words without a meaning alone, so that every image left names the held blocks.
 use Rattle.std.proofs.Common.{◌≡◌, ℕ, ◌<◌, ◌≤◌, ◌⊎◌, inl, inr, List, Contains, refl, sym, subst, ◌∙◌, arith}
 use Rattle.heap_model.specs.declared.block.Block.{Block}
-use Rattle.heap_model.specs.Geometry.{roots, largest_capacity, root_word, info_word, used_word, capacity_word, start_word, IsReserved, in_header, in_descriptor}
+use Rattle.heap_model.specs.Geometry.{roots, largest_capacity, root_word, info_word, used_word, capacity_word, start_word, IsReserved, in_header, in_descriptor, IsKindWord}
 use Rattle.heap_model.specs.Image.{words_from}
 use Rattle.heap_model.specs.Blocks.{IsIn}
 use Rattle.heap_model.specs.Recovered.{HasPartIn}
@@ -10,7 +10,7 @@ use Rattle.line_memory.specs.View.{View, volatile_at, durable_at}
 use Rattle.line_memory.specs.Crash.{MayLeaveStore}
 use Rattle.block_heap.specs.Medium.{StoresOnly}
 use Rattle.heap_seat.specs.Words.{IsOwn, in_block, in_root}
-use Rattle.block_heap.specs.Stable.{root_below, low_layout, own_where}
+use Rattle.block_heap.specs.Stable.{root_below, low_layout, lies, own_where}
 use Rattle.heap_at_rest.proofs.LayoutLemmas.{block_more}
 use Rattle.heap_model.specs.Geometry.{IsFixed}
 use Rattle.block_heap.specs.AllocatorWords.{IsAllocatorWord, is_used, is_head, is_info, is_anchor, is_link, is_inside, UsedFits, StoresAsAllocator, IsStable}
@@ -41,7 +41,7 @@ module _ (capacity : ℕ) (held : List Block) where
   fewer_word fewer word are (is_info d below none e) = is_info d below (λ b p part. none b (are b p) part) e
   fewer_word fewer word are (is_anchor d below e) = is_anchor d below e
   fewer_word fewer word are (is_link d below e) = is_link d below e
-  fewer_word fewer word are (is_inside from none) = is_inside from (λ b p in_b. none b (are b p) in_b)
+  fewer_word fewer word are (is_inside from until none) = is_inside from until (λ b p in_b. none b (are b p) in_b)
 
   pub as_allocator_fewer : (fewer : List Block) (v w : View) → ((b : Block) → Contains fewer b → Contains held b) → StoresAsAllocator capacity held v w → StoresAsAllocator capacity fewer v w
   as_allocator_fewer fewer v w are as_allocator = record {
@@ -113,16 +113,16 @@ module _ (capacity : ℕ) (held : List Block) where
     by_word (is_info d below none e) own = fixed_apart (own_where capacity held v word stable own) (inr (omega arith, omega arith))
     by_word (is_anchor d below e) own = fixed_apart (own_where capacity held v word stable own) (inr (omega arith, omega arith))
     by_word (is_link d below e) own = fixed_apart (own_where capacity held v word stable own) (inr (omega arith, omega arith))
-    by_word (is_inside from none) own = inside_apart word from none own
+    by_word (is_inside from until none) own = inside_apart word from none own
 
-  -- nor to the first four words of the header or to a word without a meaning
+  -- nor to the first four words of the header, to a word without a meaning, or to the kind of a root, which stands behind the superblocks
   not_first : (word : ℕ) → IsAllocatorWord capacity held word → word < 4 → ⊥
   not_first word (is_used e) few = omega arith
   not_first word (is_head list below e) few = omega arith
   not_first word (is_info d below none e) few = omega arith
   not_first word (is_anchor d below e) few = omega arith
   not_first word (is_link d below e) few = omega arith
-  not_first word (is_inside from none) few = omega arith
+  not_first word (is_inside from until none) few = omega arith
 
   not_reserved : (word : ℕ) → IsReserved capacity word → IsAllocatorWord capacity held word → ⊥
   not_reserved _ (in_header word low high used_not lists_not) (is_used e) = used_not e
@@ -131,16 +131,35 @@ module _ (capacity : ℕ) (held : List Block) where
   not_reserved _ (in_header word low high used_not lists_not) (is_info d below none e) = omega arith
   not_reserved _ (in_header word low high used_not lists_not) (is_anchor d below e) = omega arith
   not_reserved _ (in_header word low high used_not lists_not) (is_link d below e) = omega arith
-  not_reserved _ (in_header word low high used_not lists_not) (is_inside from none) = omega arith
+  not_reserved _ (in_header word low high used_not lists_not) (is_inside from until none) = omega arith
   not_reserved _ (in_descriptor d at word below low high is) (is_used e) = omega arith
   not_reserved _ (in_descriptor d at word below low high is) (is_head list few e) = omega arith
   not_reserved _ (in_descriptor d at word below low high is) (is_info c less none e) = omega arith
   not_reserved _ (in_descriptor d at word below low high is) (is_anchor c less e) = omega arith
   not_reserved _ (in_descriptor d at word below low high is) (is_link c less e) = omega arith
-  not_reserved _ (in_descriptor d at word below low high is) (is_inside from none) = omega arith
+  not_reserved _ (in_descriptor d at word below low high is) (is_inside from until none) = omega arith
+
+  not_kind : (word : ℕ) → IsKindWord capacity word → IsAllocatorWord capacity held word → ⊥
+  not_kind word kind (is_used e) = let from = kind.from in omega arith
+  not_kind word kind (is_head list few e) = let from = kind.from in omega arith
+  not_kind word kind (is_info d less none e) = let from = kind.from in omega arith
+  not_kind word kind (is_anchor d less e) = let from = kind.from in omega arith
+  not_kind word kind (is_link d less e) = let from = kind.from in omega arith
+  not_kind word kind (is_inside above until none) = let from = kind.from in omega arith
 
   pub not_fixed : (v : View) (word : ℕ) → IsStable capacity v held → IsAllocatorWord capacity held word → IsFixed capacity word → ⊥
-  not_fixed v word stable may fixed = elim fixed as (λ _. ⊥) [ inl few ↦ not_first word may few | inr reserved ↦ not_reserved word reserved may ]
+  not_fixed v word stable may (inl few) = not_first word may few
+  not_fixed v word stable may (inr (inl reserved)) = not_reserved word reserved may
+  not_fixed v word stable may (inr (inr kind)) = not_kind word kind may
+
+  -- an own word stands before the end of the last superblock
+  pub own_until : (v : View) (word : ℕ) → IsStable capacity v held → IsOwn held (words_from (λ n. n) 0 roots) word → word < start_word capacity capacity
+  own_until v _ stable (in_block b word holds in_b) =
+      let inside = lies capacity held v b stable holds in
+      let until = in_b.until in
+      let fits = stable.fits in
+      omega (arith, inside.1)
+  own_until v _ stable (in_root i word p same) = let below = root_below i p in omega arith
 
   -- nor is an own word one of these, or `used`
   own_apart : (v : View) (word : ℕ) → IsStable capacity v held → IsOwn held (words_from (λ n. n) 0 roots) word
@@ -155,8 +174,9 @@ module _ (capacity : ℕ) (held : List Block) where
 
   pub own_not_fixed : (v : View) (word : ℕ) → IsStable capacity v held → IsOwn held (words_from (λ n. n) 0 roots) word → IsFixed capacity word → ⊥
   own_not_fixed v word stable own (inl few) = own_apart v word stable own (inl (omega arith))
-  own_not_fixed v _ stable own (inr (in_header word low high used_not lists_not)) = own_apart v word stable own (inl (omega arith))
-  own_not_fixed v _ stable own (inr (in_descriptor d at word below low high is)) = own_apart v word stable own (inr (omega arith, omega arith))
+  own_not_fixed v _ stable own (inr (inl (in_header word low high used_not lists_not))) = own_apart v word stable own (inl (omega arith))
+  own_not_fixed v _ stable own (inr (inl (in_descriptor d at word below low high is))) = own_apart v word stable own (inr (omega arith, omega arith))
+  own_not_fixed v word stable own (inr (inr kind)) = let until = own_until v word stable own in let from = kind.from in omega arith
 
   -- held blocks stay named where neither the capacity nor an info of theirs is stored to, and both values of `used` stay above them
   stable_by : (to : ℕ → Type 0) (v w : View) (stable : IsStable capacity v held) → StoresOnly to v w → (to capacity_word → ⊥)
@@ -190,7 +210,7 @@ module _ (capacity : ℕ) (held : List Block) where
       let same : d ≡ c = omega arith in none b holds (subst (λ x. HasPartIn capacity b x) same part)
   not_info b d word holds part below at (is_anchor c less e) = omega arith
   not_info b d word holds part below at (is_link c less e) = omega arith
-  not_info b d word holds part below at (is_inside from none) = omega arith
+  not_info b d word holds part below at (is_inside from until none) = omega arith
 
   -- held blocks stay named: their infos lie before the superblocks, where an allocator may store
   pub stable_kept : (v w : View) → IsStable capacity v held → StoresAsAllocator capacity held v w → IsStable capacity w held

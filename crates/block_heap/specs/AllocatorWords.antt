@@ -20,7 +20,7 @@ pub data IsAllocatorWord (capacity : ℕ) (held : List Block) (word : ℕ) : Typ
   is_info : (d : ℕ) → d < capacity → HasNoHeld capacity held d → word ≡ info_word d → IsAllocatorWord capacity held word
   is_anchor : (d : ℕ) → d < capacity → word ≡ anchor_word d → IsAllocatorWord capacity held word
   is_link : (d : ℕ) → d < capacity → word ≡ link_word d → IsAllocatorWord capacity held word
-  is_inside : start_word capacity 0 ≤ word → ((b : Block) → Contains held b → IsIn b word → ⊥) → IsAllocatorWord capacity held word
+  is_inside : start_word capacity 0 ≤ word → word < start_word capacity capacity → ((b : Block) → Contains held b → IsIn b word → ⊥) → IsAllocatorWord capacity held word
 
 -- it stores to no other word, and `used` rises, of what loads see and of what is durable, and not past the capacity
 pub record StoresAsAllocator (capacity : ℕ) (held : List Block) (v w : View) : Type 0 where

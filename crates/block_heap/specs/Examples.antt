@@ -36,7 +36,7 @@ allocator_words : IsAllocatorWord 1 one_held used_word × IsAllocatorWord 1 one_
 allocator_words = (
   is_used refl,
   is_anchor 0 (omega arith) refl,
-  is_inside (omega arith) (λ b holds is_in.
+  is_inside (omega arith) (omega arith) (λ b holds is_in.
       let only : holds.0 ≡ 0 = omega (arith, holds.1) in
       let at : slice_index_or one_held 0 b ≡ b = subst (λ k. slice_index_or one_held k b ≡ b) only holds.2 in
       let from : b.first_word ≤ 1077 = is_in.from in
@@ -50,7 +50,7 @@ not_at_root (is_head list few e) = omega arith
 not_at_root (is_info d within none e) = omega arith
 not_at_root (is_anchor d within e) = omega arith
 not_at_root (is_link d within e) = omega arith
-not_at_root (is_inside from none) = omega arith
+not_at_root (is_inside from until none) = omega arith
 
 not_at_info : IsAllocatorWord 1 one_held (info_word 0) → ⊥
 not_at_info (is_used e) = omega arith
@@ -59,7 +59,7 @@ not_at_info (is_info d within none e) =
     none small_block is_held (record { begins = omega arith; ends = let first : d ≡ 0 = omega arith in omega arith })
 not_at_info (is_anchor d within e) = omega arith
 not_at_info (is_link d within e) = omega arith
-not_at_info (is_inside from none) = omega arith
+not_at_info (is_inside from until none) = omega arith
 
 not_in_block : IsAllocatorWord 1 one_held 1079 → ⊥
 not_in_block (is_used e) = omega arith
@@ -67,7 +67,25 @@ not_in_block (is_head list few e) = omega arith
 not_in_block (is_info d within none e) = omega arith
 not_in_block (is_anchor d within e) = omega arith
 not_in_block (is_link d within e) = omega arith
-not_in_block (is_inside from none) = none small_block is_held (record { from = omega arith; until = omega arith })
+not_in_block (is_inside from until none) = none small_block is_held (record { from = omega arith; until = omega arith })
+
+-- nor to the kind of a root, the first of which stands behind the last word of the superblock
+not_at_kind : (word : ℕ) → 9264 ≤ word → IsAllocatorWord 1 one_held word → ⊥
+not_at_kind word from (is_used e) = omega arith
+not_at_kind word from (is_head list few e) = omega arith
+not_at_kind word from (is_info d within none e) = omega arith
+not_at_kind word from (is_anchor d within e) = omega arith
+not_at_kind word from (is_link d within e) = omega arith
+not_at_kind word from (is_inside above until none) = omega arith
+
+at_last : IsAllocatorWord 1 one_held 9263
+at_last = is_inside (omega arith) (omega arith) (λ b holds is_in.
+    let only : holds.0 ≡ 0 = omega (arith, holds.1) in
+    let at : slice_index_or one_held 0 b ≡ b = subst (λ k. slice_index_or one_held k b ≡ b) only holds.2 in
+    let until : 9263 < b.first_word + b.words = is_in.until in
+    let first : 1078 ≡ b.first_word = ap (λ (x : Block). x.first_word) at in
+    let words : 6 ≡ b.words = ap (λ (x : Block). x.words) at in
+    omega arith)
 
 -- a heap of one superblock that was never taken gives the four blocks of class 20
 abbrev four_offsets : List ℕ

@@ -1,9 +1,9 @@
 -- What contracts see of a heap for one thread.
 use Rattle.std.specs.Prelude.{◌≡◌, ℕ, ◌+◌, ◌≤◌, List, Option, None, Some}
-use Rattle.heap_model.specs.Geometry.{roots, state_word}
+use Rattle.heap_model.specs.Geometry.{roots, state_word, kind_word}
 use Rattle.heap_model.specs.Image.{Image, words_from}
 use Rattle.heap_model.specs.Durability.{IsTransient}
-use Rattle.line_memory.specs.View.{volatile_at, durable_at}
+use Rattle.line_memory.specs.View.{View as MemoryView, volatile_at, durable_at}
 use Rattle.line_memory.specs.Crash.{IsValueOf}
 use Rattle.heap_seat.specs.declared.fault.Looks.{Looks}
 use Rattle.heap_seat.specs.View.{View}
@@ -27,6 +27,10 @@ pub record SeqState : Type 0 where
 abbrev pub all_roots : List ℕ
 all_roots = words_from (λ i. i) 0 roots
 
+-- the kinds of the roots, as loads see them
+unfoldable pub kinds_seen : ℕ → MemoryView → List ℕ
+kinds_seen capacity words = words_from (volatile_at words) (kind_word capacity 0) roots
+
 abbrev pub seat_of : SeqState → View
 seat_of s = record {
   held = held_in s.parts;
@@ -35,6 +39,7 @@ seat_of s = record {
   durable = λ word. Some (durable_at s.parts.words word);
   pending = s.parts.words.pending;
   capacity = s.parts.capacity;
+  kinds = kinds_seen s.parts.capacity s.parts.words;
   budget = s.parts.words.budget;
   next = s.parts.words.drawn;
   stopped = s.stopped;

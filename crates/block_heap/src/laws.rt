@@ -1,11 +1,11 @@
 //! What follows from the definitions, as functions with nothing to run: a caller cites their
 //! clauses.
 
-ghost use Rattle.std.specs.Prelude.{◌≡◌, ◌≢◌, ◌↔◌, ℕ, ◌+◌, ◌*◌, ◌≤◌, List, length, slice_index, Contains, true, false};
+ghost use Rattle.std.specs.Prelude.{◌≡◌, ◌≢◌, ◌↔◌, ℕ, ◌+◌, ◌*◌, ◌<◌, ◌≤◌, List, length, slice_index, Contains, true, false};
 ghost use Rattle.heap_model.specs.declared.block.Block.{Block};
 ghost use Rattle.heap_model.specs.Image.{Image};
 ghost use Rattle.heap_model.specs.Durability.{Mixes, IsCrashImage, IsClosedImage, NamesAreDurable};
-ghost use Rattle.heap_model.specs.Header.{capacity_of, used_of};
+ghost use Rattle.heap_model.specs.Header.{capacity_of, used_of, kinds_of};
 ghost use Rattle.heap_model.specs.Blocks.{layout_of};
 ghost use Rattle.heap_model.specs.Reach.{Links, IsReached};
 ghost use Rattle.heap_model.specs.Recovered.{IsDrained};
@@ -20,11 +20,14 @@ ghost use Rattle.block_heap.specs.Parts.{held_in, cache_at};
 ghost use Rattle.block_heap.specs.Reopening.{IsReopened};
 ghost use Rattle.block_heap.specs.Requests.{IsDrainableFor, IsDrainedOf};
 ghost use Rattle.block_heap.specs.SeqState.{SeqState, seat_of, MayLeave};
-ghost use Rattle.heap_model.specs.Geometry.{IsFixed};
+ghost use Rattle.heap_model.specs.Geometry.{roots, kind_word, IsFixed};
+ghost use Rattle.heap_seat.specs.View.{kind_of};
 
 /// Calls of a heap for one thread go together: over any row of them, the first four words of the
-/// header and those that have no meaning are what they were as the heap was opened, as loads see
-/// them and as they are durable; and there are as many words.
+/// header, those that have no meaning and the kinds of the roots are what they were as the heap was
+/// opened, as loads see them and as they are durable; and there are as many words. So the kinds of
+/// the image that was opened are those that the heap shows, and those of each image that it may
+/// leave.
 pub fn fixed_words_stay()
     ensures none { (s : SeqState) → KeepsFixed s s }
     ensures row { (s t u : SeqState) → KeepsFixed s t → KeepsFixed t u → KeepsFixed s u }
@@ -36,6 +39,14 @@ pub fn fixed_words_stay()
     ensures long { (words : List ℕ) (held : List Block) (budget : ℕ) (s t : SeqState)
         → IsOpened words held budget s → KeepsFixed s t
         → word_count t.parts.words ≡ length words }
+    ensures kinds { (words : List ℕ) (held : List Block) (budget : ℕ) (s t : SeqState)
+        → IsOpened words held budget s → KeepsFixed s t
+        → (i : ℕ) → i < roots → kind_of (seat_of t) i ≡ kinds_of (slice_index words) i }
+    ensures images { (words : List ℕ) (held : List Block) (budget : ℕ) (s t : SeqState)
+        → IsOpened words held budget s → KeepsFixed s t
+        → (image : Image) → MayLeave t image → (i : ℕ) → i < roots
+        → image (kind_word (capacity_of (slice_index words)) i)
+        ≡ kinds_of (slice_index words) i }
 {}
 
 /// The last look at the mark of taken superblocks tells how many there were as the heap was opened,

@@ -7,6 +7,8 @@ use Rattle.block_heap.specs.Serving.{DrainsAs}
 use Rattle.block_heap.proofs.RequestLemmas.{request_lasts, request_runs, request_words, large_heap}
 use Rattle.block_heap.proofs.FixedLemmas.{fixed_request}
 use Rattle.block_heap.specs.Draws.{most_small_draws}
+use Rattle.heap_model.specs.Sizes.{span_of}
+use Rattle.block_heap.proofs.CountedLemmas.{large_counted}
 use Rattle.block_heap.proofs.seq_heap.SeqHeap.request.Goals as goal
 
 pub invariant_of-self-inside : goal.invariant_of-self-inside
@@ -38,3 +40,8 @@ returns-clause-kept g c = fixed_request _ c.args.self.now _ c.self.invariant c.s
 pub returns-clause-order : goal.returns-clause-order
 returns-clause-order g c = λ class least.
     subst (λ (s : SeqState). IfOk c.alloc-answer.result (λ answer. ServesInOrder class answer s.parts (parts_of c.alloc-answer.new.self))) c.self.view_is (c.alloc-answer.ensures.order class least)
+
+pub returns-clause-counted : goal.returns-clause-counted
+returns-clause-counted g c =
+    large_counted _ c.args.self.now _ c.stop_of-self-inside.result _ (span_of c.args.asked.bytes) c.self.view_is c.in_ok-check_running.ensures.ok c.alloc-answer.ensures.leaves_held
+    c.alloc-answer.ensures.few (returns-clause-kept g c)

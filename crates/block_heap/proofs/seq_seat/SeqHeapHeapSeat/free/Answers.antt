@@ -7,6 +7,7 @@ use Rattle.block_heap.proofs.RequestLemmas.{large_heap}
 use Rattle.block_heap.proofs.FreeCallLemmas.{free_lasts, free_runs, may_free, frees}
 use Rattle.block_heap.proofs.FixedLemmas.{fixed_free}
 use Rattle.block_heap.specs.Draws.{most_free_draws}
+use Rattle.block_heap.proofs.CountedLemmas.{large_counted}
 use Rattle.block_heap.proofs.seq_seat.SeqHeapHeapSeat.free.Goals as goal
 
 pub invariant_of-self-inside : goal.invariant_of-self-inside
@@ -42,3 +43,8 @@ returns-clause-kept g c = fixed_free _ c.args.self.now _ c.args.b c.self.invaria
 pub returns-clause-given : goal.returns-clause-given
 returns-clause-given g c =
     subst (λ (s : SeqState). OnOk c.free-answer.result (ComesBack c.args.b s.parts (parts_of c.free-answer.new.self))) c.self.view_is c.free-answer.ensures.order
+
+pub returns-clause-counted : goal.returns-clause-counted
+returns-clause-counted g c =
+    large_counted _ c.args.self.now _ c.stop_of-self-inside.result _ 0 c.self.view_is c.in_ok-check_running.ensures.ok c.free-answer.ensures.leaves_held
+    (let same = c.free-answer.ensures.taken in omega arith) (returns-clause-kept g c)

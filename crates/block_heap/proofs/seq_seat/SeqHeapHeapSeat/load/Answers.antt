@@ -1,4 +1,4 @@
-use Rattle.std.proofs.Common.{◌<◌, ap, ◌∙◌, subst, sym, IfOk}
+use Rattle.std.proofs.Common.{◌<◌, ap, ◌∙◌, subst, sym, IfOk, refl, arith}
 use Rattle.block_heap.specs.MediumView.{medium_view}
 use Rattle.line_memory.specs.View.{word_count}
 use Rattle.block_heap.specs.Medium.{IsLoaded}
@@ -6,7 +6,9 @@ use Rattle.block_heap.specs.Parts.{parts_of}
 use Rattle.heap_seat.specs.View.{word_of}
 use Rattle.heap_seat.specs.Words.{IsOwnSpot}
 use Rattle.block_heap.specs.SeqState.{SeqState, seat_of}
-use Rattle.block_heap.proofs.SeatLemmas.{small_lasts, stop_above, quiet_heap, own_short, own_within, load_ok, loaded_runs_within, loaded_same}
+use Rattle.block_heap.proofs.SeatLemmas.{few_drawn, small_lasts, stop_above, quiet_heap, own_short, own_within, load_ok, loaded_runs_within, loaded_same}
+use Rattle.block_heap.proofs.FixedLemmas.{fixed_by}
+use Rattle.block_heap.proofs.CountedLemmas.{small_counted}
 use Rattle.block_heap.proofs.seq_seat.SeqHeapHeapSeat.load.Goals as goal
 
 pub word_of-requires : goal.word_of-requires
@@ -34,3 +36,12 @@ pub returns-clause-ok : goal.returns-clause-ok
 returns-clause-ok g c =
     load_ok c.load-answer.result _ c.args.self.now (medium_view c.load-answer.new.self) c.stop_of-self-inside.result (word_of c.args.s) c.self.invariant c.self.view_is c.in_ok-check_running.ensures.ok
     c.stop_of-self-inside.ensures.ok (subst (λ word. IfOk c.load-answer.result (λ value. IsLoaded word value (medium_view c.self.inside.arena.medium) (medium_view c.load-answer.new.self))) c.word_of.ensures c.load-answer.ensures.ok)
+
+pub returns-clause-kept : goal.returns-clause-kept
+returns-clause-kept g c =
+    fixed_by (λ _. ⊥) _ c.args.self.now _ c.self.view_is refl c.load-answer.ensures.unchanged (λ word t. absurd t) refl
+    (let few = few_drawn c.load-answer.result 1 _ _ (loaded_runs_within c.load-answer.result _ _ _ c.load-answer.ensures.ok) c.load-answer.ensures.stopped in omega arith)
+
+pub returns-clause-counted : goal.returns-clause-counted
+returns-clause-counted g c =
+    small_counted _ c.args.self.now _ c.stop_of-self-inside.result (λ _. ⊥) c.self.view_is c.in_ok-check_running.ensures.ok c.load-answer.ensures.unchanged (returns-clause-kept g c)

@@ -12,6 +12,7 @@ use Rattle.block_heap.specs.SeqState.{SeqState, seat_of, all_roots}
 use Rattle.block_heap.proofs.SeatLemmas.{small_lasts, stop_above, own_short, at_within, own_at, store_ok}
 use Rattle.block_heap.proofs.StoreLemmas.{store_heap, store_keeps, store_refused}
 use Rattle.block_heap.proofs.FixedLemmas.{fixed_store}
+use Rattle.block_heap.proofs.CountedLemmas.{small_counted}
 use Rattle.block_heap.proofs.seq_seat.SeqHeapHeapSeat.store.Goals as goal
 
 pub word_of-requires : goal.word_of-requires
@@ -56,3 +57,7 @@ returns-clause-kept g c =
     fixed_store _ c.args.self.now _ c.word_of.result c.self.invariant c.self.view_is refl
     (own_at _ c.args.self.now c.args.s c.word_of.result c.self.invariant c.self.view_is c.word_of.ensures c.requires) c.store-answer.ensures.others
     refl (let few = few_drawn c.store-answer.result 1 _ _ (on_ok_weaker c.store-answer.result (λ f. f.runs_within) c.store-answer.ensures.ok) c.store-answer.ensures.stopped in omega arith)
+
+pub returns-clause-counted : goal.returns-clause-counted
+returns-clause-counted g c =
+    small_counted _ c.args.self.now _ c.stop_of-self-inside.result (λ other. other ≡ c.word_of.result) c.self.view_is c.in_ok-check_running.ensures.ok c.store-answer.ensures.others (returns-clause-kept g c)
