@@ -3,11 +3,11 @@ use Rattle.std.proofs.Common.{◌≡◌, ℕ, ◌<◌, List, inl, inr, Contains,
 use Rattle.heap_model.specs.declared.block.Block.{Block}
 use Rattle.heap_model.specs.Geometry.{root_word}
 use Rattle.heap_model.specs.Blocks.{IsIn}
-use Rattle.heap_seat.specs.View.{View}
+use Rattle.heap_seat.specs.View.{View, kind_of}
 use Rattle.heap_seat.specs.Words.{in_root, MayHaveStored}
 use Rattle.heap_seat.specs.Free.{MayHaveFreed}
 use Rattle.heap_seat.specs.Sound.{IsSeat}
-use Rattle.dict_model.specs.Links.{shards}
+use Rattle.dict_model.specs.Links.{shards, table_kind}
 use Rattle.dict_model.specs.Shards.{Map}
 use Rattle.dict_seat.specs.Maps.{GivesMap, KeepsTable, KeepsOtherShards}
 use Rattle.dict_seat.specs.Reached.{MayReach, ReachesOnlyHeld}
@@ -40,37 +40,37 @@ table_freed shard w x b small seat h may = record {
 
 module _ (shard : ℕ) (after : Map → Map) where
   -- nothing was changed
-  pub change_none : (v w : View) → Grown v w → IsSeat w → ReachesOnlyHeld v → MayChange shard after v w
-  change_none v w grown seat only = record {
+  pub change_none : (v w : View) → Grown v w → w.kinds ≡ v.kinds → IsSeat w → ReachesOnlyHeld v → MayChange shard after v w
+  change_none v w grown kinds seat only = record {
     either = λ map gives. record { each = λ image mixes. inl ((gives_grown v w grown shard map gives).each image mixes) };
-    only = only_grown v w grown seat only;
+    only = only_grown v w grown kinds seat only;
     table = table_grown shard v w grown;
-    others = others_grown v w grown shard;
+    others = others_grown v w grown kinds shard;
   }
 
   -- a change, and what calls before it left
-  pub change_after : (v u w : View) → Grown v u → IsSeat u → ReachesOnlyHeld v → MayChange shard after u w → MayChange shard after v w
-  change_after v u w grown seat only change = record {
+  pub change_after : (v u w : View) → Grown v u → u.kinds ≡ v.kinds → IsSeat u → ReachesOnlyHeld v → MayChange shard after u w → MayChange shard after v w
+  change_after v u w grown kinds seat only change = record {
     either = λ map gives. change.either map (gives_grown v u grown shard map gives);
     only = change.only;
     table = table_then shard v u w (subst (λ (rs : List ℕ). Contains rs shard) (sym grown.roots)) (table_grown shard v u grown) change.table;
-    others = others_then shard v u w (λ b kind h reached. reached_before v u grown seat only shard b kind reached) (others_grown v u grown shard) change.others;
+    others = others_then shard v u w (λ b kind h reached. reached_before v u grown kinds seat only shard b kind reached) (others_grown v u grown kinds shard) change.others;
   }
 
   pub changes_after : (v u w : View) → Grown v u → Changes shard after u w → Changes shard after v w
   changes_after v u w grown changes = record { gives = λ map gives. changes.gives map (gives_grown v u grown shard map gives) }
 
   -- a block that is freed after the change, when nothing reaches it any more
-  pub freed : (u w x : View) (b : Block) (kind : ℕ) → shard < shards → IsSeat w → Contains w.roots shard → Contains w.held b → Changes shard after u w → ReachesOnlyHeld w → KeepsTable shard u w → KeepsOtherShards shard u w
-      → MayReach u shard b kind → ((root other : ℕ) → MayReach w root b other → ⊥) → MayHaveFreed b w x → Changes shard after u x × MayChange shard after u x
-  freed u w x b kind small seat owned h changes only table others reached unreached may =
+  pub freed : (u w x : View) (b : Block) (kind : ℕ) → shard < shards → kind_of w shard ≡ table_kind → IsSeat w → Contains w.roots shard → Contains w.held b → Changes shard after u w → ReachesOnlyHeld w → KeepsTable shard u w → KeepsOtherShards shard u w
+      → MayReach u shard b kind → ((root other : ℕ) → MayReach w root b other → ⊥) → MayHaveFreed b w x → x.kinds ≡ w.kinds → Changes shard after u x × MayChange shard after u x
+  freed u w x b kind small root_is seat owned h changes only table others reached unreached may kinds =
       let done : (map : Map) → GivesMap u shard map → GivesMap x shard (after map) =
-      λ map gives. gives_freed w x b seat may only h unreached shard (after map) small owned (changes.gives map gives) in (
+      λ map gives. gives_freed w x b seat may kinds only h unreached shard (after map) root_is owned (changes.gives map gives) in (
         record { gives = done },
         record {
           either = λ map gives. record { each = λ image mixes. inr ((done map gives).each image mixes) };
-          only = only_freed w x b seat may only h unreached;
+          only = only_freed w x b seat may kinds only h unreached;
           table = table_then shard u w x (λ _. owned) table (table_freed shard w x b small seat h may);
-          others = others_freed shard kind u w x b seat h reached others may;
+          others = others_freed shard kind u w x b seat h reached others may kinds;
         },
       )

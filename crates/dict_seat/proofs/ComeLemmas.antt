@@ -1,16 +1,15 @@
 -- What is so of the blocks of a settled trail: the root reaches them, and they are apart from each other and from the table.
-use Rattle.std.proofs.Common.{◌≡◌, ◌≢◌, ℕ, ◌+◌, ◌<◌, ◌≤◌, ◌⊎◌, inl, inr, List, [], ◌∷◌, ◌++◌, Contains, nat_lt, refl, ap, subst, sym, ◌∙◌, arith, rules}
-use Rattle.std.proofs.lemmas.Bool.{cond-true}
+use Rattle.std.proofs.Common.{◌≡◌, ◌≢◌, ℕ, ◌+◌, ◌<◌, ◌≤◌, ◌⊎◌, inl, inr, List, [], ◌∷◌, ◌++◌, Contains, refl, ap, subst, sym, ◌∙◌, arith}
 use Rattle.std.proofs.lemmas.List.Elements.{Contains-append_left, Contains-append_right}
 use Rattle.heap_model.specs.declared.block.Block.{Block}
 use Rattle.heap_model.specs.Image.{Image}
 use Rattle.heap_model.specs.Geometry.{root_word}
 use Rattle.heap_model.specs.Blocks.{IsIn}
 use Rattle.heap_model.proofs.MemberLemmas.{in_none, in_head, head_or_rest, in_rest}
-use Rattle.heap_seat.specs.View.{View}
+use Rattle.heap_seat.specs.View.{View, kind_of}
 use Rattle.heap_seat.specs.Words.{MayRead, IsOwn, MayHaveStored}
 use Rattle.heap_seat.specs.Sound.{IsSeat}
-use Rattle.dict_model.specs.Links.{shards, root_kind, table_kind, node_kind, IsLink, in_table, in_node}
+use Rattle.dict_model.specs.Links.{shards, table_kind, node_kind, IsLink, in_table, in_node}
 use Rattle.dict_model.specs.Nodes.{shard_of, bucket_of, key_in, IsNode}
 use Rattle.dict_model.specs.Shards.{Map, LeadsTo, IsPath, but, link_behind}
 use Rattle.dict_model.proofs.ChainLemmas.{in_path, path_left, path_cross, not_of, behind_is}
@@ -22,10 +21,6 @@ use Rattle.dict_seat.proofs.GrownLemmas.{are_placed, root_reach, link_reach}
 use Rattle.dict_seat.proofs.PublishLemmas.{IsLinkOf, is_link}
 use Rattle.dict_seat.proofs.TrailLemmas.{now_image, now_completes, leads_held, settled_in, is_along, bucket_below, first_own, settled_stays}
 use Rattle.dict_seat.proofs.MapPublishLemmas.{seen_read, trail_held}
-
--- what a shard's root leads to is a table
-pub root_is_table : (shard : ℕ) → shard < shards → root_kind shard ≡ table_kind
-root_is_table shard small = cond-true (nat_lt shard shards) table_kind 0 (search rules)
 
 -- a link that the root may be followed to
 pub record IsFollowed (u : View) (shard at : ℕ) : Type 0 where
@@ -71,28 +66,29 @@ module _ (u : View) (seat : IsSeat u) (shard : ℕ) (small : shard < shards) whe
       ((λ b h. elim (head_or_rest c b bs h) as (λ _. MayReach u shard b node_kind) [ inl same ↦ subst (λ (x : Block). MayReach u shard x node_kind) same first | inr r ↦ rest.0 b r ]), rest.1)
 
 module _ (u : View) (seat : IsSeat u) (key : ℕ) (small : shard_of key < shards) (table : Block) (before : List Block) (come : HasCome IsDurableAt u (shard_of key) key table before) where
-  pub table_is_reached : MayReach u (shard_of key) table (root_kind (shard_of key))
-  table_is_reached = root_reach u (shard_of key) table (root_kind (shard_of key)) (pointer_to table) come.owned refl
-      (seen_read u (root_word (shard_of key)) (pointer_to table) come.root.seen) (leads_held u table seat come.held_table)
+  module _ (root_is : kind_of u (shard_of key) ≡ table_kind) where
+    pub table_is_reached : MayReach u (shard_of key) table (kind_of u (shard_of key))
+    table_is_reached = root_reach u (shard_of key) table (kind_of u (shard_of key)) (pointer_to table) come.owned refl
+        (seen_read u (root_word (shard_of key)) (pointer_to table) come.root.seen) (leads_held u table seat come.held_table)
 
-  pub bucket_followed : IsFollowed u (shard_of key) (table.first_word + bucket_of key)
-  bucket_followed = record {
-    holder = table;
-    from = root_kind (shard_of key);
-    position = bucket_of key;
-    reached = table_is_reached;
-    is_link = subst (λ kind. IsLink kind table.words (bucket_of key) node_kind) (sym (root_is_table (shard_of key) small))
-        (in_table table.words (bucket_of key) (let below = bucket_below key in let size = come.size in omega arith));
-    at_is = refl;
-  }
+    pub bucket_followed : IsFollowed u (shard_of key) (table.first_word + bucket_of key)
+    bucket_followed = record {
+      holder = table;
+      from = kind_of u (shard_of key);
+      position = bucket_of key;
+      reached = table_is_reached;
+      is_link = subst (λ kind. IsLink kind table.words (bucket_of key) node_kind) (sym root_is)
+          (in_table table.words (bucket_of key) (let below = bucket_below key in let size = come.size in omega arith));
+      at_is = refl;
+    }
 
-  pub nodes_reached : (b : Block) → Contains before b → MayReach u (shard_of key) b node_kind
-  nodes_reached = (trail_reached u seat (shard_of key) small (table.first_word + bucket_of key) before bucket_followed come.trail).0
+    pub nodes_reached : (b : Block) → Contains before b → MayReach u (shard_of key) b node_kind
+    nodes_reached = (trail_reached u seat (shard_of key) small (table.first_word + bucket_of key) before bucket_followed come.trail).0
 
-  pub link_followed : IsLinkOf u (shard_of key) (link_behind (table.first_word + bucket_of key) before) node_kind
-  link_followed =
-      let last = (trail_reached u seat (shard_of key) small (table.first_word + bucket_of key) before bucket_followed come.trail).1 in
-      is_link last.holder last.from last.position node_kind last.reached last.is_link last.at_is
+    pub link_followed : IsLinkOf u (shard_of key) (link_behind (table.first_word + bucket_of key) before) node_kind
+    link_followed =
+        let last = (trail_reached u seat (shard_of key) small (table.first_word + bucket_of key) before bucket_followed come.trail).1 in
+        is_link last.holder last.from last.position node_kind last.reached last.is_link last.at_is
 
   -- in a mixture they begin the chain of their bucket
   pub begins_chain : (map : Map) → GivesMap u (shard_of key) map

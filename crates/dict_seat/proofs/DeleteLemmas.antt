@@ -9,11 +9,11 @@ use Rattle.heap_model.specs.Image.{Image}
 use Rattle.heap_model.specs.Geometry.{root_word}
 use Rattle.heap_model.specs.Blocks.{IsIn}
 use Rattle.heap_model.proofs.MemberLemmas.{in_head}
-use Rattle.heap_seat.specs.View.{View, word_of}
+use Rattle.heap_seat.specs.View.{View, kind_of, word_of}
 use Rattle.heap_seat.specs.Words.{IsOwn, in_root, in_block, MayRead, MixesOwn, MayHaveStored}
 use Rattle.heap_seat.specs.Sound.{IsSeat}
 use Rattle.heap_seat.proofs.CallerLemmas.{own_same}
-use Rattle.dict_model.specs.Links.{shards, node_kind, IsLink, in_node}
+use Rattle.dict_model.specs.Links.{shards, table_kind, node_kind, IsLink, in_node}
 use Rattle.dict_model.specs.Nodes.{shard_of, bucket_of}
 use Rattle.dict_model.specs.Requests.{without_key}
 use Rattle.dict_model.specs.Shards.{Map, link_behind}
@@ -44,7 +44,8 @@ pub record IsFoundNode (u : View) (key : ℕ) (place : Place) (table : Block) (b
   pub come : HasCome IsDurableAt u (shard_of key) key table before
   pub link : IsDurableAt u (word_of place.link) (pointer_to place.node)
 
-module _ (u : View) (seat : IsSeat u) (key : ℕ) (place : Place) (next : ℕ) (taken : IsReadPlace IsDurableAt u key place next) (map₀ : Map) (gives₀ : GivesMap u (shard_of key) map₀) where
+module _ (u : View) (seat : IsSeat u) (key : ℕ) (place : Place) (next : ℕ) (taken : IsReadPlace IsDurableAt u key place next) (map₀ : Map) (gives₀ : GivesMap u (shard_of key) map₀)
+    (root_is : kind_of u (shard_of key) ≡ table_kind) where
   node : Block
   node = place.node
 
@@ -52,7 +53,7 @@ module _ (u : View) (seat : IsSeat u) (key : ℕ) (place : Place) (next : ℕ) (
   node_held = last_held u seat key (shard_below key) map₀ gives₀ taken.table place.node taken.before taken.come
 
   pub node_reached : MayReach u (shard_of key) place.node node_kind
-  node_reached = nodes_reached u seat key (shard_below key) taken.table (taken.before ++ (place.node ∷ [])) taken.come place.node
+  node_reached = nodes_reached u seat key (shard_below key) taken.table (taken.before ++ (place.node ∷ [])) taken.come root_is place.node
       (Contains-append_right taken.before (place.node ∷ []) place.node (in_head place.node []))
 
   pub node_room : 3 ≤ place.node.words
@@ -63,7 +64,7 @@ module _ (u : View) (seat : IsSeat u) (key : ℕ) (place : Place) (next : ℕ) (
 
   -- the link that leads to the node
   pub link_kind : IsLinkOf u (shard_of key) (word_of place.link) node_kind
-  link_kind = subst (λ p. IsLinkOf u (shard_of key) p node_kind) (sym taken.at_is) (link_followed u seat key (shard_below key) taken.table taken.before come_to)
+  link_kind = subst (λ p. IsLinkOf u (shard_of key) p node_kind) (sym taken.at_is) (link_followed u seat key (shard_below key) taken.table taken.before come_to root_is)
 
   pub link_own : IsOwn u.held u.roots (word_of place.link)
   link_own = subst (IsOwn u.held u.roots) (sym taken.at_is) (behind_own IsDurableAt u (shard_of key) key taken.table taken.before seat come_to)
@@ -98,7 +99,7 @@ module _ (u : View) (seat : IsSeat u) (key : ℕ) (place : Place) (next : ℕ) (
         | inr f ↦ old f.0 f.1 (link_reach u (shard_of key) place.node f.0 node_kind 0 node_kind next node_reached is read f.1)
       ]
 
-  module _ (w : View) (may : MayHaveStored (word_of place.link) next u w) where
+  module _ (w : View) (may : MayHaveStored (word_of place.link) next u w) (kinds : w.kinds ≡ u.kinds) where
     out : (map : Map) → GivesMap u (shard_of key) map → (image : Image) → MixesOwn w image → image (word_of place.link) ≡ next → IsMapIn w image (shard_of key) (without_key map key)
     out map gives = take_out u w seat (shard_of key) key (shard_below key) map gives taken.table taken.before (place.node ∷ []) taken.come (word_of place.link) next (pointer_to place.node)
         taken.at_is link_holds may place.node refl taken.key_is (node_word_own (place.node.first_word + 1) key_in_node) taken.next_is (node_word_own place.node.first_word first_in_node)
@@ -108,10 +109,10 @@ module _ (u : View) (seat : IsSeat u) (key : ℕ) (place : Place) (next : ℕ) (
       either = λ map gives.
           either u w seat (shard_of key) key (shard_below key) map gives taken.table taken.before (place.node ∷ []) taken.come (word_of place.link) next (pointer_to place.node)
           taken.at_is link_holds may (without_key map key) (out map gives);
-      only = only_after u w (shard_of key) (word_of place.link) next node_kind seat (shard_below key) may only link_kind (may_link only);
+      only = only_after u w (shard_of key) (word_of place.link) next node_kind seat (shard_below key) may kinds only link_kind (may_link only);
       table = table_stored (shard_of key) (word_of place.link) next u w
           (λ owned e. link_behind_roots u key taken.table taken.before (shard_of key) seat owned come_to (e ∙ taken.at_is)) may;
-      others = others_after u w (shard_of key) (word_of place.link) next node_kind seat (shard_below key) may only link_kind (may_link only);
+      others = others_after u w (shard_of key) (word_of place.link) next node_kind seat (shard_below key) may kinds only link_kind (may_link only);
     }
 
     pub unlinked : IsDurableAt w (word_of place.link) next → (map : Map) → GivesMap u (shard_of key) map → GivesMap w (shard_of key) (without_key map key)
@@ -134,17 +135,17 @@ module _ (u : View) (seat : IsSeat u) (key : ℕ) (place : Place) (next : ℕ) (
           (own_same u w (place.node.first_word + 1) may.held may.roots (node_word_own (place.node.first_word + 1) key_in_node))
           (cond-true (nat_eq key key) None (map₀ key) (eq-eqb key key refl)) (subst (λ r. MayReach w r place.node kind) (sym same) reached)
       | inr differs ↦
-          elim (reached_after u w (shard_of key) (word_of place.link) next node_kind seat (shard_below key) may only link_kind (may_link only) root place.node kind reached) as (λ _. ⊥) [
+          elim (reached_after u w (shard_of key) (word_of place.link) next node_kind seat (shard_below key) may kinds only link_kind (may_link only) root place.node kind reached) as (λ _. ⊥) [
             | inl before ↦ only.alone (shard_of key) root place.node node_kind kind (shard_below key) differs node_reached before
             | inr fresh ↦ differs (sym fresh.0)
           ]
     ]
 
 pub found_node : (u : View) → IsSeat u → (key : ℕ) (place : Place) (next : ℕ) (taken : IsReadPlace IsDurableAt u key place next) (map₀ : Map) → GivesMap u (shard_of key) map₀
-    → IsFoundNode u key place taken.table taken.before
-found_node u seat key place next taken map₀ gives₀ = record {
-  held = node_held u seat key place next taken map₀ gives₀;
-  reached = node_reached u seat key place next taken map₀ gives₀;
-  come = come_to u seat key place next taken map₀ gives₀;
-  link = link_holds u seat key place next taken map₀ gives₀;
+    → kind_of u (shard_of key) ≡ table_kind → IsFoundNode u key place taken.table taken.before
+found_node u seat key place next taken map₀ gives₀ root_is = record {
+  held = node_held u seat key place next taken map₀ gives₀ root_is;
+  reached = node_reached u seat key place next taken map₀ gives₀ root_is;
+  come = come_to u seat key place next taken map₀ gives₀ root_is;
+  link = link_holds u seat key place next taken map₀ gives₀ root_is;
 }

@@ -4,11 +4,11 @@ use Rattle.std.proofs.lemmas.Bool.{cases_eq}
 use Rattle.heap_model.specs.declared.block.Block.{Block}
 use Rattle.heap_model.specs.Geometry.{root_word}
 use Rattle.heap_model.specs.Blocks.{IsIn}
-use Rattle.heap_seat.specs.View.{View, word_of}
+use Rattle.heap_seat.specs.View.{View, kind_of, word_of}
 use Rattle.heap_seat.specs.Words.{in_root, KeepsOwn, MayHaveStored}
 use Rattle.heap_seat.specs.Free.{MayHaveFreed}
 use Rattle.heap_seat.specs.Sound.{IsSeat}
-use Rattle.dict_model.specs.Links.{node_kind}
+use Rattle.dict_model.specs.Links.{table_kind, node_kind}
 use Rattle.dict_model.specs.Nodes.{shard_of, bucket_of}
 use Rattle.dict_model.specs.Shards.{Map, LeadsTo, IsPath, but, link_behind}
 use Rattle.dict_model.proofs.ChainLemmas.{in_path}
@@ -18,7 +18,7 @@ use Rattle.dict_seat.specs.Maps.{GivesMap}
 use Rattle.dict_seat.specs.Reached.{MayReach, Reaches, ReachesOnlyHeld, ReachesAllHeld}
 use Rattle.dict_seat.specs.Trails.{pointer_to, IsDurableAt, HasCome}
 use Rattle.dict_seat.specs.Changes.{IsReadPlace}
-use Rattle.dict_seat.proofs.GrownLemmas.{are_placed, stays_held, grown_keeps, only_grown}
+use Rattle.dict_seat.proofs.GrownLemmas.{are_placed, stays_held, kind_kept, grown_keeps, only_grown}
 use Rattle.dict_seat.proofs.TrailLemmas.{now_image, settled_stays, leads_held, bucket_own, bucket_below}
 use Rattle.dict_seat.proofs.ComeLemmas.{begins_chain, trail_kept, link_behind_roots, last_not_table}
 use Rattle.dict_seat.proofs.DeleteLemmas.{shard_below, seen_value, node_held, node_reached, come_to, link_kind, link_holds, may_link, unreached}
@@ -26,12 +26,12 @@ use Rattle.dict_seat.proofs.UnreachedLemmas.{only_node}
 use Rattle.dict_seat.proofs.ExactLemmas.{SeesLink, sees_may, sees_grown, target_sees, come_sees, sees_after, sees_freed}
 
 -- over quiet calls
-pub all_quiet : (v u : View) → IsSeat u → KeepsOwn v u → ReachesAllHeld v → ReachesAllHeld u
-all_quiet v u seat keeps all = record {
-  only = only_grown v u (grown_keeps v u keeps) seat all.only;
+pub all_quiet : (v u : View) → IsSeat u → KeepsOwn v u → u.kinds ≡ v.kinds → ReachesAllHeld v → ReachesAllHeld u
+all_quiet v u seat keeps kinds all = record {
+  only = only_grown v u (grown_keeps v u keeps) kinds seat all.only;
   all = λ c h.
       let r = all.all c (subst (λ (bs : List Block). Contains bs c) keeps.held h) in
-      (r.0, r.1, sees_grown v u (grown_keeps v u keeps) r.0 c r.1 r.2);
+      (r.0, r.1, sees_grown v u (grown_keeps v u keeps) kinds r.0 c r.1 r.2);
 }
 
 -- a settled way to a link stays one where the link is stored to
@@ -56,9 +56,9 @@ come_kept u w key p x table before map seat gives come at may = record {
   path = begins_chain u seat key (shard_below key) table before come map gives
 
 module _ (u w : View) (seat : IsSeat u) (seat_w : IsSeat w) (key : ℕ) (place : Place) (next : ℕ) (taken : IsReadPlace IsDurableAt u key place next) (map : Map) (gives : GivesMap u (shard_of key) map)
-    (only : ReachesOnlyHeld u) where
+    (only : ReachesOnlyHeld u) (root_is : kind_of u (shard_of key) ≡ table_kind) (kinds : w.kinds ≡ u.kinds) where
   held_u : Contains u.held place.node
-  held_u = node_held u seat key place next taken map gives
+  held_u = node_held u seat key place next taken map gives root_is
 
   -- the node is reached from its shard's root alone, and as a node
   pub one_kind : (root : ℕ) (a : Block) (kind : ℕ) → a ≡ place.node → Reaches u root a kind → (root ≡ shard_of key) × (kind ≡ node_kind)
@@ -70,7 +70,7 @@ module _ (u w : View) (seat : IsSeat u) (seat_w : IsSeat w) (key : ℕ) (place :
           only_node u seat (shard_of key) map gives taken.table taken.come.owned taken.come.held_table taken.come.size taken.come.root place.node kind
               (last_not_table u seat key (shard_below key) map gives taken.table place.node taken.before taken.come) (subst (λ r. MayReach u r place.node kind) (sym is) may_node),
         )
-        | inr differs ↦ absurd (only.alone (shard_of key) root place.node node_kind kind (shard_below key) differs (node_reached u seat key place next taken map gives) may_node)
+        | inr differs ↦ absurd (only.alone (shard_of key) root place.node node_kind kind (shard_below key) differs (node_reached u seat key place next taken map gives root_is) may_node)
       ]
 
   pub leads_to_node : (c : Block) → LeadsTo (Contains u.held) (pointer_to place.node) c → c ≡ place.node
@@ -82,18 +82,18 @@ module _ (u w : View) (seat : IsSeat u) (seat_w : IsSeat w) (key : ℕ) (place :
       seen_value u place.node.first_word value next (subst (λ q. u.volatile q ≡ Some value) at seen) taken.next_is.seen
 
   pub not_root : (root : ℕ) → Contains u.roots root → root_word root ≢ word_of place.link
-  not_root root owned e = link_behind_roots u key taken.table taken.before root seat owned (come_to u seat key place next taken map gives) (e ∙ taken.at_is)
+  not_root root owned e = link_behind_roots u key taken.table taken.before root seat owned (come_to u seat key place next taken map gives root_is) (e ∙ taken.at_is)
 
   -- a node that is taken out and freed
-  pub all_removed : (may : MayHaveStored (word_of place.link) next u w) → IsDurableAt w (word_of place.link) next → (x : View) → MayHaveFreed place.node w x → (Contains x.held place.node → ⊥) → ReachesOnlyHeld x
+  pub all_removed : (may : MayHaveStored (word_of place.link) next u w) → IsDurableAt w (word_of place.link) next → (x : View) → MayHaveFreed place.node w x → x.kinds ≡ w.kinds → (Contains x.held place.node → ⊥) → ReachesOnlyHeld x
       → ReachesAllHeld u → ReachesAllHeld x
-  all_removed may settled x freeing gone only_x all = record {
+  all_removed may settled x freeing kinds_x gone only_x all = record {
     only = only_x;
     all = λ c h.
         let in_u : Contains u.held c = subst (λ (bs : List Block). Contains bs c) may.held (freeing.only c h) in
         let r = all.all c in_u in
-        elim (sees_after u w seat (shard_of key) (word_of place.link) next (pointer_to place.node) (shard_below key) may only (link_kind u seat key place next taken map gives)
-        (may_link u seat key place next taken map gives only) (link_holds u seat key place next taken map gives) not_root (λ d. d ≡ place.node)
+        elim (sees_after u w seat (shard_of key) (word_of place.link) next (pointer_to place.node) (shard_below key) may kinds only (link_kind u seat key place next taken map gives root_is)
+        (may_link u seat key place next taken map gives root_is only) (link_holds u seat key place next taken map gives root_is) not_root (λ d. d ≡ place.node)
         (λ d leads. inl (leads_to_node d leads))
         (λ a d value same seen leads.
         inr (target_sees w (shard_of key) (word_of place.link) next d link_w settled.seen
@@ -102,12 +102,12 @@ module _ (u w : View) (seat : IsSeat u) (seat_w : IsSeat w) (key : ℕ) (place :
           | inl reached ↦ (
             r.0,
             r.1,
-            sees_freed w x place.node seat_w freeing (stays_held u w may.held place.node held_u)
-                (unreached u seat key place next taken map gives w may seat_w only settled) r.0 c r.1 reached,
+            sees_freed w x place.node seat_w freeing kinds_x (stays_held u w may.held place.node held_u)
+                (unreached u seat key place next taken map gives root_is w may kinds seat_w only settled) r.0 c r.1 reached,
           )
           | inr same ↦ absurd (gone (subst (Contains x.held) same h))
         ];
   } where
     link_w : SeesLink w (shard_of key) (word_of place.link)
     link_w = subst (λ q. SeesLink w (shard_of key) q) (sym taken.at_is)
-        (come_sees w key taken.table taken.before seat_w (come_kept u w key (word_of place.link) next taken.table taken.before map seat gives (come_to u seat key place next taken map gives) taken.at_is may))
+        (come_sees w key taken.table taken.before seat_w (come_kept u w key (word_of place.link) next taken.table taken.before map seat gives (come_to u seat key place next taken map gives root_is) taken.at_is may) (kind_kept u w (shard_of key) kinds ∙ root_is))

@@ -1,15 +1,15 @@
 -- What loads see reached stays reached, but for the node that a request takes out.
-use Rattle.std.proofs.Common.{◌≡◌, ◌≢◌, ℕ, ◌+◌, ◌<◌, ◌⊎◌, inl, inr, List, [], ◌∷◌, Some, Contains, refl, subst, sym, arith}
+use Rattle.std.proofs.Common.{◌≡◌, ◌≢◌, ℕ, ◌+◌, ◌<◌, ◌⊎◌, inl, inr, List, [], ◌∷◌, Some, Contains, refl, subst, sym, ◌∙◌, arith}
 use Rattle.std.proofs.lemmas.Bool.{cases_eq}
 use Rattle.heap_model.specs.declared.block.Block.{Block}
 use Rattle.heap_model.specs.Geometry.{root_word}
 use Rattle.heap_model.specs.Reach.{by_start, by_link}
 use Rattle.heap_model.proofs.ReachLemmas.{closure_least, closure_included}
-use Rattle.heap_seat.specs.View.{View}
+use Rattle.heap_seat.specs.View.{View, kind_of}
 use Rattle.heap_seat.specs.Words.{in_root, MayHaveStored}
 use Rattle.heap_seat.specs.Free.{MayHaveFreed}
 use Rattle.heap_seat.specs.Sound.{IsSeat}
-use Rattle.dict_model.specs.Links.{shards, root_kind, node_kind, IsLink, in_table, in_node}
+use Rattle.dict_model.specs.Links.{shards, table_kind, node_kind, IsLink, in_table, in_node}
 use Rattle.dict_model.specs.Nodes.{shard_of, bucket_of}
 use Rattle.dict_model.specs.Shards.{LeadsTo, link_behind}
 use Rattle.dict_model.proofs.LinkLemmas.{at_first}
@@ -17,14 +17,13 @@ use Rattle.dict_model.proofs.SpliceLemmas.{one_holder}
 use Rattle.dict_seat.specs.Quiet.{Grown}
 use Rattle.dict_seat.specs.Reached.{Sees, RootReaches, LinkReaches, MayReach, Reaches, ReachesOnlyHeld}
 use Rattle.dict_seat.specs.Trails.{pointer_to, IsDurableAt, Trail, HasCome}
-use Rattle.dict_seat.proofs.GrownLemmas.{stays_held, are_placed, link_own, link_in, link_to}
+use Rattle.dict_seat.proofs.GrownLemmas.{stays_held, are_placed, kind_kept, link_own, link_in, link_to}
 use Rattle.dict_seat.proofs.PublishLemmas.{IsLinkOf, MayPublish, link_at_link}
 use Rattle.dict_seat.proofs.MapPublishLemmas.{seen_read}
 use Rattle.dict_seat.proofs.TrailLemmas.{leads_held, bucket_below}
-use Rattle.dict_seat.proofs.ComeLemmas.{root_is_table}
-use Rattle.dict_seat.proofs.DeleteLemmas.{shard_below, seen_value}
+use Rattle.dict_seat.proofs.DeleteLemmas.{seen_value}
 
-pub root_sees : (v : View) (root : ℕ) (b : Block) (kind value : ℕ) → Contains v.roots root → kind ≡ root_kind root → v.volatile (root_word root) ≡ Some value → LeadsTo (Contains v.held) value b → Reaches v root b kind
+pub root_sees : (v : View) (root : ℕ) (b : Block) (kind value : ℕ) → Contains v.roots root → kind ≡ kind_of v root → v.volatile (root_word root) ≡ Some value → LeadsTo (Contains v.held) value b → Reaches v root b kind
 root_sees v root b kind value owned is read leads = by_start b kind (record { owned = owned; kind_is = is; value = value; read = read; leads = leads })
 
 pub link_sees : (v : View) (root : ℕ) (a b : Block) (from position kind value : ℕ) → Reaches v root a from → IsLink from a.words position kind → v.volatile (a.first_word + position) ≡ Some value
@@ -47,11 +46,11 @@ sees_may v root = closure_included
     })
 
 -- where no own word is stored to it stays
-pub sees_grown : (v u : View) → Grown v u → (root : ℕ) (b : Block) (kind : ℕ) → Reaches v root b kind → Reaches u root b kind
-sees_grown v u grown root = closure_included
+pub sees_grown : (v u : View) → Grown v u → u.kinds ≡ v.kinds → (root : ℕ) (b : Block) (kind : ℕ) → Reaches v root b kind → Reaches u root b kind
+sees_grown v u grown kinds root = closure_included
     (λ b kind start. record {
       owned = subst (λ (rs : List ℕ). Contains rs root) (sym grown.roots) start.owned;
-      kind_is = start.kind_is;
+      kind_is = start.kind_is ∙ sym (kind_kept v u root kinds);
       value = start.value;
       read = (grown.words (root_word root) (in_root root (root_word root) start.owned refl)).volatile start.value start.read;
       leads = (grown.keeps b start.leads.0, start.leads.1);
@@ -93,19 +92,20 @@ trail_sees w shard seat at (b ∷ bs) link trail =
     trail_sees w shard seat b.first_word bs (node_link w shard b seat (target_sees w shard at (pointer_to b) b link trail.1.seen (leads_held w b seat trail.0))) trail.2
 
 -- the link behind a settled trail is one
-pub come_sees : (w : View) (key : ℕ) (table : Block) (before : List Block) → IsSeat w → HasCome IsDurableAt w (shard_of key) key table before → SeesLink w (shard_of key) (link_behind (table.first_word + bucket_of key) before)
-come_sees w key table before seat come = trail_sees w (shard_of key) seat (table.first_word + bucket_of key) before (record {
+pub come_sees : (w : View) (key : ℕ) (table : Block) (before : List Block) → IsSeat w → HasCome IsDurableAt w (shard_of key) key table before
+    → kind_of w (shard_of key) ≡ table_kind → SeesLink w (shard_of key) (link_behind (table.first_word + bucket_of key) before)
+come_sees w key table before seat come root_is = trail_sees w (shard_of key) seat (table.first_word + bucket_of key) before (record {
   holder = table;
-  from = root_kind (shard_of key);
+  from = kind_of w (shard_of key);
   position = bucket_of key;
-  reached = root_sees w (shard_of key) table (root_kind (shard_of key)) (pointer_to table) come.owned refl come.root.seen (leads_held w table seat come.held_table);
-  is_link = subst (λ kind. IsLink kind table.words (bucket_of key) node_kind) (sym (root_is_table (shard_of key) (shard_below key)))
+  reached = root_sees w (shard_of key) table (kind_of w (shard_of key)) (pointer_to table) come.owned refl come.root.seen (leads_held w table seat come.held_table);
+  is_link = subst (λ kind. IsLink kind table.words (bucket_of key) node_kind) (sym root_is)
       (in_table table.words (bucket_of key) (let below = bucket_below key in let size = come.size in omega arith));
   at_is = refl;
 }) come.trail
 
 -- after a store to a link of the shard all is reached that was, but what is old
-module _ (u w : View) (seat : IsSeat u) (shard p x y : ℕ) (small : shard < shards) (may : MayHaveStored p x u w) (only : ReachesOnlyHeld u) (link : IsLinkOf u shard p node_kind) (publish : MayPublish u shard x node_kind)
+module _ (u w : View) (seat : IsSeat u) (shard p x y : ℕ) (small : shard < shards) (may : MayHaveStored p x u w) (kinds : w.kinds ≡ u.kinds) (only : ReachesOnlyHeld u) (link : IsLinkOf u shard p node_kind) (publish : MayPublish u shard x node_kind)
     (was : IsDurableAt u p y) (behind : (root : ℕ) → Contains u.roots root → root_word root ≢ p) (old : Block → Type 0)
     (detour : (c : Block) → LeadsTo (Contains u.held) y c → old c ⊎ Reaches w shard c node_kind)
     (from_old : (a c : Block) (value : ℕ) → old a → u.volatile (a.first_word + 0) ≡ Some value → LeadsTo (Contains u.held) value c → old c ⊎ Reaches w shard c node_kind)
@@ -117,13 +117,13 @@ module _ (u w : View) (seat : IsSeat u) (shard p x y : ℕ) (small : shard < sha
   pub sees_after : (root : ℕ) (c : Block) (k : ℕ) → Reaches u root c k → Reaches w root c k ⊎ old c
   sees_after root = closure_least (λ c k. Reaches w root c k ⊎ old c) from_root from_link where
     from_root : (c : Block) (k : ℕ) → RootReaches (Sees u) u root c k → Reaches w root c k ⊎ old c
-    from_root c k start = inl (root_sees w root c k start.value (subst (λ (rs : List ℕ). Contains rs root) (sym may.roots) start.owned) start.kind_is
+    from_root c k start = inl (root_sees w root c k start.value (subst (λ (rs : List ℕ). Contains rs root) (sym may.roots) start.owned) (start.kind_is ∙ sym (kind_kept u w root kinds))
         ((may.others (root_word root) (in_root root (root_word root) start.owned refl) (behind root start.owned)).volatile start.value start.read) (stays_held u w may.held c start.leads.0, start.leads.1))
 
     from_link : (a c : Block) (from k : ℕ) → Reaches u root a from → Reaches w root a from ⊎ old a → LinkReaches (Sees u) u a from c k → Reaches w root c k ⊎ old c
     from_link a c from k reached (inl has) l = elim (cases_eq (a.first_word + l.position) p) as (λ _. Reaches w root c k ⊎ old c) [
       | inl at ↦
-          let is = link_at_link u w shard p x node_kind seat small may only link publish root a from l.position k (sees_may u root a from reached) l.is_link at in
+          let is = link_at_link u w shard p x node_kind seat small may kinds only link publish root a from l.position k (sees_may u root a from reached) l.is_link at in
           let one = seen_value u p l.value y (subst (λ q. u.volatile q ≡ Some l.value) at l.read) was.seen in
           as_root root k c is.0 is.1 (detour c (subst (λ v. LeadsTo (Contains u.held) v c) one l.leads))
       | inr other ↦ inl (link_sees w root a c from l.position k l.value has l.is_link
@@ -136,11 +136,11 @@ module _ (u w : View) (seat : IsSeat u) (shard p x y : ℕ) (small : shard < sha
         (from_old a c l.value gone (subst (λ i. u.volatile (a.first_word + i) ≡ Some l.value) zero l.read) l.leads)
 
 -- after freeing what nothing reaches
-pub sees_freed : (w x : View) (b : Block) → IsSeat w → MayHaveFreed b w x → Contains w.held b → ((root kind : ℕ) → MayReach w root b kind → ⊥) → (root : ℕ) (c : Block) (k : ℕ) → Reaches w root c k → Reaches x root c k
-sees_freed w x b seat may h unreached root = closure_included
+pub sees_freed : (w x : View) (b : Block) → IsSeat w → MayHaveFreed b w x → x.kinds ≡ w.kinds → Contains w.held b → ((root kind : ℕ) → MayReach w root b kind → ⊥) → (root : ℕ) (c : Block) (k : ℕ) → Reaches w root c k → Reaches x root c k
+sees_freed w x b seat may kinds h unreached root = closure_included
     (λ c k start. record {
       owned = subst (λ (rs : List ℕ). Contains rs root) (sym may.roots) start.owned;
-      kind_is = start.kind_is;
+      kind_is = start.kind_is ∙ sym (kind_kept w x root kinds);
       value = start.value;
       read = (may.words (root_word root) (in_root root (root_word root) start.owned refl) (λ inside.
           let behind = (seat.placed b h).behind in

@@ -6,7 +6,7 @@ use Rattle.heap_seat.specs.declared.fault.AllocFault.{AllocFault}
 use Rattle.heap_seat.specs.declared.fault.AllocFault.TheVariants.{Full, Stopped}
 use Rattle.heap_seat.specs.declared.look.Look.{Look}
 use Rattle.heap_seat.specs.declared.fault.Looks.{Looks}
-use Rattle.heap_seat.specs.View.{View}
+use Rattle.heap_seat.specs.View.{View, kind_of}
 use Rattle.heap_seat.specs.Words.{IsOwn, KeepsOwn, MixesOwn, MayHaveStored, in_block}
 use Rattle.heap_seat.specs.Tickets.{Runs}
 use Rattle.heap_seat.specs.Calls.{SameRefusals}
@@ -26,7 +26,7 @@ use Rattle.dict_seat.specs.Nodes.{MakesNode}
 use Rattle.dict_seat.specs.Changes.{MayChange, Changes}
 use Rattle.dict_seat.specs.Removal.{IsShard}
 use Rattle.dict_seat.specs.Puts.{IsMissing, IsRefused, PutFails}
-use Rattle.dict_seat.proofs.GrownLemmas.{stays_held, grown_keeps, grown_then, own_grown, new_block_outside, gives_grown, only_grown}
+use Rattle.dict_seat.proofs.GrownLemmas.{stays_held, kind_kept, grown_keeps, grown_then, own_grown, new_block_outside, gives_grown, only_grown}
 use Rattle.dict_seat.proofs.TrailLemmas.{settles, come_stays, bucket_own, bucket_below, same_map, leads_held}
 use Rattle.dict_seat.proofs.QuietLemmas.{still_settling}
 use Rattle.dict_seat.proofs.ComeLemmas.{followed_leads, bucket_followed, link_followed, link_behind_roots}
@@ -34,7 +34,7 @@ use Rattle.dict_seat.proofs.PutLemmas.{put_left, put_done, new_key, publish}
 use Rattle.heap_model.specs.Blocks.{IsIn}
 use Rattle.dict_seat.proofs.ExactLemmas.{target_sees, come_sees, node_link, sees_grown, sees_after}
 use Rattle.dict_seat.proofs.ExactCallLemmas.{come_kept}
-use Rattle.dict_model.specs.Links.{node_kind}
+use Rattle.dict_model.specs.Links.{table_kind, node_kind}
 use Rattle.dict_seat.proofs.ChangeLemmas.{change_after, changes_after}
 use Rattle.dict_seat.proofs.DeleteLemmas.{shard_below}
 
@@ -92,7 +92,8 @@ put_fails reads bytes (Stopped stopped) v u w runs before same taken after fails
 
 module _ (v t u w : View) (seat_t : IsSeat t) (seat : IsSeat u) (key first x : ℕ) (value : List ℕ) (table n : Block) (shard : IsShard v (shard_of key)) (missing : IsMissing v key table)
     (seat_v : IsSeat v) (keeps : KeepsOwn v t) (follows : FollowsLink (table.first_word + bucket_of key) first v t) (grown_u : Grown t u) (makes : MakesNode n key first value t u)
-    (short : length value ≤ largest_value) (small : (k : ℕ) → k < length value → get_or value k 0 < 256) (points : x ≡ pointer_to n) (may : MayHaveStored (table.first_word + bucket_of key) x u w) where
+    (short : length value ≤ largest_value) (small : (k : ℕ) → k < length value → get_or value k 0 < 256) (points : x ≡ pointer_to n) (may : MayHaveStored (table.first_word + bucket_of key) x u w)
+    (kinds_t : t.kinds ≡ v.kinds) (kinds_u : u.kinds ≡ t.kinds) (kinds_w : w.kinds ≡ u.kinds) where
   settle : (word y : ℕ) → IsOwn t.held t.roots word → IsSettling t word y → IsDurableAt u word y
   settle word y own settling = settles t u word y own (grown_u.words word own) makes.settles settling
 
@@ -112,11 +113,17 @@ module _ (v t u w : View) (seat_t : IsSeat t) (seat : IsSeat u) (key first x : �
   grown_t : Grown v t
   grown_t = grown_keeps v t keeps
 
+  kinds_all : u.kinds ≡ v.kinds
+  kinds_all = kinds_u ∙ kinds_t
+
+  root_is : kind_of u (shard_of key) ≡ table_kind
+  root_is = kind_kept v u (shard_of key) kinds_all ∙ shard.kind_is
+
   only_t : ReachesOnlyHeld t
-  only_t = only_grown v t grown_t seat_t shard.only
+  only_t = only_grown v t grown_t kinds_t seat_t shard.only
 
   only_u : ReachesOnlyHeld u
-  only_u = only_grown v u grown_all seat shard.only
+  only_u = only_grown v u grown_all kinds_all seat shard.only
 
   was : IsDurableAt u (table.first_word + bucket_of key) first
   was = settle (table.first_word + bucket_of key) first own_t follows.settling
@@ -125,21 +132,21 @@ module _ (v t u w : View) (seat_t : IsSeat t) (seat : IsSeat u) (key first x : �
   none_u map gives = same_map u seat (shard_of key) map shard.map gives (gives_grown v u grown_all (shard_of key) shard.map shard.gives) key ∙ missing.none shard.map shard.gives
 
   new_map : (map : Map) → GivesMap u (shard_of key) map → (image : Image) → MixesOwn w image → image (table.first_word + bucket_of key) ≡ x → IsMapIn w image (shard_of key) (with_key map key value)
-  new_map = new_key t u seat grown_u only_t key first value n makes.held makes.new makes.room short small makes.written
-      (followed_leads u seat (shard_of key) (shard_below key) (table.first_word + bucket_of key) first (bucket_followed u seat key (shard_below key) table [] come_u) was only_u)
-      w only_u table [] [] come_u come_u (table.first_word + bucket_of key) x first refl was may points own_t come_t.held_table was (own_grown t u (table.first_word + bucket_of key) grown_u own_t) refl none_u
+  new_map = new_key t u seat grown_u kinds_u only_t key first value n makes.held makes.new makes.room short small makes.written
+      (followed_leads u seat (shard_of key) (shard_below key) (table.first_word + bucket_of key) first (bucket_followed u seat key (shard_below key) table [] come_u root_is) was only_u)
+      w only_u table [] [] come_u come_u (table.first_word + bucket_of key) x first refl was may points own_t come_t.held_table was (own_grown t u (table.first_word + bucket_of key) grown_u own_t) root_is kinds_w refl none_u
 
   pub first_left : MayChange (shard_of key) (λ map. with_key map key value) v w
-  first_left = change_after (shard_of key) (λ map. with_key map key value) v u w grown_all seat shard.only
-      (put_left t u seat grown_u only_t key first value n makes.held makes.new makes.room short small makes.written
-      (followed_leads u seat (shard_of key) (shard_below key) (table.first_word + bucket_of key) first (bucket_followed u seat key (shard_below key) table [] come_u) was only_u)
-      w only_u table [] [] come_u come_u (table.first_word + bucket_of key) x first refl was may points own_t come_t.held_table was (own_grown t u (table.first_word + bucket_of key) grown_u own_t) new_map)
+  first_left = change_after (shard_of key) (λ map. with_key map key value) v u w grown_all kinds_all seat shard.only
+      (put_left t u seat grown_u kinds_u only_t key first value n makes.held makes.new makes.room short small makes.written
+      (followed_leads u seat (shard_of key) (shard_below key) (table.first_word + bucket_of key) first (bucket_followed u seat key (shard_below key) table [] come_u root_is) was only_u)
+      w only_u table [] [] come_u come_u (table.first_word + bucket_of key) x first refl was may points own_t come_t.held_table was (own_grown t u (table.first_word + bucket_of key) grown_u own_t) root_is kinds_w new_map)
 
   pub first_done : IsDurableAt w (table.first_word + bucket_of key) x → Changes (shard_of key) (λ map. with_key map key value) v w
   first_done settled = changes_after (shard_of key) (λ map. with_key map key value) v u w grown_all
-      (put_done t u seat grown_u only_t key first value n makes.held makes.new makes.room short small makes.written
-      (followed_leads u seat (shard_of key) (shard_below key) (table.first_word + bucket_of key) first (bucket_followed u seat key (shard_below key) table [] come_u) was only_u)
-      w only_u table [] [] come_u come_u (table.first_word + bucket_of key) x first refl was may points own_t come_t.held_table was (own_grown t u (table.first_word + bucket_of key) grown_u own_t) new_map settled)
+      (put_done t u seat grown_u kinds_u only_t key first value n makes.held makes.new makes.room short small makes.written
+      (followed_leads u seat (shard_of key) (shard_below key) (table.first_word + bucket_of key) first (bucket_followed u seat key (shard_below key) table [] come_u root_is) was only_u)
+      w only_u table [] [] come_u come_u (table.first_word + bucket_of key) x first refl was may points own_t come_t.held_table was (own_grown t u (table.first_word + bucket_of key) grown_u own_t) root_is kinds_w new_map settled)
 
   -- all that is held is reached still, the new node in front of the bucket's others
   pub all_first : IsSeat w → IsDurableAt w (table.first_word + bucket_of key) x → ReachesAllHeld v → ReachesAllHeld w
@@ -149,12 +156,12 @@ module _ (v t u w : View) (seat_t : IsSeat t) (seat : IsSeat u) (key first x : �
       | inl same ↦ (shard_of key, node_kind, subst (λ (d : Block). Reaches w (shard_of key) d node_kind) (sym same) n_reached)
       | inr before ↦
           let r = all.all c (subst (λ (bs : List Block). Contains bs c) keeps.held before) in
-          elim (past r.0 c r.1 (sees_grown v u grown_all r.0 c r.1 r.2)) as (λ _. (root : ℕ) × (kind : ℕ) × Reaches w root c kind) [ inl on ↦ (r.0, r.1, on) | inr none ↦ absurd none ]
+          elim (past r.0 c r.1 (sees_grown v u grown_all kinds_all r.0 c r.1 r.2)) as (λ _. (root : ℕ) × (kind : ℕ) × Reaches w root c kind) [ inl on ↦ (r.0, r.1, on) | inr none ↦ absurd none ]
     ];
   } where
     n_reached : Reaches w (shard_of key) n node_kind
     n_reached = target_sees w (shard_of key) (table.first_word + bucket_of key) x n
-        (come_sees w key table [] seat_w (come_kept u w key (table.first_word + bucket_of key) x table [] shard.map seat (gives_grown v u grown_all (shard_of key) shard.map shard.gives) come_u refl may))
+        (come_sees w key table [] seat_w (come_kept u w key (table.first_word + bucket_of key) x table [] shard.map seat (gives_grown v u grown_all (shard_of key) shard.map shard.gives) come_u refl may) (kind_kept u w (shard_of key) kinds_w ∙ root_is))
         settled.seen (subst (λ q. LeadsTo (Contains w.held) q n) (sym points) (leads_held w n seat_w (stays_held u w may.held n makes.held)))
 
     n_next : w.volatile n.first_word ≡ Some first
@@ -167,10 +174,10 @@ module _ (v t u w : View) (seat_t : IsSeat t) (seat : IsSeat u) (key first x : �
         (λ e. new_block_outside t u n seat grown_u makes.held makes.new (table.first_word + bucket_of key) own_t (subst (IsIn n) e inside))).volatile first makes.written.next_is.seen)
 
     past : (root : ℕ) (c : Block) (k : ℕ) → Reaches u root c k → Reaches w root c k ⊎ ⊥
-    past = sees_after u w seat (shard_of key) (table.first_word + bucket_of key) x first (shard_below key) may only_u (link_followed u seat key (shard_below key) table [] come_u)
-        (publish t u seat grown_u only_t key first value n makes.held makes.new makes.room short small makes.written
-        (followed_leads u seat (shard_of key) (shard_below key) (table.first_word + bucket_of key) first (bucket_followed u seat key (shard_below key) table [] come_u) was only_u)
-        w only_u table [] [] come_u come_u (table.first_word + bucket_of key) x first refl was may points own_t come_t.held_table was (own_grown t u (table.first_word + bucket_of key) grown_u own_t))
+    past = sees_after u w seat (shard_of key) (table.first_word + bucket_of key) x first (shard_below key) may kinds_w only_u (link_followed u seat key (shard_below key) table [] come_u root_is)
+        (publish t u seat grown_u kinds_u only_t key first value n makes.held makes.new makes.room short small makes.written
+        (followed_leads u seat (shard_of key) (shard_below key) (table.first_word + bucket_of key) first (bucket_followed u seat key (shard_below key) table [] come_u root_is) was only_u)
+        w only_u table [] [] come_u come_u (table.first_word + bucket_of key) x first refl was may points own_t come_t.held_table was (own_grown t u (table.first_word + bucket_of key) grown_u own_t) root_is kinds_w)
         was (λ root owned e. link_behind_roots u key table [] root seat owned come_u e) (λ d. ⊥)
         (λ d leads. inr (target_sees w (shard_of key) n.first_word first d (node_link w (shard_of key) n seat_w n_reached) n_next (stays_held u w may.held d leads.0, leads.1)))
         (λ a d read none seen leads. absurd none) (λ root a kind none reached. absurd none)

@@ -1,24 +1,24 @@
 -- What freeing a block leaves that nothing reaches.
-use Rattle.std.proofs.Common.{◌≡◌, ◌≢◌, ℕ, ◌+◌, ◌<◌, ◌⊎◌, inl, inr, List, [], ◌∷◌, Contains, nat_lt, refl, subst, sym, ◌∙◌, arith, rules}
-use Rattle.std.proofs.lemmas.Bool.{cases_lt, cond-true}
+use Rattle.std.proofs.Common.{◌≡◌, ◌≢◌, ℕ, ◌+◌, ◌⊎◌, inl, inr, List, [], ◌∷◌, Contains, refl, subst, sym, ◌∙◌, arith}
+use Rattle.std.proofs.lemmas.Bool.{cases_lt}
 use Rattle.heap_model.specs.declared.block.Block.{Block}
 use Rattle.heap_model.specs.Image.{Image}
 use Rattle.heap_model.specs.Geometry.{root_word}
 use Rattle.heap_model.specs.Blocks.{IsIn}
 use Rattle.heap_model.proofs.ReachLemmas.{closure_least}
 use Rattle.heap_model.proofs.MemberLemmas.{in_none, head_or_rest}
-use Rattle.heap_seat.specs.View.{View}
+use Rattle.heap_seat.specs.View.{View, kind_of}
 use Rattle.heap_seat.specs.Words.{IsOwn, in_block, in_root, MayRead, MixesOwn}
 use Rattle.heap_seat.specs.Free.{MayHaveFreed}
 use Rattle.heap_seat.specs.Sound.{IsSeat}
 use Rattle.heap_seat.proofs.CallerLemmas.{read_before, keeps_word_then}
-use Rattle.dict_model.specs.Links.{shards, root_kind, table_kind, node_kind, IsLink, in_table, in_node}
+use Rattle.dict_model.specs.Links.{table_kind, node_kind, IsLink, in_table, in_node}
 use Rattle.dict_model.specs.Shards.{Map, LeadsTo, IsMap, HasTable, IsPath, but}
 use Rattle.dict_model.proofs.SpliceLemmas.{ArePlaced, one_holder}
 use Rattle.dict_model.proofs.MapLemmas.{IsUsed, as_table, as_node, map_wider, map_stays}
 use Rattle.dict_seat.specs.Reached.{MayReach, IsNullOrHeld, ReachesOnlyHeld}
 use Rattle.dict_seat.specs.Maps.{IsMapIn, GivesMap, KeepsOtherShards}
-use Rattle.dict_seat.proofs.GrownLemmas.{are_placed, link_own, link_in, reached_held, root_reach, link_reach}
+use Rattle.dict_seat.proofs.GrownLemmas.{are_placed, kind_kept, link_own, link_in, reached_held, root_reach, link_reach}
 use Rattle.dict_seat.proofs.TrailLemmas.{now_image, now_completes, first_own}
 
 -- the word is one of the block's, or it isn't
@@ -61,7 +61,7 @@ within_mixes u b inside outside mixes others = record { each = λ word own. by_c
   by_case word own (inl is) = mixes.each word own
   by_case word own (inr out) = others word own out
 
-module _ (u : View) (shard : ℕ) (small : shard < shards) (owned : Contains u.roots shard) where
+module _ (u : View) (shard : ℕ) (root_is : kind_of u shard ≡ table_kind) (owned : Contains u.roots shard) where
   -- what a map of a mixture stands on may be reached
   path_reached : (image : Image) → MixesOwn u image → (table : Block) (k at : ℕ) (bs : List Block) → IsPath (but table (LeadsTo (Contains u.held))) image shard k at bs
       → ((c : Block) → LeadsTo (Contains u.held) (image at) c → MayReach u shard c node_kind) → (seat : IsSeat u) → (b : Block) → Contains bs b → MayReach u shard b node_kind
@@ -78,23 +78,22 @@ module _ (u : View) (shard : ℕ) (small : shard < shards) (owned : Contains u.r
             (subst (λ w. MayRead u w (image c.first_word)) at_zero (mixes.each c.first_word (first_own u c seat path.0.0.0))) leads) seat b rest
       ]
 
-  table_reached : (image : Image) → MixesOwn u image → (table : Block) → HasTable (LeadsTo (Contains u.held)) image shard table → MayReach u shard table (root_kind shard)
+  table_reached : (image : Image) → MixesOwn u image → (table : Block) → HasTable (LeadsTo (Contains u.held)) image shard table → MayReach u shard table (kind_of u shard)
   table_reached image mixes table there =
-      root_reach u shard table (root_kind shard) (image (root_word shard)) owned refl (mixes.each (root_word shard) (in_root shard (root_word shard) owned refl)) there.leads_there
+      root_reach u shard table (kind_of u shard) (image (root_word shard)) owned refl (mixes.each (root_word shard) (in_root shard (root_word shard) owned refl)) there.leads_there
 
   pub used_reached : (seat : IsSeat u) (image : Image) → MixesOwn u image → (b : Block) → IsUsed (LeadsTo (Contains u.held)) image shard b → (kind : ℕ) × MayReach u shard b kind
-  used_reached seat image mixes b (as_table there) = (root_kind shard, table_reached image mixes b there)
+  used_reached seat image mixes b (as_table there) = (kind_of u shard, table_reached image mixes b there)
   used_reached seat image mixes b (as_node table nodes k there chains below h) = (
     node_kind,
     path_reached image mixes table k (table.first_word + k) (nodes k) (chains k below).path
         (λ c leads.
-        let root_is : root_kind shard ≡ table_kind = cond-true (nat_lt shard shards) table_kind 0 (search rules) in
-        let is : IsLink (root_kind shard) table.words k node_kind = subst (λ kind. IsLink kind table.words k node_kind) (sym root_is) (in_table table.words k (omega (arith, there.size))) in
-        link_reach u shard table c (root_kind shard) k node_kind (image (table.first_word + k)) (table_reached image mixes table there) is
-        (mixes.each (table.first_word + k) (link_own u table (root_kind shard) k node_kind there.leads_there.0 is)) leads) seat b h,
+        let is : IsLink (kind_of u shard) table.words k node_kind = subst (λ kind. IsLink kind table.words k node_kind) (sym root_is) (in_table table.words k (omega (arith, there.size))) in
+        link_reach u shard table c (kind_of u shard) k node_kind (image (table.first_word + k)) (table_reached image mixes table there) is
+        (mixes.each (table.first_word + k) (link_own u table (kind_of u shard) k node_kind there.leads_there.0 is)) leads) seat b h,
   )
 
-module _ (u w : View) (b : Block) (seat : IsSeat u) (may : MayHaveFreed b u w) (only : ReachesOnlyHeld u) (h : Contains u.held b)
+module _ (u w : View) (b : Block) (seat : IsSeat u) (may : MayHaveFreed b u w) (kinds : w.kinds ≡ u.kinds) (only : ReachesOnlyHeld u) (h : Contains u.held b)
     (unreached : (root kind : ℕ) → MayReach u root b kind → ⊥) where
   roots_back : (root : ℕ) → Contains w.roots root → Contains u.roots root
   roots_back root owned = subst (λ (rs : List ℕ). Contains rs root) may.roots owned
@@ -126,7 +125,7 @@ module _ (u w : View) (b : Block) (seat : IsSeat u) (may : MayHaveFreed b u w) (
   reached_freed root = closure_least (MayReach u root)
       (λ a kind start.
       let owned = roots_back root start.owned in
-      root_reach u root a kind start.value owned start.kind_is
+      root_reach u root a kind start.value owned (start.kind_is ∙ kind_kept u w root kinds)
       (read_before u w (root_word root) start.value (may.words (root_word root) (in_root root (root_word root) owned refl) (root_out root owned)) start.read)
       (may.only a start.leads.0, start.leads.1))
       (λ a c from kind reached has link.
@@ -142,7 +141,7 @@ module _ (u w : View) (b : Block) (seat : IsSeat u) (may : MayHaveFreed b u w) (
         let before = read_before u w (root_word root) value (may.words (root_word root) (in_root root (root_word root) was refl) (root_out root was)) read in
         elim (only.roots root value was before) as (λ _. IsNullOrHeld w value) [
           | inl null ↦ inl null
-          | inr c ↦ inr (c.0, (may.keeps c.0 c.1.0 (other_block root c.0 (root_kind root) (root_reach u root c.0 (root_kind root) value was refl before c.1)), c.1.1))
+          | inr c ↦ inr (c.0, (may.keeps c.0 c.1.0 (other_block root c.0 (kind_of u root) (root_reach u root c.0 (kind_of u root) value was refl before c.1)), c.1.1))
         ];
     links = λ root a from position kind value reached is read.
         let has = reached_freed root a from reached in
@@ -156,8 +155,8 @@ module _ (u w : View) (b : Block) (seat : IsSeat u) (may : MayHaveFreed b u w) (
   }
 
   -- the map stays: it stands on other blocks
-  pub gives_freed : (shard : ℕ) (map : Map) → shard < shards → Contains u.roots shard → GivesMap u shard map → GivesMap w shard map
-  gives_freed shard map small owned gives = record { each = λ image mixes. by_image image mixes } where
+  pub gives_freed : (shard : ℕ) (map : Map) → kind_of u shard ≡ table_kind → Contains u.roots shard → GivesMap u shard map → GivesMap w shard map
+  gives_freed shard map root_is owned gives = record { each = λ image mixes. by_image image mixes } where
     kept : Block → Type 0
     kept c = Contains u.held c × (c ≢ b)
 
@@ -174,16 +173,17 @@ module _ (u w : View) (b : Block) (seat : IsSeat u) (may : MayHaveFreed b u w) (
         let old_mixes : MixesOwn u old = within_mixes u b (now_image u) image now.mixes
         (λ word own out. read_before u w word (image word) (may.words word own out) (mixes.each word (own_on word own out))) in
         let first : IsMap limit old shard map = map_wider (LeadsTo (Contains u.held)) limit old shard map
-        (λ word c used leads. let reached = used_reached u shard small owned seat old old_mixes c used in (leads, other_block shard c reached.0 reached.1)) (gives.each old old_mixes) in
+        (λ word c used leads. let reached = used_reached u shard root_is owned seat old old_mixes c used in (leads, other_block shard c reached.0 reached.1)) (gives.each old old_mixes) in
         let root_same : image (root_word shard) ≡ old (root_word shard) = sym (within_out b (now_image u) image (root_word shard) (root_out shard owned)) in
         let second : IsMap limit image shard map = map_stays kept kept_placed limit (λ word c leads. (leads.0.0, leads.1)) old image shard root_same
         (λ c hc word inside. sym (within_out b (now_image u) image word (λ in_b. hc.1 (one_holder (Contains u.held) (are_placed u seat) c b word hc.0 h inside in_b)))) map first in
         map_wider limit (LeadsTo (Contains w.held)) image shard map (λ word c used leads. (may.keeps c leads.0.0 leads.1, leads.0.1)) second
 
 -- all else stays where the freed block was one that the shard's root reached
-pub others_freed : (shard kind : ℕ) (v u w : View) (b : Block) → IsSeat u → Contains u.held b → MayReach v shard b kind → KeepsOtherShards shard v u → MayHaveFreed b u w → KeepsOtherShards shard v w
-others_freed shard kind v u w b seat h reached keeps may = record {
+pub others_freed : (shard kind : ℕ) (v u w : View) (b : Block) → IsSeat u → Contains u.held b → MayReach v shard b kind → KeepsOtherShards shard v u → MayHaveFreed b u w → w.kinds ≡ u.kinds → KeepsOtherShards shard v w
+others_freed shard kind v u w b seat h reached keeps may kinds = record {
   roots = may.roots ∙ keeps.roots;
+  kinds = kinds ∙ keeps.kinds;
   root_words = λ root owned differs.
       let here = subst (λ (rs : List ℕ). Contains rs root) (sym keeps.roots) owned in
       keeps_word_then v u w (root_word root) (keeps.root_words root owned differs)

@@ -1,17 +1,17 @@
 -- What calls leave that store to no word that was the seat's: maps, what is reached, and all else.
-use Rattle.std.proofs.Common.{◌≡◌, ℕ, ◌+◌, ◌*◌, ◌<◌, inl, inr, List, Contains, refl, subst, sym, ◌∙◌, arith}
+use Rattle.std.proofs.Common.{◌≡◌, ℕ, ◌+◌, ◌*◌, ◌<◌, inl, inr, List, Contains, slice_index, refl, ap, subst, sym, ◌∙◌, arith}
 use Rattle.heap_model.specs.declared.block.Block.{Block}
 use Rattle.heap_model.specs.Image.{Image}
 use Rattle.heap_model.specs.Geometry.{root_word}
 use Rattle.heap_model.specs.Blocks.{IsIn}
 use Rattle.heap_model.specs.Reach.{by_start, by_link}
 use Rattle.heap_model.proofs.ReachLemmas.{closure_least, not_null}
-use Rattle.heap_seat.specs.View.{View}
+use Rattle.heap_seat.specs.View.{View, kind_of}
 use Rattle.heap_seat.specs.Words.{IsOwn, in_block, in_root, MayRead, MixesOwn, KeepsWord, KeepsOwn, MayHaveStored}
 use Rattle.heap_seat.specs.Alloc.{Allocates}
 use Rattle.heap_seat.specs.Sound.{IsSeat}
 use Rattle.heap_seat.proofs.CallerLemmas.{read_before, keeps_word_then}
-use Rattle.dict_model.specs.Links.{root_kind, node_kind, IsLink, in_table, in_node}
+use Rattle.dict_model.specs.Links.{node_kind, IsLink, in_table, in_node}
 use Rattle.dict_model.specs.Shards.{Map, LeadsTo}
 use Rattle.dict_model.proofs.SpliceLemmas.{ArePlaced, held_once, one_holder}
 use Rattle.dict_model.proofs.MapLemmas.{map_wider}
@@ -48,8 +48,12 @@ link_in a from position to is = record { from = omega arith; until = let i = lin
 pub reached_held : (v : View) (root : ℕ) (b : Block) (kind : ℕ) → MayReach v root b kind → Contains v.held b
 reached_held v root = closure_least (λ b kind. Contains v.held b) (λ b kind start. start.leads.0) (λ a b from kind reached h leads. leads.leads.0)
 
+-- where the kinds stay, the kind of each root does
+pub kind_kept : (v w : View) (root : ℕ) → w.kinds ≡ v.kinds → kind_of w root ≡ kind_of v root
+kind_kept v w root kinds = ap (λ (ks : List ℕ). slice_index ks root) kinds
+
 -- what a root, and a link, may lead to may be reached
-pub root_reach : (v : View) (root : ℕ) (b : Block) (kind value : ℕ) → Contains v.roots root → kind ≡ root_kind root → MayRead v (root_word root) value
+pub root_reach : (v : View) (root : ℕ) (b : Block) (kind value : ℕ) → Contains v.roots root → kind ≡ kind_of v root → MayRead v (root_word root) value
     → LeadsTo (Contains v.held) value b → MayReach v root b kind
 root_reach v root b kind value owned is read leads = by_start b kind (record { owned = owned; kind_is = is; value = value; read = read; leads = leads })
 
@@ -116,7 +120,7 @@ module _ (v w : View) (grown : Grown v w) where
   null_or_held value (inl null) = inl null
   null_or_held value (inr leads) = inr (leads.0, (grown.keeps leads.0 leads.1.0, leads.1.1))
 
-  module _ (seat : IsSeat w) (only : ReachesOnlyHeld v) where
+  module _ (kinds : w.kinds ≡ v.kinds) (seat : IsSeat w) (only : ReachesOnlyHeld v) where
     -- a pointer that led to a block still leads to that alone
     pub led_before : (value : ℕ) (b : Block) → IsNullOrHeld v value → LeadsTo (Contains w.held) value b → LeadsTo (Contains v.held) value b
     led_before value b (inl null) leads = absurd (not_null value (8 * b.first_word) leads.1 null)
@@ -129,7 +133,7 @@ module _ (v w : View) (grown : Grown v w) where
         (λ b kind start.
         let owned = subst (λ (rs : List ℕ). Contains rs root) grown.roots start.owned in
         let read = read_grown (root_word root) start.value (in_root root (root_word root) owned refl) start.read in
-        by_start b kind (record { owned = owned; kind_is = start.kind_is; value = start.value; read = read; leads = led_before start.value b (only.roots root start.value owned read) start.leads }))
+        by_start b kind (record { owned = owned; kind_is = start.kind_is ∙ kind_kept v w root kinds; value = start.value; read = read; leads = led_before start.value b (only.roots root start.value owned read) start.leads }))
         (λ a b from kind reached has link.
         let read = read_grown (a.first_word + link.position) link.value (link_own v a from link.position kind (reached_held v root a from has) link.is_link) link.read in
         by_link a b from kind has (record {
@@ -152,9 +156,10 @@ module _ (v w : View) (grown : Grown v w) where
       alone = λ shard root b kind other small differs p q. only.alone shard root b kind other small differs (reached_before shard b kind p) (reached_before root b other q);
     }
 
-  pub others_grown : (shard : ℕ) → KeepsOtherShards shard v w
-  others_grown shard = record {
+  pub others_grown : w.kinds ≡ v.kinds → (shard : ℕ) → KeepsOtherShards shard v w
+  others_grown kinds shard = record {
     roots = grown.roots;
+    kinds = kinds;
     root_words = λ root owned differs. grown.words (root_word root) (in_root root (root_word root) owned refl);
     blocks = λ b h unreached. (grown.keeps b h, λ word inside. grown.words word (in_block b word h inside));
   }

@@ -1,15 +1,15 @@
 -- A request to one shard leaves each other shard its map.
-use Rattle.std.proofs.Common.{◌≡◌, ◌≢◌, ℕ, ◌<◌, ◌⊎◌, inl, inr, List, Option, None, Some, Contains, refl, subst, sym}
+use Rattle.std.proofs.Common.{◌≡◌, ◌≢◌, ℕ, ◌<◌, ◌⊎◌, inl, inr, List, Option, None, Some, Contains, refl, subst, sym, ◌∙◌}
 use Rattle.std.proofs.lemmas.Bool.{cases_eq}
 use Rattle.heap_model.specs.declared.block.Block.{Block}
 use Rattle.heap_model.specs.Geometry.{root_word}
 use Rattle.heap_model.specs.Image.{Image}
 use Rattle.heap_model.specs.Blocks.{IsIn}
-use Rattle.heap_seat.specs.View.{View}
+use Rattle.heap_seat.specs.View.{View, kind_of}
 use Rattle.heap_seat.specs.Words.{IsOwn, in_block, in_root, MayBe, MayRead, MixesOwn}
 use Rattle.heap_seat.specs.Sound.{IsSeat}
 use Rattle.heap_seat.proofs.CallerLemmas.{read_before}
-use Rattle.dict_model.specs.Links.{shards}
+use Rattle.dict_model.specs.Links.{shards, table_kind}
 use Rattle.dict_model.specs.Shards.{Map, LeadsTo, IsMap}
 use Rattle.dict_model.proofs.MapLemmas.{map_wider, map_stays}
 use Rattle.dict_model.proofs.SpliceLemmas.{ArePlaced}
@@ -18,6 +18,7 @@ use Rattle.dict_seat.specs.Changes.{MayChange, Changes}
 use Rattle.dict_seat.specs.Reached.{MayReach, ReachesOnlyHeld}
 use Rattle.dict_seat.specs.Removal.{IsShard}
 use Rattle.dict_seat.specs.Shards.{HasShards}
+use Rattle.dict_seat.proofs.GrownLemmas.{kind_kept}
 use Rattle.dict_seat.proofs.FreedLemmas.{used_reached}
 use Rattle.dict_seat.proofs.TrailLemmas.{now_image, now_completes}
 
@@ -41,7 +42,7 @@ pick (inl a) x y = x
 pick (inr un) x y = y
 
 module _ (v w : View) (shard other : ℕ) (seat : IsSeat v) (only : ReachesOnlyHeld v) (keeps : KeepsOtherShards shard v w)
-    (small : shard < shards) (small_other : other < shards) (differs : other ≢ shard) (owned : Contains v.roots other) where
+    (small : shard < shards) (root_is : kind_of v other ≡ table_kind) (differs : other ≢ shard) (owned : Contains v.roots other) where
   -- an image that the earlier view may read, and that has what the later image has where that may be read
   abbrev before : Image → Image
   before image word = pick (reads_or_not v word (image word)) (image word) (now_image v word)
@@ -91,7 +92,7 @@ module _ (v w : View) (shard other : ℕ) (seat : IsSeat v) (only : ReachesOnlyH
     by_image : (image : Image) → MixesOwn w image → IsMapIn w image other map
     by_image image mixes =
         let first : IsMap limit (before image) other map = map_wider (LeadsTo (Contains v.held)) limit (before image) other map
-        (λ word c used leads. (leads, used_reached v other small_other owned seat (before image) (before_mixes image) c used)) (gives.each (before image) (before_mixes image)) in
+        (λ word c used leads. (leads, used_reached v other root_is owned seat (before image) (before_mixes image) c used)) (gives.each (before image) (before_mixes image)) in
         let second : IsMap limit image other map = map_stays kept kept_placed limit (λ word c leads. (leads.0.0, leads.1)) (before image) image other
         (same_root image mixes) (same_inside image mixes) map first in
         map_wider limit (LeadsTo (Contains w.held)) image other map (λ word c used leads. (stays c (leads.0.0, leads.1), leads.0.1)) second
@@ -100,9 +101,12 @@ module _ (v w : View) (shard : ℕ) (may : Map → Map) (seat : IsSeat v) (small
   owned_on : (other : ℕ) → Contains v.roots other → Contains w.roots other
   owned_on other owned = subst (λ (rs : List ℕ). Contains rs other) (sym change.others.roots) owned
 
+  kind_on : (other : ℕ) → kind_of v other ≡ table_kind → kind_of w other ≡ table_kind
+  kind_on other is = kind_kept v w other change.others.kinds ∙ is
+
   -- a request to one shard leaves the other its map, wherever it ends
-  pub others_give : (other : ℕ) (map : Map) → other < shards → other ≢ shard → IsShard v other → GivesMap v other map → GivesMap w other map
-  others_give other map below differs is = gives_others v w shard other seat is.only change.others small below differs is.owned map
+  pub others_give : (other : ℕ) (map : Map) → other ≢ shard → IsShard v other → GivesMap v other map → GivesMap w other map
+  others_give other map differs is = gives_others v w shard other seat is.only change.others small is.kind_is differs is.owned map
 
   -- one that was answered leaves a map to each
   pub shards_on : (after : Map → Map) → HasShards v → Changes shard after v w → HasShards w
@@ -112,10 +116,11 @@ module _ (v w : View) (shard : ℕ) (may : Map → Map) (seat : IsSeat v) (small
         elim (cases_eq other shard) as (λ _. IsShard w other) [
           | inl same ↦ record {
             owned = owned_on other is.owned;
+            kind_is = kind_on other is.kind_is;
             only = change.only;
             map = after is.map;
             gives = subst (λ n. GivesMap w n (after is.map)) (sym same) (changes.gives is.map (subst (λ n. GivesMap v n is.map) same is.gives));
           }
-          | inr differs ↦ record { owned = owned_on other is.owned; only = change.only; map = is.map; gives = others_give other is.map below differs is is.gives }
+          | inr differs ↦ record { owned = owned_on other is.owned; kind_is = kind_on other is.kind_is; only = change.only; map = is.map; gives = others_give other is.map differs is is.gives }
         ];
   }

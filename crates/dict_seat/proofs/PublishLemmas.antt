@@ -8,21 +8,21 @@ use Rattle.heap_model.specs.Counting.{put}
 use Rattle.heap_model.specs.Geometry.{root_word}
 use Rattle.heap_model.specs.Blocks.{IsIn}
 use Rattle.heap_model.proofs.ReachLemmas.{closure_least, not_null}
-use Rattle.heap_seat.specs.View.{View}
+use Rattle.heap_seat.specs.View.{View, kind_of}
 use Rattle.heap_seat.specs.Words.{IsOwn, in_block, in_root, MayRead, MixesOwn, MayHaveStored}
 use Rattle.heap_seat.specs.Sound.{IsSeat}
 use Rattle.heap_seat.proofs.CallerLemmas.{read_before, keeps_word_then}
-use Rattle.dict_model.specs.Links.{shards, root_kind, IsLink}
+use Rattle.dict_model.specs.Links.{shards, IsLink}
 use Rattle.dict_model.specs.Shards.{LeadsTo}
 use Rattle.dict_model.proofs.SpliceLemmas.{one_holder, held_once}
 use Rattle.dict_model.proofs.ChainLemmas.{SameBut}
 use Rattle.dict_seat.specs.Reached.{RootReaches, LinkReaches, MayReach, IsNullOrHeld, ReachesOnlyHeld}
 use Rattle.dict_seat.specs.Maps.{KeepsOtherShards}
-use Rattle.dict_seat.proofs.GrownLemmas.{are_placed, stays_held, link_to, link_own, link_in, reached_held, root_reach, link_reach}
+use Rattle.dict_seat.proofs.GrownLemmas.{are_placed, stays_held, kind_kept, link_to, link_own, link_in, reached_held, root_reach, link_reach}
 
 -- the word is a link that the root may be followed to, and what it leads to is of the kind
 pub data IsLinkOf (u : View) (shard : ℕ) (p : ℕ) : ℕ → Type 0 where
-  is_root : Contains u.roots shard → p ≡ root_word shard → IsLinkOf u shard p (root_kind shard)
+  is_root : Contains u.roots shard → p ≡ root_word shard → IsLinkOf u shard p (kind_of u shard)
   is_link : (a : Block) (from position kind : ℕ) → MayReach u shard a from → IsLink from a.words position kind → p ≡ a.first_word + position → IsLinkOf u shard p kind
 
 -- a block that nothing reaches yet, and whose links are null or lead to what the root may reach
@@ -56,7 +56,7 @@ put_mixes u image p y may mixes = record {
   ];
 }
 
-module _ (u w : View) (shard p x kind : ℕ) (seat : IsSeat u) (small : shard < shards) (may : MayHaveStored p x u w) (only : ReachesOnlyHeld u)
+module _ (u w : View) (shard p x kind : ℕ) (seat : IsSeat u) (small : shard < shards) (may : MayHaveStored p x u w) (kinds : w.kinds ≡ u.kinds) (only : ReachesOnlyHeld u)
     (link : IsLinkOf u shard p kind) (publish : MayPublish u shard x kind) where
   -- the link is the seat's own
   own_link : IsOwn u.held u.roots p
@@ -69,10 +69,10 @@ module _ (u w : View) (shard p x kind : ℕ) (seat : IsSeat u) (small : shard < 
   held_back b h = subst (λ (bs : List Block). Contains bs b) may.held h
 
   -- a root at this word is the shard's, and a link there is one of what it reaches
-  root_at_link : (root : ℕ) → Contains u.roots root → root_word root ≡ p → (root ≡ shard) × (root_kind root ≡ kind)
+  root_at_link : (root : ℕ) → Contains u.roots root → root_word root ≡ p → (root ≡ shard) × (kind_of u root ≡ kind)
   root_at_link root owned at = by_case kind link where
-    by_case : (k : ℕ) → IsLinkOf u shard p k → (root ≡ shard) × (root_kind root ≡ k)
-    by_case _ (is_root owned' at') = let same : root ≡ shard = omega arith in (same, ap root_kind same)
+    by_case : (k : ℕ) → IsLinkOf u shard p k → (root ≡ shard) × (kind_of u root ≡ k)
+    by_case _ (is_root owned' at') = let same : root ≡ shard = omega arith in (same, ap (kind_of u) same)
     by_case _ (is_link a from position k reached is at') =
         let behind = (seat.placed a (reached_held u shard a from reached)).behind in
         let below = seat.roots_are root owned in absurd (omega arith)
@@ -126,12 +126,13 @@ module _ (u w : View) (shard p x kind : ℕ) (seat : IsSeat u) (small : shard < 
     from_root b k start =
         let owned = subst (λ (rs : List ℕ). Contains rs root) may.roots start.owned in
         let leads : LeadsTo (Contains u.held) start.value b = (held_back b start.leads.0, start.leads.1) in
-        let before = λ (read : MayRead u (root_word root) start.value). root_reach u root b k start.value owned start.kind_is read leads in
+        let kind_is = start.kind_is ∙ kind_kept u w root kinds in
+        let before = λ (read : MayRead u (root_word root) start.value). root_reach u root b k start.value owned kind_is read leads in
         elim (cases_eq (root_word root) p) as (λ _. MayReach u root b k ⊎ ((root ≡ shard) × IsNew b k)) [
           | inl at ↦ elim (may.stored start.value (subst (λ q. MayRead w q start.value) at start.read)) as (λ _. MayReach u root b k ⊎ ((root ≡ shard) × IsNew b k)) [
             | inl stored ↦
                 let is = root_at_link root owned at in
-                by_value b k root is.0 (start.kind_is ∙ is.1) (subst (λ v. LeadsTo (Contains u.held) v b) stored leads)
+                by_value b k root is.0 (kind_is ∙ is.1) (subst (λ v. LeadsTo (Contains u.held) v b) stored leads)
             | inr read ↦ inl (before (subst (λ q. MayRead u q start.value) (sym at) read))
           ]
           | inr other ↦ inl (before (read_before u w (root_word root) start.value (may.others (root_word root) (in_root root (root_word root) owned refl) other) start.read))
@@ -220,6 +221,7 @@ module _ (u w : View) (shard p x kind : ℕ) (seat : IsSeat u) (small : shard < 
   pub others_after : KeepsOtherShards shard u w
   others_after = record {
     roots = may.roots;
+    kinds = kinds;
     root_words = λ root owned differs. may.others (root_word root) (in_root root (root_word root) owned refl) (λ at. differs (root_at_link root owned at).0);
     blocks = λ b h unreached. (stays_held u w may.held b h, λ word inside. may.others word (in_block b word h inside) (λ at. elsewhere b h unreached word inside at));
   } where
@@ -239,6 +241,7 @@ pub others_then : (shard : ℕ) (v u w : View) → ((b : Block) (kind : ℕ) →
     → KeepsOtherShards shard v u → KeepsOtherShards shard u w → KeepsOtherShards shard v w
 others_then shard v u w before a b = record {
   roots = b.roots ∙ a.roots;
+  kinds = b.kinds ∙ a.kinds;
   root_words = λ root owned differs. keeps_word_then v u w (root_word root) (a.root_words root owned differs)
       (b.root_words root (subst (λ (rs : List ℕ). Contains rs root) (sym a.roots) owned) differs);
   blocks = λ c h unreached.

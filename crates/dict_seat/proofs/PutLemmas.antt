@@ -3,10 +3,10 @@ use Rattle.std.proofs.Common.{◌≡◌, ◌≢◌, ℕ, ◌+◌, ◌<◌, ◌�
 use Rattle.heap_model.specs.declared.block.Block.{Block}
 use Rattle.heap_model.specs.Image.{Image, image_of_bytes, words_from, bytes_of_words}
 use Rattle.heap_model.specs.Blocks.{IsIn}
-use Rattle.heap_seat.specs.View.{View}
+use Rattle.heap_seat.specs.View.{View, kind_of}
 use Rattle.heap_seat.specs.Words.{IsOwn, in_block, MayBe, MayRead, MixesOwn, MayHaveStored}
 use Rattle.heap_seat.specs.Sound.{IsSeat}
-use Rattle.dict_model.specs.Links.{node_kind, IsLink, in_node, in_table}
+use Rattle.dict_model.specs.Links.{table_kind, node_kind, IsLink, in_node, in_table}
 use Rattle.dict_model.specs.Nodes.{largest_value, shard_of, bucket_of, value_words, key_in, length_in}
 use Rattle.dict_model.specs.Requests.{with_key}
 use Rattle.dict_model.specs.Shards.{Map, LeadsTo, link_behind}
@@ -55,13 +55,13 @@ node_in u image n key next value mixes held room short small written = record {
   length_is : length_in image n ≡ length value
   length_is = word 2 (length value) (omega arith) written.length_is
 
-module _ (v u : View) (seat : IsSeat u) (grown : Grown v u) (only_v : ReachesOnlyHeld v) (key next : ℕ) (value : List ℕ) (n : Block) (held : Contains u.held n) (fresh : Contains v.held n → ⊥)
+module _ (v u : View) (seat : IsSeat u) (grown : Grown v u) (kinds : u.kinds ≡ v.kinds) (only_v : ReachesOnlyHeld v) (key next : ℕ) (value : List ℕ) (n : Block) (held : Contains u.held n) (fresh : Contains v.held n → ⊥)
     (room : 3 + value_words (length value) ≤ n.words) (short : length value ≤ largest_value) (small : (k : ℕ) → k < length value → get_or value k 0 < 256)
     (written : IsWrittenNode (IsDurableAt u) n key next value) (leads_on : (next ≡ 0) ⊎ ((f : Block) × LeadsTo (Contains u.held) next f × MayReach u (shard_of key) f node_kind)) where
   -- nothing reaches it yet
   pub is_fresh : IsFresh u (shard_of key) n node_kind
   is_fresh = record {
-    unreached = λ root other reached. fresh (reached_held v root n other (reached_before v u grown seat only_v root n other reached));
+    unreached = λ root other reached. fresh (reached_held v root n other (reached_before v u grown kinds seat only_v root n other reached));
     links = λ position to read is may. by_link node_kind position to read is refl may;
   } where
     by_link : (from position to read : ℕ) → IsLink from n.words position to → from ≡ node_kind → MayRead u (n.first_word + position) read
@@ -73,7 +73,8 @@ module _ (v u : View) (seat : IsSeat u) (grown : Grown v u) (only_v : ReachesOnl
 
   module _ (w : View) (only : ReachesOnlyHeld u) (table : Block) (before drop : List Block) (come : HasCome IsDurableAt u (shard_of key) key table (before ++ drop)) (come_to : HasCome IsDurableAt u (shard_of key) key table before)
       (p x y : ℕ) (at : p ≡ link_behind (table.first_word + bucket_of key) before) (was : IsDurableAt u p y) (may : MayHaveStored p x u w) (points : x ≡ pointer_to n) (own_v : IsOwn v.held v.roots p)
-      (table_v : Contains v.held table) (behind : IsDurableAt u (link_behind p drop) next) (behind_own : IsOwn u.held u.roots (link_behind p drop)) where
+      (table_v : Contains v.held table) (behind : IsDurableAt u (link_behind p drop) next) (behind_own : IsOwn u.held u.roots (link_behind p drop))
+      (root_is : kind_of u (shard_of key) ≡ table_kind) (kinds_w : w.kinds ≡ u.kinds) where
     not_table : n ≢ table
     not_table same = fresh (subst (Contains v.held) (sym same) table_v)
 
@@ -84,7 +85,7 @@ module _ (v u : View) (seat : IsSeat u) (grown : Grown v u) (only_v : ReachesOnl
     outside word inside same = free (subst (IsIn n) same inside)
 
     link : IsLinkOf u (shard_of key) p node_kind
-    link = subst (λ q. IsLinkOf u (shard_of key) q node_kind) (sym at) (link_followed u seat key (shard_below key) table before come_to)
+    link = subst (λ q. IsLinkOf u (shard_of key) q node_kind) (sym at) (link_followed u seat key (shard_below key) table before come_to root_is)
 
     pub publish : MayPublish u (shard_of key) x node_kind
     publish = new n (subst (λ q. LeadsTo (Contains u.held) q n) (sym points) (leads_held u n seat held)) is_fresh
@@ -93,9 +94,9 @@ module _ (v u : View) (seat : IsSeat u) (grown : Grown v u) (only_v : ReachesOnl
         → MayChange (shard_of key) (λ map. with_key map key value) u w
     put_left new_map = record {
       either = λ map gives. either u w seat (shard_of key) key (shard_below key) map gives table before drop come p x y at was may (with_key map key value) (new_map map gives);
-      only = only_after u w (shard_of key) p x node_kind seat (shard_below key) may only link publish;
+      only = only_after u w (shard_of key) p x node_kind seat (shard_below key) may kinds_w only link publish;
       table = table_stored (shard_of key) p x u w (λ owned e. link_behind_roots u key table before (shard_of key) seat owned come_to (e ∙ at)) may;
-      others = others_after u w (shard_of key) p x node_kind seat (shard_below key) may only link publish;
+      others = others_after u w (shard_of key) p x node_kind seat (shard_below key) may kinds_w only link publish;
     }
 
     pub put_done : ((map : Map) → GivesMap u (shard_of key) map → (image : Image) → MixesOwn w image → image p ≡ x → IsMapIn w image (shard_of key) (with_key map key value)) → IsDurableAt w p x

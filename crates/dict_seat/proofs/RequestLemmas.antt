@@ -1,5 +1,5 @@
 -- How a put's search, its table and its node go together.
-use Rattle.std.proofs.Common.{ℕ, ◌+◌, ◌≤◌, List, Contains, refl, subst, sym, arith, ◌≡◌}
+use Rattle.std.proofs.Common.{ℕ, ◌+◌, ◌≤◌, List, Contains, refl, subst, sym, ◌∙◌, arith, ◌≡◌}
 use Rattle.heap_model.specs.declared.block.Block.{Block}
 use Rattle.heap_seat.specs.declared.fault.AllocFault.{AllocFault}
 use Rattle.heap_seat.specs.declared.fault.Looks.{Looks}
@@ -19,7 +19,7 @@ use Rattle.dict_seat.specs.Changes.{MayChange, Changes}
 use Rattle.dict_seat.specs.Tables.{MakesTable}
 use Rattle.dict_seat.specs.Removal.{IsShard}
 use Rattle.dict_seat.specs.Puts.{PutFails, PutAnswers, of_node, of_node_behind_table, of_table, WasNull, RootIsSet}
-use Rattle.dict_seat.proofs.GrownLemmas.{gives_grown, grown_keeps}
+use Rattle.dict_seat.proofs.GrownLemmas.{kind_kept, gives_grown, grown_keeps}
 use Rattle.dict_seat.proofs.ChangeLemmas.{table_then}
 use Rattle.dict_seat.proofs.PublishLemmas.{others_then}
 use Rattle.dict_seat.proofs.FirstLemmas.{refused_before}
@@ -90,6 +90,7 @@ changes_behind key after table u y w makes changes = record { gives = λ map giv
 pub shard_behind : (key : ℕ) (after : Map → Map) (table : Block) (u y : View) → IsShard u (shard_of key) → MakesTable key table u y → MayChange (shard_of key) after u y → IsShard y (shard_of key)
 shard_behind key after table u y shard makes change = record {
   owned = makes.missing.come.owned;
+  kind_is = kind_kept u y (shard_of key) change.others.kinds ∙ shard.kind_is;
   only = change.only;
   map = shard.map;
   gives = makes.gives shard.map shard.gives;

@@ -24,7 +24,8 @@ use Rattle.dict_seat.proofs.MapPublishLemmas.{seen_read}
 use Rattle.dict_seat.proofs.QuietLemmas.{goes_then, quiet_then, still_settling}
 use Rattle.dict_seat.proofs.CountLemmas.{lists_later}
 
-module _ (v w : View) (shard word : ℕ) (seat : IsSeat w) (is : IsShard v shard) (keeps : KeepsOwn v w) (follows : FollowsLink (root_word shard) word v w) where
+module _ (v w : View) (shard word : ℕ) (seat : IsSeat w) (is : IsShard v shard) (keeps : KeepsOwn v w) (kinds : w.kinds ≡ v.kinds)
+    (follows : FollowsLink (root_word shard) word v w) where
   grown : Grown v w
   grown = grown_keeps v w keeps
 
@@ -34,7 +35,7 @@ module _ (v w : View) (shard word : ℕ) (seat : IsSeat w) (is : IsShard v shard
   -- it is null or leads to a held block
   pub root_null_or_held : IsNullOrHeld w word
   root_null_or_held =
-      (only_grown v w grown seat is.only).roots shard word (subst (λ (rs : List ℕ). Contains rs shard) (sym keeps.roots) is.owned) (seen_read w (root_word shard) word follows.settling.seen)
+      (only_grown v w grown kinds seat is.only).roots shard word (subst (λ (rs : List ℕ). Contains rs shard) (sym keeps.roots) is.owned) (seen_read w (root_word shard) word follows.settling.seen)
 
   root_is : now_image w (root_word shard) ≡ word
   root_is = (now_completes w).seen (root_word shard) word root_own follows.settling.seen
@@ -73,10 +74,10 @@ module _ (v w : View) (shard word : ℕ) (seat : IsSeat w) (is : IsShard v shard
         absurd (not_null (now_image w (root_word shard)) (8 * t.first_word) there.leads_there.1 (root_is ∙ null))
 
 -- in both cases
-pub table_found : (v w : View) (shard word : ℕ) → IsSeat w → IsShard v shard → KeepsOwn v w → FollowsLink (root_word shard) word v w
+pub table_found : (v w : View) (shard word : ℕ) → IsSeat w → IsShard v shard → KeepsOwn v w → w.kinds ≡ v.kinds → FollowsLink (root_word shard) word v w
     → (result : Option Block) → IfSome result (LeadsTo (Contains w.held) word) → IfNone result (word ≡ 0) → FindsTable shard result v w
-table_found v w shard word seat is keeps follows None some none = root_none v w shard word seat is keeps follows none
-table_found v w shard word seat is keeps follows (Some table) some none = root_some v w shard word seat is keeps follows table some
+table_found v w shard word seat is keeps kinds follows None some none = root_none v w shard word seat is keeps kinds follows none
+table_found v w shard word seat is keeps kinds follows (Some table) some none = root_some v w shard word seat is keeps kinds follows table some
 
 -- a walk begins at the table
 pub at_table : (w : View) (key : ℕ) (table : Block) → HasRoot w (shard_of key) table → HasCome IsSettling w (shard_of key) key table []

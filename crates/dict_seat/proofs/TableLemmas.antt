@@ -6,12 +6,12 @@ use Rattle.heap_model.specs.Image.{Image}
 use Rattle.heap_model.specs.Geometry.{root_word}
 use Rattle.heap_model.specs.Sizes.{IsClass, IsLeastClassFor, size_of, class_sizes}
 use Rattle.heap_model.proofs.SizeLemmas.{at_class}
-use Rattle.heap_seat.specs.View.{View}
+use Rattle.heap_seat.specs.View.{View, kind_of}
 use Rattle.heap_seat.specs.Words.{IsOwn, in_root, in_block, MayRead, MixesOwn, MayHaveStored}
 use Rattle.heap_seat.specs.Alloc.{IsSizeFor, of_class, of_superblocks}
 use Rattle.heap_seat.specs.Sound.{IsSeat}
 use Rattle.heap_seat.proofs.CallerLemmas.{own_same, read_before}
-use Rattle.dict_model.specs.Links.{shards, root_kind}
+use Rattle.dict_model.specs.Links.{shards}
 use Rattle.dict_model.specs.Nodes.{buckets, shard_of}
 use Rattle.dict_model.specs.Shards.{Map, LeadsTo, IsMap}
 use Rattle.dict_model.proofs.MapLemmas.{table_made}
@@ -22,7 +22,7 @@ use Rattle.dict_seat.specs.Trails.{pointer_to, IsDurableAt}
 use Rattle.dict_seat.specs.Quiet.{Grown}
 use Rattle.dict_seat.specs.Changes.{MayChange}
 use Rattle.dict_seat.specs.Puts.{IsMissing}
-use Rattle.dict_seat.proofs.GrownLemmas.{stays_held, are_placed, gives_grown, only_grown, others_grown, reached_before, reached_held, link_inside, link_own}
+use Rattle.dict_seat.proofs.GrownLemmas.{stays_held, are_placed, kind_kept, gives_grown, only_grown, others_grown, reached_before, reached_held, link_inside, link_own}
 use Rattle.dict_seat.proofs.PublishLemmas.{IsLinkOf, is_root, MayPublish, new, IsFresh, only_after, others_after, others_then, reached_after}
 use Rattle.dict_seat.proofs.TrailLemmas.{settled_in, settled_stays, leads_held, same_map}
 use Rattle.heap_model.proofs.ReachLemmas.{closure_included, not_null}
@@ -32,9 +32,10 @@ use Rattle.dict_seat.proofs.PutLemmas.{one_reading}
 
 module _ (v u w : View) (seat : IsSeat u) (seat_w : IsSeat w) (grown : Grown v u) (only_v : ReachesOnlyHeld v) (shard x : ℕ) (table : Block) (small : shard < shards) (owned : Contains v.roots shard)
     (held : Contains u.held table) (fresh : Contains v.held table → ⊥) (size : table.words ≡ buckets) (nulls : (i : ℕ) → i < buckets → IsDurableAt u (table.first_word + i) 0)
-    (points : x ≡ pointer_to table) (may : MayHaveStored (root_word shard) x u w) (empty : (map : Map) → GivesMap v shard map → (key : ℕ) → map key ≡ None) where
+    (points : x ≡ pointer_to table) (may : MayHaveStored (root_word shard) x u w) (empty : (map : Map) → GivesMap v shard map → (key : ℕ) → map key ≡ None)
+    (kinds : u.kinds ≡ v.kinds) (kinds_w : w.kinds ≡ u.kinds) where
   only_u : ReachesOnlyHeld u
-  only_u = only_grown v u grown seat only_v
+  only_u = only_grown v u grown kinds seat only_v
 
   owned_u : Contains u.roots shard
   owned_u = subst (λ (rs : List ℕ). Contains rs shard) (sym grown.roots) owned
@@ -42,17 +43,17 @@ module _ (v u w : View) (seat : IsSeat u) (seat_w : IsSeat w) (grown : Grown v u
   own_null : (i : ℕ) → i < buckets → IsOwn u.held u.roots (table.first_word + i)
   own_null i below = in_block table (table.first_word + i) held (record { from = omega arith; until = omega arith })
 
-  is_fresh_table : IsFresh u shard table (root_kind shard)
+  is_fresh_table : IsFresh u shard table (kind_of u shard)
   is_fresh_table = record {
-    unreached = λ root other reached. fresh (reached_held v root table other (reached_before v u grown seat only_v root table other reached));
+    unreached = λ root other reached. fresh (reached_held v root table other (reached_before v u grown kinds seat only_v root table other reached));
     links = λ position to read is may_read. inl (one_reading u (table.first_word + position) 0 read
-        (nulls position (let i = link_inside (root_kind shard) table.words position to is in omega arith)) may_read);
+        (nulls position (let i = link_inside (kind_of u shard) table.words position to is in omega arith)) may_read);
   }
 
-  link : IsLinkOf u shard (root_word shard) (root_kind shard)
+  link : IsLinkOf u shard (root_word shard) (kind_of u shard)
   link = is_root owned_u refl
 
-  publish : MayPublish u shard x (root_kind shard)
+  publish : MayPublish u shard x (kind_of u shard)
   publish = new table (subst (λ q. LeadsTo (Contains u.held) q table) (sym points) (leads_held u table seat held)) is_fresh_table
 
   -- every mixture gives the map as before
@@ -81,8 +82,8 @@ module _ (v u w : View) (seat : IsSeat u) (seat_w : IsSeat w) (grown : Grown v u
   -- of the old blocks the root reaches no other than before
   pub table_reached : (b : Block) (kind : ℕ) → Contains v.held b → MayReach w shard b kind → MayReach v shard b kind
   table_reached b kind h reached =
-      elim (reached_after u w shard (root_word shard) x (root_kind shard) seat small may only_u link publish shard b kind reached) as (λ _. MayReach v shard b kind) [
-        | inl before ↦ reached_before v u grown seat only_v shard b kind before
+      elim (reached_after u w shard (root_word shard) x (kind_of u shard) seat small may kinds_w only_u link publish shard b kind reached) as (λ _. MayReach v shard b kind) [
+        | inl before ↦ reached_before v u grown kinds seat only_v shard b kind before
         | inr made ↦
             let same = (held_once (Contains u.held) (are_placed u seat)).one x b table made.1.leads (subst (λ q. LeadsTo (Contains u.held) q table) (sym points) (leads_held u table seat held)) in
             absurd (fresh (subst (Contains v.held) same h))
@@ -91,23 +92,23 @@ module _ (v u w : View) (seat : IsSeat u) (seat_w : IsSeat w) (grown : Grown v u
   pub table_left : v.volatile (root_word shard) ≡ Some 0 → (after : Map → Map) → MayChange shard after v w
   table_left null after = record {
     either = λ map gives. record { each = λ image mixes. inl ((table_gives map gives).each image mixes) };
-    only = only_after u w shard (root_word shard) x (root_kind shard) seat small may only_u link publish;
+    only = only_after u w shard (root_word shard) x (kind_of u shard) seat small may kinds_w only_u link publish;
     table = record { root = λ y owned seen some. absurd (some (seen_value v (root_word shard) y 0 seen null)) };
-    others = others_then shard v u w (λ b kind h reached. reached_before v u grown seat only_v shard b kind reached) (others_grown v u grown shard)
-        (others_after u w shard (root_word shard) x (root_kind shard) seat small may only_u link publish);
+    others = others_then shard v u w (λ b kind h reached. reached_before v u grown kinds seat only_v shard b kind reached) (others_grown v u grown kinds shard)
+        (others_after u w shard (root_word shard) x (kind_of u shard) seat small may kinds_w only_u link publish);
   }
 
   -- what loads see reached is so still, and the table too
   pub table_all : u.volatile (root_word shard) ≡ Some 0 → w.volatile (root_word shard) ≡ Some x → ((a : Block) → Contains u.held a → (a ≡ table) ⊎ Contains v.held a) → ReachesAllHeld v → ReachesAllHeld w
   table_all null seen either all = record {
-    only = only_after u w shard (root_word shard) x (root_kind shard) seat small may only_u link publish;
+    only = only_after u w shard (root_word shard) x (kind_of u shard) seat small may kinds_w only_u link publish;
     all = reached;
   } where
     past : (root : ℕ) (c : Block) (k : ℕ) → Reaches u root c k → Reaches w root c k
     past root = closure_included
         (λ c k start. record {
           owned = subst (λ (rs : List ℕ). Contains rs root) (sym may.roots) start.owned;
-          kind_is = start.kind_is;
+          kind_is = start.kind_is ∙ sym (kind_kept u w root kinds_w);
           value = start.value;
           read = (may.others (root_word root) (in_root root (root_word root) start.owned refl) (λ e.
               let zero : start.value ≡ 0 = seen_value u (root_word shard) start.value 0 (subst (λ q. u.volatile q ≡ Some start.value) e start.read) null in
@@ -130,11 +131,11 @@ module _ (v u w : View) (seat : IsSeat u) (seat_w : IsSeat w) (grown : Grown v u
     reached c h = elim (either c (subst (λ (bs : List Block). Contains bs c) may.held h)) as (λ _. (root : ℕ) × (kind : ℕ) × Reaches w root c kind) [
       | inl same ↦ (
         shard,
-        root_kind shard,
-        root_sees w shard c (root_kind shard) x (subst (λ (rs : List ℕ). Contains rs shard) (sym may.roots) owned_u) refl seen
+        kind_of w shard,
+        root_sees w shard c (kind_of w shard) x (subst (λ (rs : List ℕ). Contains rs shard) (sym may.roots) owned_u) refl seen
             (subst (λ (d : Block). LeadsTo (Contains w.held) x d) (sym same) (subst (λ q. LeadsTo (Contains w.held) q table) (sym points) (leads_held w table seat_w (stays_held u w may.held table held)))),
       )
-      | inr was ↦ let r = all.all c was in (r.0, r.1, past r.0 c r.1 (sees_grown v u grown r.0 c r.1 r.2))
+      | inr was ↦ let r = all.all c was in (r.0, r.1, past r.0 c r.1 (sees_grown v u grown kinds r.0 c r.1 r.2))
     ]
 
 -- the table has no key

@@ -25,9 +25,10 @@ pub record GivesEither (v : View) (shard : ℕ) (one other : Map) : Type 0 where
 pub record KeepsTable (shard : ℕ) (v w : View) : Type 0 where
   pub root : (x : ℕ) → Contains v.roots shard → v.volatile (root_word shard) ≡ Some x → x ≢ 0 → w.volatile (root_word shard) ≡ Some x
 
--- all that other roots reach is held with its words: they are not stored to
+-- all that other roots reach is held with its words: they are not stored to, and the kinds of the roots stay
 pub record KeepsOtherShards (shard : ℕ) (v w : View) : Type 0 where
   pub roots : w.roots ≡ v.roots
+  pub kinds : w.kinds ≡ v.kinds
   pub root_words : (root : ℕ) → Contains v.roots root → root ≢ shard → KeepsWord v w (root_word root)
   pub blocks : (b : Block) → Contains v.held b → ((kind : ℕ) → MayReach v shard b kind → ⊥)
       → Contains w.held b × ((word : ℕ) → IsIn b word → KeepsWord v w word)

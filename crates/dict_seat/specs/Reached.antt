@@ -3,9 +3,9 @@ use Rattle.std.specs.Prelude.{◌≡◌, ◌≢◌, ℕ, ◌+◌, ◌<◌, ◌�
 use Rattle.heap_model.specs.declared.block.Block.{Block}
 use Rattle.heap_model.specs.Geometry.{root_word}
 use Rattle.heap_model.specs.Reach.{Closure}
-use Rattle.heap_seat.specs.View.{View}
+use Rattle.heap_seat.specs.View.{View, kind_of}
 use Rattle.heap_seat.specs.Words.{MayRead}
-use Rattle.dict_model.specs.Links.{shards, root_kind, IsLink}
+use Rattle.dict_model.specs.Links.{shards, IsLink}
 use Rattle.dict_model.specs.Shards.{LeadsTo}
 
 -- which values a word may have
@@ -16,10 +16,10 @@ Reading = ℕ → ℕ → Type 0
 abbrev pub Sees : View → Reading
 Sees v word value = v.volatile word ≡ Some value
 
--- a root of the seat leads to a held block
+-- a root of the seat leads to a held block, as one of the kind that the seat sees for it
 pub record RootReaches (reads : Reading) (v : View) (root : ℕ) (b : Block) (kind : ℕ) : Type 0 where
   pub owned : Contains v.roots root
-  pub kind_is : kind ≡ root_kind root
+  pub kind_is : kind ≡ kind_of v root
   pub value : ℕ
   pub read : reads (root_word root) value
   pub leads : LeadsTo (Contains v.held) value b

@@ -1,6 +1,7 @@
 -- What a request for a key's node relies on, and what its parts leave.
-use Rattle.std.specs.Prelude.{ℕ, Contains}
-use Rattle.heap_seat.specs.View.{View}
+use Rattle.std.specs.Prelude.{◌≡◌, ℕ, Contains}
+use Rattle.heap_seat.specs.View.{View, kind_of}
+use Rattle.dict_model.specs.Links.{table_kind}
 use Rattle.dict_model.specs.Shards.{Map}
 use Rattle.dict_seat.specs.declared.walk.Place.{Place}
 use Rattle.dict_seat.specs.Maps.{GivesMap}
@@ -9,9 +10,10 @@ use Rattle.dict_seat.specs.Trails.{IsSettling}
 use Rattle.dict_seat.specs.Quiet.{GoesPending}
 use Rattle.dict_seat.specs.Changes.{IsReadPlace}
 
--- the shard of the key is a map in every mixture, and only held blocks are reached
+-- the shard's root is the seat's own and has the kind of a table, the shard is a map in every mixture, and only held blocks are reached
 pub record IsShard (v : View) (shard : ℕ) : Type 0 where
   pub owned : Contains v.roots shard
+  pub kind_is : kind_of v shard ≡ table_kind
   pub only : ReachesOnlyHeld v
   pub map : Map
   pub gives : GivesMap v shard map

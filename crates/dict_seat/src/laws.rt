@@ -1,12 +1,13 @@
 //! What follows for the images of a whole heap and for the requests after one, as functions with
 //! nothing to run: a caller cites their clauses.
-ghost use Rattle.std.specs.Prelude.{◌≢◌, ℕ, ◌<◌, ◌⊎◌, ◌↔◌};
+ghost use Rattle.std.specs.Prelude.{◌≡◌, ◌≢◌, ℕ, ◌<◌, ◌⊎◌, ◌↔◌};
 ghost use Rattle.heap_model.specs.Image.{Image};
-ghost use Rattle.heap_model.specs.Reach.{IsOutside};
-ghost use Rattle.heap_seat.specs.View.{View};
+ghost use Rattle.heap_model.specs.Header.{kinds_of};
+ghost use Rattle.heap_model.specs.Reach.{IsOutsideIn};
+ghost use Rattle.heap_seat.specs.View.{View, kind_of};
 ghost use Rattle.heap_seat.specs.Sound.{IsSeat};
 ghost use Rattle.heap_seat.specs.Words.{NamesAll};
-ghost use Rattle.dict_model.specs.Links.{shards, root_kind, dict_links};
+ghost use Rattle.dict_model.specs.Links.{shards, table_kind, dict_links};
 ghost use Rattle.dict_model.specs.Shards.{Map, MapOf, WalkOf};
 ghost use Rattle.dict_seat.specs.Changes.{MayChange, Changes};
 ghost use Rattle.dict_seat.specs.Maps.{GivesMap, GivesEither};
@@ -30,20 +31,24 @@ pub fn images_have_the_map<H: HeapSeat>(_seat: &H)
 
 /// Where several seats share a heap, no root of another seat reaches what one of them has in its
 /// shard. So the map that a seat has is the shard's map in each image that mixes the words of all
-/// seats and names their blocks; and nothing in the image is outside.
+/// seats, names their blocks and stores the kinds that they see, where the shard's root has the
+/// kind of a table; and nothing in the image is outside.
 pub fn a_shard_of_a_seat_is_a_shard_of_the_heap()
     ensures walk { (count : ℕ) (seats : ℕ → View) (image : Image) → ShareHeap count seats
         → MixesSeats count seats image → (shard : ℕ) (map : Map) → shard < shards
+        → kinds_of image shard ≡ table_kind
         → WalkOf image shard map ↔ MapOf image shard map }
     ensures gives { (count : ℕ) (seats : ℕ → View) (image : Image) → ShareHeap count seats
         → MixesSeats count seats image → (i shard : ℕ) (map : Map) → i < count → shard < shards
+        → kind_of (seats i) shard ≡ table_kind
         → GivesMap (seats i) shard map → MapOf image shard map }
     ensures either { (count : ℕ) (seats : ℕ → View) (image : Image) → ShareHeap count seats
         → MixesSeats count seats image → (i shard : ℕ) (one other : Map) → i < count
-        → shard < shards → GivesEither (seats i) shard one other
+        → shard < shards → kind_of (seats i) shard ≡ table_kind
+        → GivesEither (seats i) shard one other
         → MapOf image shard one ⊎ MapOf image shard other }
     ensures inside { (count : ℕ) (seats : ℕ → View) (image : Image) → ShareHeap count seats
-        → MixesSeats count seats image → (at : ℕ) → IsOutside image root_kind dict_links at → ⊥ }
+        → MixesSeats count seats image → (at : ℕ) → IsOutsideIn image dict_links at → ⊥ }
 {}
 
 /// Requests go on from shard to shard. One to a shard leaves each other shard its map, wherever it

@@ -72,6 +72,7 @@ pub(crate) fn find_value<H: HeapSeat>(
         (H.view seat.old) (H.view seat.new)) }
     ensures cause { IfErr result (λ e. Stops e.step (H.view seat.old) (H.view seat.new)) }
     ensures unchanged { KeepsOwn (H.view seat.old) (H.view seat.new) }
+    ensures kinds { (H.view seat.new).kinds ≡ (H.view seat.old).kinds }
     ensures calls { ReadsFew key (H.view seat.old) (H.view seat.new) }
     ensures refusals { SameRefusals (H.view seat.old) (H.view seat.new) }
     ensures same { length out.new ≡ length out.old }

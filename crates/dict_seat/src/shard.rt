@@ -25,7 +25,8 @@ use crate::table::make_table;
 use heap_seat::{AllocFault, HeapSeat};
 use line_memory::Stopped;
 
-/// A shard of the dictionary, by its number: root number `number` leads to its table.
+/// A shard of the dictionary, by its number: root number `number`, which has the kind of a table,
+/// leads to its table.
 #[derive(Drop)]
 pub struct Shard {
     /// Which of the eight shards it is.

@@ -1,4 +1,4 @@
-use Rattle.std.proofs.Common.{ℕ, ◌+◌, ◌*◌, length, List, Contains, subst, sym, arith}
+use Rattle.std.proofs.Common.{ℕ, ◌+◌, ◌*◌, length, List, Contains, subst, sym, ◌∙◌, arith}
 use Rattle.std.proofs.lemmas.Result.{err_from_is_err_and}
 use Rattle.heap_model.specs.declared.block.Block.{Block}
 use Rattle.heap_model.specs.Sizes.{span_of}
@@ -19,7 +19,7 @@ returns-in_err-first-clause-crash g c =
     let view = g.H.HeapSeat.view in
     let v = view c.args.seat.now in
     let t = view c.follow.new.seat in
-    change_none (shard_of c.args.key) (λ map. with_key map c.args.key c.args.value.now) v t (grown_keeps v t c.follow.ensures.quiet.unchanged) (g.met.H.HeapSeat.seat c.follow.new.seat) c.requires.shard.only
+    change_none (shard_of c.args.key) (λ map. with_key map c.args.key c.args.value.now) v t (grown_keeps v t c.follow.ensures.quiet.unchanged) c.follow.ensures.quiet.calls.goes_on.kinds (g.met.H.HeapSeat.seat c.follow.new.seat) c.requires.shard.only
 
 pub returns-in_err-node-clause-crash : goal.returns-in_err-node-clause-crash
 returns-in_err-node-clause-crash g c =
@@ -27,7 +27,7 @@ returns-in_err-node-clause-crash g c =
     let v = view c.args.seat.now in
     let t = view c.follow.new.seat in
     let u = view c.make_node.new.seat in
-    change_none (shard_of c.args.key) (λ map. with_key map c.args.key c.args.value.now) v u (grown_then v t u (grown_keeps v t c.follow.ensures.quiet.unchanged) c.make_node.ensures.grown) (g.met.H.HeapSeat.seat c.make_node.new.seat) c.requires.shard.only
+    change_none (shard_of c.args.key) (λ map. with_key map c.args.key c.args.value.now) v u (grown_then v t u (grown_keeps v t c.follow.ensures.quiet.unchanged) c.make_node.ensures.grown) (c.make_node.ensures.calls.goes_on.kinds ∙ c.follow.ensures.quiet.calls.goes_on.kinds) (g.met.H.HeapSeat.seat c.make_node.new.seat) c.requires.shard.only
 
 pub returns-in_err-node-clause-cause : goal.returns-in_err-node-clause-cause
 returns-in_err-node-clause-cause g c =
@@ -68,7 +68,7 @@ returns-in_err-persist-clause-crash g c =
     let may = subst (λ (k : ℕ). MayHaveStored (c.args.table.first_word + k) c.encode.result u w) bucket c.persist.ensures.crash in
     first_left v t u w (g.met.H.HeapSeat.seat c.follow.new.seat) (g.met.H.HeapSeat.seat c.make_node.new.seat) c.args.key c.in_ok-first.first c.encode.result c.args.value.now c.args.table c.in_ok-node.node
     c.requires.shard c.requires.missing (g.met.H.HeapSeat.seat c.args.seat.now) c.follow.ensures.quiet.unchanged follows c.make_node.ensures.grown c.in_ok-node.ensures.ok c.requires.short (λ k less. omega (arith, c.type_inv.value k))
-    c.encode.ensures.tagged may
+    c.encode.ensures.tagged may c.follow.ensures.quiet.calls.goes_on.kinds c.make_node.ensures.calls.goes_on.kinds c.persist.ensures.calls.goes_on.kinds
 
 pub returns-clause-crash : goal.returns-clause-crash
 returns-clause-crash g c =
@@ -82,7 +82,7 @@ returns-clause-crash g c =
     let may = subst (λ (k : ℕ). MayHaveStored (c.args.table.first_word + k) c.encode.result u w) bucket c.persist.ensures.crash in
     first_left v t u w (g.met.H.HeapSeat.seat c.follow.new.seat) (g.met.H.HeapSeat.seat c.make_node.new.seat) c.args.key c.in_ok-first.first c.encode.result c.args.value.now c.args.table c.in_ok-node.node
     c.requires.shard c.requires.missing (g.met.H.HeapSeat.seat c.args.seat.now) c.follow.ensures.quiet.unchanged follows c.make_node.ensures.grown c.in_ok-node.ensures.ok c.requires.short (λ k less. omega (arith, c.type_inv.value k))
-    c.encode.ensures.tagged may
+    c.encode.ensures.tagged may c.follow.ensures.quiet.calls.goes_on.kinds c.make_node.ensures.calls.goes_on.kinds c.persist.ensures.calls.goes_on.kinds
 
 pub returns-clause-ok : goal.returns-clause-ok
 returns-clause-ok g c =
@@ -98,7 +98,7 @@ returns-clause-ok g c =
     subst (λ (k : ℕ). IsDurableAt w (c.args.table.first_word + k) c.encode.result) bucket (record { seen = c.in_ok-persist.ensures.ok; left = c.in_ok-persist.ensures.durable }) in
     first_done v t u w (g.met.H.HeapSeat.seat c.follow.new.seat) (g.met.H.HeapSeat.seat c.make_node.new.seat) c.args.key c.in_ok-first.first c.encode.result c.args.value.now c.args.table c.in_ok-node.node
     c.requires.shard c.requires.missing (g.met.H.HeapSeat.seat c.args.seat.now) c.follow.ensures.quiet.unchanged follows c.make_node.ensures.grown c.in_ok-node.ensures.ok c.requires.short (λ k less. omega (arith, c.type_inv.value k))
-    c.encode.ensures.tagged may settled
+    c.encode.ensures.tagged may c.follow.ensures.quiet.calls.goes_on.kinds c.make_node.ensures.calls.goes_on.kinds c.persist.ensures.calls.goes_on.kinds settled
 
 pub returns-in_err-persist-clause-calls : goal.returns-in_err-persist-clause-calls
 returns-in_err-persist-clause-calls g c =
@@ -140,4 +140,4 @@ returns-clause-exact g c =
     subst (λ (k : ℕ). IsDurableAt w (c.args.table.first_word + k) c.encode.result) bucket (record { seen = c.in_ok-persist.ensures.ok; left = c.in_ok-persist.ensures.durable }) in
     all_first v t u w (g.met.H.HeapSeat.seat c.follow.new.seat) (g.met.H.HeapSeat.seat c.make_node.new.seat) c.args.key c.in_ok-first.first c.encode.result c.args.value.now c.args.table c.in_ok-node.node
     c.requires.shard c.requires.missing (g.met.H.HeapSeat.seat c.args.seat.now) c.follow.ensures.quiet.unchanged follows c.make_node.ensures.grown c.in_ok-node.ensures.ok c.requires.short (λ k less. omega (arith, c.type_inv.value k))
-    c.encode.ensures.tagged may (g.met.H.HeapSeat.seat c.persist.new.heap) settled
+    c.encode.ensures.tagged may c.follow.ensures.quiet.calls.goes_on.kinds c.make_node.ensures.calls.goes_on.kinds c.persist.ensures.calls.goes_on.kinds (g.met.H.HeapSeat.seat c.persist.new.heap) settled

@@ -1,4 +1,4 @@
-use Rattle.std.proofs.Common.{◌+◌, ◌*◌, length, arith}
+use Rattle.std.proofs.Common.{◌+◌, ◌*◌, length, ◌∙◌, arith}
 use Rattle.std.proofs.lemmas.Result.{err_from_is_err_and}
 use Rattle.heap_model.specs.Sizes.{span_of}
 use Rattle.heap_seat.specs.View.{word_of}
@@ -18,7 +18,7 @@ returns-in_err-next-clause-crash g c =
     let view = g.H.HeapSeat.view in
     let v = view c.args.seat.now in
     let t = view c.take.new.seat in
-    change_none (shard_of c.args.key) (λ map. with_key map c.args.key c.args.value.now) v t (grown_keeps v t c.take.ensures.quiet.unchanged) (g.met.H.HeapSeat.seat c.take.new.seat) c.requires.shard.only
+    change_none (shard_of c.args.key) (λ map. with_key map c.args.key c.args.value.now) v t (grown_keeps v t c.take.ensures.quiet.unchanged) c.take.ensures.quiet.calls.goes_on.kinds (g.met.H.HeapSeat.seat c.take.new.seat) c.requires.shard.only
 
 pub returns-in_err-node-clause-crash : goal.returns-in_err-node-clause-crash
 returns-in_err-node-clause-crash g c =
@@ -26,7 +26,7 @@ returns-in_err-node-clause-crash g c =
     let v = view c.args.seat.now in
     let t = view c.take.new.seat in
     let u = view c.make_node.new.seat in
-    change_none (shard_of c.args.key) (λ map. with_key map c.args.key c.args.value.now) v u (grown_then v t u (grown_keeps v t c.take.ensures.quiet.unchanged) c.make_node.ensures.grown) (g.met.H.HeapSeat.seat c.make_node.new.seat) c.requires.shard.only
+    change_none (shard_of c.args.key) (λ map. with_key map c.args.key c.args.value.now) v u (grown_then v t u (grown_keeps v t c.take.ensures.quiet.unchanged) c.make_node.ensures.grown) (c.make_node.ensures.calls.goes_on.kinds ∙ c.take.ensures.quiet.calls.goes_on.kinds) (g.met.H.HeapSeat.seat c.make_node.new.seat) c.requires.shard.only
 
 pub returns-in_err-node-clause-cause : goal.returns-in_err-node-clause-cause
 returns-in_err-node-clause-cause g c =
@@ -70,6 +70,7 @@ returns-in_err-persist-clause-crash g c =
     (λ word y own settling. settles t u word y own (c.make_node.ensures.grown.words word own) makes.settles settling) c.in_ok-next.ensures.ok.taken in
     over_left v t u w seat_t (g.met.H.HeapSeat.seat c.make_node.new.seat) c.args.key c.in_ok-next.next c.encode.result c.args.value.now c.args.place c.in_ok-node.node c.requires.shard
     c.take.ensures.quiet.unchanged made.0 made.1 made.2 made.3 c.make_node.ensures.grown makes c.requires.short (λ k less. omega (arith, c.type_inv.value k)) c.encode.ensures.tagged c.persist.ensures.crash
+    c.take.ensures.quiet.calls.goes_on.kinds c.make_node.ensures.calls.goes_on.kinds c.persist.ensures.calls.goes_on.kinds
 
 pub free-requires : goal.free-requires
 free-requires g c =
@@ -84,6 +85,7 @@ free-requires g c =
     (λ word y own settling. settles t u word y own (c.make_node.ensures.grown.words word own) makes.settles settling) c.in_ok-next.ensures.ok.taken in
     old_still v t u w seat_t (g.met.H.HeapSeat.seat c.make_node.new.seat) c.args.key c.in_ok-next.next c.encode.result c.args.value.now c.args.place c.in_ok-node.node c.requires.shard
     c.take.ensures.quiet.unchanged made.0 made.1 made.2 made.3 c.make_node.ensures.grown makes c.requires.short (λ k less. omega (arith, c.type_inv.value k)) c.encode.ensures.tagged c.persist.ensures.crash
+    c.take.ensures.quiet.calls.goes_on.kinds c.make_node.ensures.calls.goes_on.kinds c.persist.ensures.calls.goes_on.kinds
 
 pub returns-in_err-free-clause-crash : goal.returns-in_err-free-clause-crash
 returns-in_err-free-clause-crash g c =
@@ -100,7 +102,8 @@ returns-in_err-free-clause-crash g c =
     let settled : IsDurableAt w (word_of c.args.place.link) c.encode.result = record { seen = c.in_ok-persist.ensures.ok; left = c.in_ok-persist.ensures.durable } in
     (over_freed v t u w seat_t (g.met.H.HeapSeat.seat c.make_node.new.seat) c.args.key c.in_ok-next.next c.encode.result c.args.value.now c.args.place c.in_ok-node.node c.requires.shard
     c.take.ensures.quiet.unchanged made.0 made.1 made.2 made.3 c.make_node.ensures.grown makes c.requires.short (λ k less. omega (arith, c.type_inv.value k)) c.encode.ensures.tagged c.persist.ensures.crash
-    (g.met.H.HeapSeat.seat c.persist.new.heap) settled y c.free.ensures.others).1
+    c.take.ensures.quiet.calls.goes_on.kinds c.make_node.ensures.calls.goes_on.kinds c.persist.ensures.calls.goes_on.kinds
+    (g.met.H.HeapSeat.seat c.persist.new.heap) settled y c.free.ensures.others c.free.ensures.counted.goes_on.kinds).1
 
 pub returns-clause-crash : goal.returns-clause-crash
 returns-clause-crash g c =
@@ -117,7 +120,8 @@ returns-clause-crash g c =
     let settled : IsDurableAt w (word_of c.args.place.link) c.encode.result = record { seen = c.in_ok-persist.ensures.ok; left = c.in_ok-persist.ensures.durable } in
     (over_freed v t u w seat_t (g.met.H.HeapSeat.seat c.make_node.new.seat) c.args.key c.in_ok-next.next c.encode.result c.args.value.now c.args.place c.in_ok-node.node c.requires.shard
     c.take.ensures.quiet.unchanged made.0 made.1 made.2 made.3 c.make_node.ensures.grown makes c.requires.short (λ k less. omega (arith, c.type_inv.value k)) c.encode.ensures.tagged c.persist.ensures.crash
-    (g.met.H.HeapSeat.seat c.persist.new.heap) settled y c.free.ensures.others).1
+    c.take.ensures.quiet.calls.goes_on.kinds c.make_node.ensures.calls.goes_on.kinds c.persist.ensures.calls.goes_on.kinds
+    (g.met.H.HeapSeat.seat c.persist.new.heap) settled y c.free.ensures.others c.free.ensures.counted.goes_on.kinds).1
 
 pub returns-clause-ok : goal.returns-clause-ok
 returns-clause-ok g c =
@@ -134,7 +138,8 @@ returns-clause-ok g c =
     let settled : IsDurableAt w (word_of c.args.place.link) c.encode.result = record { seen = c.in_ok-persist.ensures.ok; left = c.in_ok-persist.ensures.durable } in
     (over_freed v t u w seat_t (g.met.H.HeapSeat.seat c.make_node.new.seat) c.args.key c.in_ok-next.next c.encode.result c.args.value.now c.args.place c.in_ok-node.node c.requires.shard
     c.take.ensures.quiet.unchanged made.0 made.1 made.2 made.3 c.make_node.ensures.grown makes c.requires.short (λ k less. omega (arith, c.type_inv.value k)) c.encode.ensures.tagged c.persist.ensures.crash
-    (g.met.H.HeapSeat.seat c.persist.new.heap) settled y c.free.ensures.others).0
+    c.take.ensures.quiet.calls.goes_on.kinds c.make_node.ensures.calls.goes_on.kinds c.persist.ensures.calls.goes_on.kinds
+    (g.met.H.HeapSeat.seat c.persist.new.heap) settled y c.free.ensures.others c.free.ensures.counted.goes_on.kinds).0
 
 pub returns-in_err-persist-clause-calls : goal.returns-in_err-persist-clause-calls
 returns-in_err-persist-clause-calls g c =
@@ -208,4 +213,5 @@ returns-clause-exact g c =
     let settled : IsDurableAt w (word_of c.args.place.link) c.encode.result = record { seen = c.in_ok-persist.ensures.ok; left = c.in_ok-persist.ensures.durable } in
     all_over v t u w seat_t (g.met.H.HeapSeat.seat c.make_node.new.seat) c.args.key c.in_ok-next.next c.encode.result c.args.value.now c.args.place c.in_ok-node.node c.requires.shard
     c.take.ensures.quiet.unchanged made.0 made.1 made.2 made.3 c.make_node.ensures.grown makes c.requires.short (λ k less. omega (arith, c.type_inv.value k)) c.encode.ensures.tagged c.persist.ensures.crash
-    (g.met.H.HeapSeat.seat c.persist.new.heap) settled y c.free.ensures.others c.in_ok-free.ensures.ok.gone
+    c.take.ensures.quiet.calls.goes_on.kinds c.make_node.ensures.calls.goes_on.kinds c.persist.ensures.calls.goes_on.kinds
+    (g.met.H.HeapSeat.seat c.persist.new.heap) settled y c.free.ensures.others c.free.ensures.counted.goes_on.kinds c.in_ok-free.ensures.ok.gone

@@ -20,7 +20,7 @@ returns-in_err-table-clause-crash g c =
     let v = view c.args.seat.now in
     let u = view c.alloc.new.self in
     let shard = shard_of c.args.key in
-    λ after. change_none shard after v u (grown_keeps v u c.in_err-table.ensures.unchanged) (g.met.H.HeapSeat.seat c.alloc.new.self) c.requires.shard.only
+    λ after. change_none shard after v u (grown_keeps v u c.in_err-table.ensures.unchanged) c.alloc.ensures.counted.goes_on.kinds (g.met.H.HeapSeat.seat c.alloc.new.self) c.requires.shard.only
 
 pub clear-requires-clause-size : goal.clear-requires-clause-size
 clear-requires-clause-size g c =
@@ -38,7 +38,7 @@ returns-in_err-clear-clause-crash g c =
     let shard = shard_of c.args.key in
     let t = view c.clear.new.seat in
     let grown_t = grown_within 1024 c.in_ok-table.table v u t (g.met.H.HeapSeat.seat c.alloc.new.self) c.in_ok-table.ensures.ok 256 c.clear.ensures.within in
-    λ after. change_none shard after v t grown_t (g.met.H.HeapSeat.seat c.clear.new.seat) c.requires.shard.only
+    λ after. change_none shard after v t grown_t (c.clear.ensures.within.calls.goes_on.kinds ∙ c.alloc.ensures.counted.goes_on.kinds) (g.met.H.HeapSeat.seat c.clear.new.seat) c.requires.shard.only
 
 pub returns-in_err-clear-clause-calls : goal.returns-in_err-clear-clause-calls
 returns-in_err-clear-clause-calls g c =
@@ -60,7 +60,7 @@ returns-in_err-fence-clause-crash g c =
     let grown_t = grown_within 1024 c.in_ok-table.table v u t (g.met.H.HeapSeat.seat c.alloc.new.self) c.in_ok-table.ensures.ok 256 c.clear.ensures.within in
     let s = view c.fence.new.self in
     let grown_s = grown_then v t s grown_t (grown_keeps t s c.fence.ensures.unchanged) in
-    λ after. change_none shard after v s grown_s (g.met.H.HeapSeat.seat c.fence.new.self) c.requires.shard.only
+    λ after. change_none shard after v s grown_s (c.fence.ensures.counted.goes_on.kinds ∙ c.clear.ensures.within.calls.goes_on.kinds ∙ c.alloc.ensures.counted.goes_on.kinds) (g.met.H.HeapSeat.seat c.fence.new.self) c.requires.shard.only
 
 pub returns-in_err-fence-clause-calls : goal.returns-in_err-fence-clause-calls
 returns-in_err-fence-clause-calls g c =
@@ -102,7 +102,7 @@ returns-in_err-persist-clause-crash g c =
     settles t s (table.first_word + i) 0 own (c.fence.ensures.unchanged.words (table.first_word + i) own) (record { each = c.in_ok-fence.ensures.ok.durable }) (c.in_ok-clear.ensures.ok.nulls i below) in
     let may = subst (λ (i : ℕ). MayHaveStored (root_word i) c.encode.result s w) c.shard_of.ensures c.persist.ensures.crash in
     λ after. table_left v s w (g.met.H.HeapSeat.seat c.fence.new.self) (g.met.H.HeapSeat.seat c.persist.new.heap) grown_s c.requires.shard.only shard c.encode.result table (shard_below c.args.key) c.requires.shard.owned
-    held_s c.in_ok-table.ensures.ok.blocks.new size nulls c.encode.ensures.tagged may c.requires.none.empty c.requires.none.root.seen after
+    held_s c.in_ok-table.ensures.ok.blocks.new size nulls c.encode.ensures.tagged may c.requires.none.empty (c.fence.ensures.counted.goes_on.kinds ∙ c.clear.ensures.within.calls.goes_on.kinds ∙ c.alloc.ensures.counted.goes_on.kinds) c.persist.ensures.calls.goes_on.kinds c.requires.none.root.seen after
 
 pub returns-clause-crash : goal.returns-clause-crash
 returns-clause-crash g c =
@@ -124,7 +124,7 @@ returns-clause-crash g c =
     settles t s (table.first_word + i) 0 own (c.fence.ensures.unchanged.words (table.first_word + i) own) (record { each = c.in_ok-fence.ensures.ok.durable }) (c.in_ok-clear.ensures.ok.nulls i below) in
     let may = subst (λ (i : ℕ). MayHaveStored (root_word i) c.encode.result s w) c.shard_of.ensures c.persist.ensures.crash in
     λ after. table_left v s w (g.met.H.HeapSeat.seat c.fence.new.self) (g.met.H.HeapSeat.seat c.persist.new.heap) grown_s c.requires.shard.only shard c.encode.result table (shard_below c.args.key) c.requires.shard.owned
-    held_s c.in_ok-table.ensures.ok.blocks.new size nulls c.encode.ensures.tagged may c.requires.none.empty c.requires.none.root.seen after
+    held_s c.in_ok-table.ensures.ok.blocks.new size nulls c.encode.ensures.tagged may c.requires.none.empty (c.fence.ensures.counted.goes_on.kinds ∙ c.clear.ensures.within.calls.goes_on.kinds ∙ c.alloc.ensures.counted.goes_on.kinds) c.persist.ensures.calls.goes_on.kinds c.requires.none.root.seen after
 
 pub returns-in_err-persist-clause-calls : goal.returns-in_err-persist-clause-calls
 returns-in_err-persist-clause-calls g c =
@@ -160,7 +160,7 @@ returns-clause-ok g c =
     settles t s (table.first_word + i) 0 own (c.fence.ensures.unchanged.words (table.first_word + i) own) (record { each = c.in_ok-fence.ensures.ok.durable }) (c.in_ok-clear.ensures.ok.nulls i below) in
     let may = subst (λ (i : ℕ). MayHaveStored (root_word i) c.encode.result s w) c.shard_of.ensures c.persist.ensures.crash in
     let gives = table_gives v s w (g.met.H.HeapSeat.seat c.fence.new.self) (g.met.H.HeapSeat.seat c.persist.new.heap) grown_s c.requires.shard.only shard c.encode.result table (shard_below c.args.key) c.requires.shard.owned
-    held_s c.in_ok-table.ensures.ok.blocks.new size nulls c.encode.ensures.tagged may c.requires.none.empty in
+    held_s c.in_ok-table.ensures.ok.blocks.new size nulls c.encode.ensures.tagged may c.requires.none.empty (c.fence.ensures.counted.goes_on.kinds ∙ c.clear.ensures.within.calls.goes_on.kinds ∙ c.alloc.ensures.counted.goes_on.kinds) c.persist.ensures.calls.goes_on.kinds in
     let settled : IsDurableAt w (root_word shard) c.encode.result =
     subst (λ (i : ℕ). IsDurableAt w (root_word i) c.encode.result) c.shard_of.ensures (record { seen = c.in_ok-persist.ensures.ok; left = c.in_ok-persist.ensures.durable }) in
     let runs_t : Runs v t = elim c.in_ok-clear.ensures.ok.done as (λ _. Runs v t) [
@@ -175,7 +175,7 @@ returns-clause-ok g c =
           (c.requires.none.empty c.requires.shard.map c.requires.shard.gives);
       gives = gives;
       reached = table_reached v s w (g.met.H.HeapSeat.seat c.fence.new.self) (g.met.H.HeapSeat.seat c.persist.new.heap) grown_s c.requires.shard.only shard c.encode.result table (shard_below c.args.key) c.requires.shard.owned
-          held_s c.in_ok-table.ensures.ok.blocks.new size nulls c.encode.ensures.tagged may c.requires.none.empty;
+          held_s c.in_ok-table.ensures.ok.blocks.new size nulls c.encode.ensures.tagged may c.requires.none.empty (c.fence.ensures.counted.goes_on.kinds ∙ c.clear.ensures.within.calls.goes_on.kinds ∙ c.alloc.ensures.counted.goes_on.kinds) c.persist.ensures.calls.goes_on.kinds;
       refusals = same_refusals_then v s w
           (same_refusals_then v t s (refusals_within 1024 table v u t (g.met.H.HeapSeat.seat c.alloc.new.self) c.in_ok-table.ensures.ok 256 c.clear.ensures.within) c.fence.ensures.counted.refusals)
           c.persist.ensures.refusals;
@@ -203,5 +203,5 @@ returns-clause-exact g c =
     let null = (grown_s.words (root_word shard) (in_root shard (root_word shard) c.requires.shard.owned refl)).volatile 0 c.requires.none.root.seen in
     let seen = subst (λ (i : ℕ). w.volatile (root_word i) ≡ Some c.encode.result) c.shard_of.ensures c.in_ok-persist.ensures.ok in
     table_all v s w (g.met.H.HeapSeat.seat c.fence.new.self) (g.met.H.HeapSeat.seat c.persist.new.heap) grown_s c.requires.shard.only shard c.encode.result table (shard_below c.args.key) c.requires.shard.owned
-    held_s c.in_ok-table.ensures.ok.blocks.new size nulls c.encode.ensures.tagged may c.requires.none.empty null seen
+    held_s c.in_ok-table.ensures.ok.blocks.new size nulls c.encode.ensures.tagged may c.requires.none.empty (c.fence.ensures.counted.goes_on.kinds ∙ c.clear.ensures.within.calls.goes_on.kinds ∙ c.alloc.ensures.counted.goes_on.kinds) c.persist.ensures.calls.goes_on.kinds null seen
     (λ a h. c.in_ok-table.ensures.ok.blocks.only a (subst (λ (bs : List Block). Contains bs a) c.clear.ensures.within.held (subst (λ (bs : List Block). Contains bs a) c.fence.ensures.unchanged.held h)))

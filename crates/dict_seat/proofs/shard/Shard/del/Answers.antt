@@ -15,8 +15,9 @@ returns-in_err-place-clause-crash g c =
     let v = view c.args.seat.now in
     let u = view c.search.new.seat in
     let keeps = c.search.ensures.quiet.quiet.unchanged in
+    let kinds = c.search.ensures.quiet.quiet.calls.goes_on.kinds in
     let seat = g.met.H.HeapSeat.seat c.search.new.seat in
-    change_none (shard_of c.args.key) (λ map. without_key map c.args.key) v u (grown_keeps v u keeps) seat c.requires.shard.only
+    change_none (shard_of c.args.key) (λ map. without_key map c.args.key) v u (grown_keeps v u keeps) kinds seat c.requires.shard.only
 
 pub remove-requires-clause-shard : goal.remove-requires-clause-shard
 remove-requires-clause-shard g c =
@@ -24,8 +25,9 @@ remove-requires-clause-shard g c =
     let v = view c.args.seat.now in
     let u = view c.search.new.seat in
     let keeps = c.search.ensures.quiet.quiet.unchanged in
+    let kinds = c.search.ensures.quiet.quiet.calls.goes_on.kinds in
     let seat = g.met.H.HeapSeat.seat c.search.new.seat in
-    shard_still v u (shard_of c.args.key) seat keeps c.requires.shard
+    shard_still v u (shard_of c.args.key) seat keeps kinds c.requires.shard
 
 pub returns-in_err-remove-in-Found-clause-crash : goal.returns-in_err-remove-in-Found-clause-crash
 returns-in_err-remove-in-Found-clause-crash g c =
@@ -33,8 +35,9 @@ returns-in_err-remove-in-Found-clause-crash g c =
     let v = view c.args.seat.now in
     let u = view c.search.new.seat in
     let keeps = c.search.ensures.quiet.quiet.unchanged in
+    let kinds = c.search.ensures.quiet.quiet.calls.goes_on.kinds in
     let seat = g.met.H.HeapSeat.seat c.search.new.seat in
-    change_after (shard_of c.args.key) (λ map. without_key map c.args.key) v u (view c.remove.new.seat) (grown_keeps v u keeps) seat c.requires.shard.only c.remove.ensures.crash
+    change_after (shard_of c.args.key) (λ map. without_key map c.args.key) v u (view c.remove.new.seat) (grown_keeps v u keeps) kinds seat c.requires.shard.only c.remove.ensures.crash
 
 pub returns-in_ok-remove-in-Found-clause-crash : goal.returns-in_ok-remove-in-Found-clause-crash
 returns-in_ok-remove-in-Found-clause-crash g c =
@@ -42,8 +45,9 @@ returns-in_ok-remove-in-Found-clause-crash g c =
     let v = view c.args.seat.now in
     let u = view c.search.new.seat in
     let keeps = c.search.ensures.quiet.quiet.unchanged in
+    let kinds = c.search.ensures.quiet.quiet.calls.goes_on.kinds in
     let seat = g.met.H.HeapSeat.seat c.search.new.seat in
-    change_after (shard_of c.args.key) (λ map. without_key map c.args.key) v u (view c.remove.new.seat) (grown_keeps v u keeps) seat c.requires.shard.only c.remove.ensures.crash
+    change_after (shard_of c.args.key) (λ map. without_key map c.args.key) v u (view c.remove.new.seat) (grown_keeps v u keeps) kinds seat c.requires.shard.only c.remove.ensures.crash
 
 pub returns-in-Missing-clause-crash : goal.returns-in-Missing-clause-crash
 returns-in-Missing-clause-crash g c =
@@ -51,8 +55,9 @@ returns-in-Missing-clause-crash g c =
     let v = view c.args.seat.now in
     let u = view c.search.new.seat in
     let keeps = c.search.ensures.quiet.quiet.unchanged in
+    let kinds = c.search.ensures.quiet.quiet.calls.goes_on.kinds in
     let seat = g.met.H.HeapSeat.seat c.search.new.seat in
-    change_none (shard_of c.args.key) (λ map. without_key map c.args.key) v u (grown_keeps v u keeps) seat c.requires.shard.only
+    change_none (shard_of c.args.key) (λ map. without_key map c.args.key) v u (grown_keeps v u keeps) kinds seat c.requires.shard.only
 
 pub returns-in-NoTable-clause-crash : goal.returns-in-NoTable-clause-crash
 returns-in-NoTable-clause-crash g c =
@@ -60,8 +65,9 @@ returns-in-NoTable-clause-crash g c =
     let v = view c.args.seat.now in
     let u = view c.search.new.seat in
     let keeps = c.search.ensures.quiet.quiet.unchanged in
+    let kinds = c.search.ensures.quiet.quiet.calls.goes_on.kinds in
     let seat = g.met.H.HeapSeat.seat c.search.new.seat in
-    change_none (shard_of c.args.key) (λ map. without_key map c.args.key) v u (grown_keeps v u keeps) seat c.requires.shard.only
+    change_none (shard_of c.args.key) (λ map. without_key map c.args.key) v u (grown_keeps v u keeps) kinds seat c.requires.shard.only
 
 pub returns-in_ok-remove-in-Found-clause-ok : goal.returns-in_ok-remove-in-Found-clause-ok
 returns-in_ok-remove-in-Found-clause-ok g c =
@@ -99,8 +105,9 @@ returns-in-Missing-clause-exact g c =
     let v = view c.args.seat.now in
     let u = view c.search.new.seat in
     let keeps = c.search.ensures.quiet.quiet.unchanged in
+    let kinds = c.search.ensures.quiet.quiet.calls.goes_on.kinds in
     let seat = g.met.H.HeapSeat.seat c.search.new.seat in
-    all_quiet v u seat keeps
+    all_quiet v u seat keeps kinds
 
 pub returns-in-NoTable-clause-exact : goal.returns-in-NoTable-clause-exact
 returns-in-NoTable-clause-exact g c =
@@ -108,8 +115,9 @@ returns-in-NoTable-clause-exact g c =
     let v = view c.args.seat.now in
     let u = view c.search.new.seat in
     let keeps = c.search.ensures.quiet.quiet.unchanged in
+    let kinds = c.search.ensures.quiet.quiet.calls.goes_on.kinds in
     let seat = g.met.H.HeapSeat.seat c.search.new.seat in
-    all_quiet v u seat keeps
+    all_quiet v u seat keeps kinds
 
 pub returns-in_ok-remove-in-Found-clause-exact : goal.returns-in_ok-remove-in-Found-clause-exact
 returns-in_ok-remove-in-Found-clause-exact g c =
@@ -117,8 +125,9 @@ returns-in_ok-remove-in-Found-clause-exact g c =
     let v = view c.args.seat.now in
     let u = view c.search.new.seat in
     let keeps = c.search.ensures.quiet.quiet.unchanged in
+    let kinds = c.search.ensures.quiet.quiet.calls.goes_on.kinds in
     let seat = g.met.H.HeapSeat.seat c.search.new.seat in
-    λ all. c.in_ok-remove-in-Found.ensures.exact (all_quiet v u seat keeps all)
+    λ all. c.in_ok-remove-in-Found.ensures.exact (all_quiet v u seat keeps kinds all)
 
 pub returns-in_ok-remove-in-Found-clause-calls : goal.returns-in_ok-remove-in-Found-clause-calls
 returns-in_ok-remove-in-Found-clause-calls g c =

@@ -25,9 +25,10 @@ returns-in_err-place-clause-crash g c =
     let v = view c.args.seat.now in
     let u = view c.search.new.seat in
     let keeps = c.search.ensures.quiet.quiet.unchanged in
+    let kinds = c.search.ensures.quiet.quiet.calls.goes_on.kinds in
     let grown = grown_keeps v u keeps in
     let seat = g.met.H.HeapSeat.seat c.search.new.seat in
-    change_none (shard_of c.args.key) (λ map. with_key map c.args.key c.args.value.now) v u grown seat c.requires.shard.only
+    change_none (shard_of c.args.key) (λ map. with_key map c.args.key c.args.value.now) v u grown kinds seat c.requires.shard.only
 
 pub put_over-requires-clause-shard : goal.put_over-requires-clause-shard
 put_over-requires-clause-shard g c =
@@ -35,9 +36,10 @@ put_over-requires-clause-shard g c =
     let v = view c.args.seat.now in
     let u = view c.search.new.seat in
     let keeps = c.search.ensures.quiet.quiet.unchanged in
+    let kinds = c.search.ensures.quiet.quiet.calls.goes_on.kinds in
     let grown = grown_keeps v u keeps in
     let seat = g.met.H.HeapSeat.seat c.search.new.seat in
-    shard_still v u (shard_of c.args.key) seat keeps c.requires.shard
+    shard_still v u (shard_of c.args.key) seat keeps kinds c.requires.shard
 
 pub put_first-requires-clause-shard : goal.put_first-requires-clause-shard
 put_first-requires-clause-shard g c =
@@ -45,9 +47,10 @@ put_first-requires-clause-shard g c =
     let v = view c.args.seat.now in
     let u = view c.search.new.seat in
     let keeps = c.search.ensures.quiet.quiet.unchanged in
+    let kinds = c.search.ensures.quiet.quiet.calls.goes_on.kinds in
     let grown = grown_keeps v u keeps in
     let seat = g.met.H.HeapSeat.seat c.search.new.seat in
-    shard_still v u (shard_of c.args.key) seat keeps c.requires.shard
+    shard_still v u (shard_of c.args.key) seat keeps kinds c.requires.shard
 
 pub make_table-requires-clause-shard : goal.make_table-requires-clause-shard
 make_table-requires-clause-shard g c =
@@ -55,9 +58,10 @@ make_table-requires-clause-shard g c =
     let v = view c.args.seat.now in
     let u = view c.search.new.seat in
     let keeps = c.search.ensures.quiet.quiet.unchanged in
+    let kinds = c.search.ensures.quiet.quiet.calls.goes_on.kinds in
     let grown = grown_keeps v u keeps in
     let seat = g.met.H.HeapSeat.seat c.search.new.seat in
-    shard_still v u (shard_of c.args.key) seat keeps c.requires.shard
+    shard_still v u (shard_of c.args.key) seat keeps kinds c.requires.shard
 
 pub put_first-requires-clause-missing : goal.put_first-requires-clause-missing
 put_first-requires-clause-missing g c =
@@ -110,10 +114,11 @@ returns-in_err-table-in-NoTable-clause-crash g c =
     let v = view c.args.seat.now in
     let u = view c.search.new.seat in
     let keeps = c.search.ensures.quiet.quiet.unchanged in
+    let kinds = c.search.ensures.quiet.quiet.calls.goes_on.kinds in
     let grown = grown_keeps v u keeps in
     let seat = g.met.H.HeapSeat.seat c.search.new.seat in
     let y = view c.make_table.new.seat in
-    change_after (shard_of c.args.key) (λ map. with_key map c.args.key c.args.value.now) v u y grown seat c.requires.shard.only (c.make_table.ensures.crash (λ map. with_key map c.args.key c.args.value.now))
+    change_after (shard_of c.args.key) (λ map. with_key map c.args.key c.args.value.now) v u y grown kinds seat c.requires.shard.only (c.make_table.ensures.crash (λ map. with_key map c.args.key c.args.value.now))
 
 pub put_first-requires-in-NoTable-clause-shard : goal.put_first-requires-in-NoTable-clause-shard
 put_first-requires-in-NoTable-clause-shard g c =
@@ -121,10 +126,11 @@ put_first-requires-in-NoTable-clause-shard g c =
     let v = view c.args.seat.now in
     let u = view c.search.new.seat in
     let keeps = c.search.ensures.quiet.quiet.unchanged in
+    let kinds = c.search.ensures.quiet.quiet.calls.goes_on.kinds in
     let grown = grown_keeps v u keeps in
     let seat = g.met.H.HeapSeat.seat c.search.new.seat in
     let y = view c.make_table.new.seat in
-    shard_behind c.args.key (λ map. with_key map c.args.key c.args.value.now) c.in_ok-table-in-NoTable.table u y (shard_still v u (shard_of c.args.key) seat keeps c.requires.shard) c.in_ok-table-in-NoTable.ensures.ok (c.make_table.ensures.crash (λ map. with_key map c.args.key c.args.value.now))
+    shard_behind c.args.key (λ map. with_key map c.args.key c.args.value.now) c.in_ok-table-in-NoTable.table u y (shard_still v u (shard_of c.args.key) seat keeps kinds c.requires.shard) c.in_ok-table-in-NoTable.ensures.ok (c.make_table.ensures.crash (λ map. with_key map c.args.key c.args.value.now))
 
 pub returns-in-Found-clause-ok : goal.returns-in-Found-clause-ok
 returns-in-Found-clause-ok g c =
@@ -169,10 +175,11 @@ returns-in-Found-clause-crash g c =
     let v = view c.args.seat.now in
     let u = view c.search.new.seat in
     let keeps = c.search.ensures.quiet.quiet.unchanged in
+    let kinds = c.search.ensures.quiet.quiet.calls.goes_on.kinds in
     let grown = grown_keeps v u keeps in
     let seat = g.met.H.HeapSeat.seat c.search.new.seat in
     let w = view c.put_over.new.seat in
-    change_after (shard_of c.args.key) (λ map. with_key map c.args.key c.args.value.now) v u w grown seat c.requires.shard.only c.put_over.ensures.crash
+    change_after (shard_of c.args.key) (λ map. with_key map c.args.key c.args.value.now) v u w grown kinds seat c.requires.shard.only c.put_over.ensures.crash
 
 pub returns-in-Missing-clause-ok : goal.returns-in-Missing-clause-ok
 returns-in-Missing-clause-ok g c =
@@ -217,10 +224,11 @@ returns-in-Missing-clause-crash g c =
     let v = view c.args.seat.now in
     let u = view c.search.new.seat in
     let keeps = c.search.ensures.quiet.quiet.unchanged in
+    let kinds = c.search.ensures.quiet.quiet.calls.goes_on.kinds in
     let grown = grown_keeps v u keeps in
     let seat = g.met.H.HeapSeat.seat c.search.new.seat in
     let w = view c.put_first.new.seat in
-    change_after (shard_of c.args.key) (λ map. with_key map c.args.key c.args.value.now) v u w grown seat c.requires.shard.only c.put_first.ensures.crash
+    change_after (shard_of c.args.key) (λ map. with_key map c.args.key c.args.value.now) v u w grown kinds seat c.requires.shard.only c.put_first.ensures.crash
 
 pub returns-in-Found-clause-exact : goal.returns-in-Found-clause-exact
 returns-in-Found-clause-exact g c =
@@ -228,9 +236,10 @@ returns-in-Found-clause-exact g c =
     let v = view c.args.seat.now in
     let u = view c.search.new.seat in
     let keeps = c.search.ensures.quiet.quiet.unchanged in
+    let kinds = c.search.ensures.quiet.quiet.calls.goes_on.kinds in
     let grown = grown_keeps v u keeps in
     let seat = g.met.H.HeapSeat.seat c.search.new.seat in
-    on_ok_weaker c.put_over.result (λ exact all. exact (all_quiet v u seat keeps all)) c.put_over.ensures.exact
+    on_ok_weaker c.put_over.result (λ exact all. exact (all_quiet v u seat keeps kinds all)) c.put_over.ensures.exact
 
 pub returns-in-Missing-clause-exact : goal.returns-in-Missing-clause-exact
 returns-in-Missing-clause-exact g c =
@@ -238,9 +247,10 @@ returns-in-Missing-clause-exact g c =
     let v = view c.args.seat.now in
     let u = view c.search.new.seat in
     let keeps = c.search.ensures.quiet.quiet.unchanged in
+    let kinds = c.search.ensures.quiet.quiet.calls.goes_on.kinds in
     let grown = grown_keeps v u keeps in
     let seat = g.met.H.HeapSeat.seat c.search.new.seat in
-    on_ok_weaker c.put_first.result (λ exact all. exact (all_quiet v u seat keeps all)) c.put_first.ensures.exact
+    on_ok_weaker c.put_first.result (λ exact all. exact (all_quiet v u seat keeps kinds all)) c.put_first.ensures.exact
 
 pub returns-in-Found-clause-exact_full : goal.returns-in-Found-clause-exact_full
 returns-in-Found-clause-exact_full g c =
@@ -248,13 +258,14 @@ returns-in-Found-clause-exact_full g c =
     let v = view c.args.seat.now in
     let u = view c.search.new.seat in
     let keeps = c.search.ensures.quiet.quiet.unchanged in
+    let kinds = c.search.ensures.quiet.quiet.calls.goes_on.kinds in
     let grown = grown_keeps v u keeps in
     let seat = g.met.H.HeapSeat.seat c.search.new.seat in
     let w = view c.put_over.new.seat in
     IfErr-weaker c.put_over.result (λ (fault : AllocFault). PutFails g.H.HeapSeat.reads (node_bytes (length c.args.value.now)) fault u w)
     (λ (fault : AllocFault). (looks : Looks) → fault ≡ Full looks → ReachesAllHeld v → ReachesAllHeld w)
     (λ fault fails looks is all. all_quiet u w (g.met.H.HeapSeat.seat c.put_over.new.seat)
-    (full_keeps g.H.HeapSeat.reads (node_bytes (length c.args.value.now)) fault u w looks is fails) (all_quiet v u seat keeps all)) c.put_over.ensures.cause
+    (full_keeps g.H.HeapSeat.reads (node_bytes (length c.args.value.now)) fault u w looks is fails) c.put_over.ensures.calls.goes_on.kinds (all_quiet v u seat keeps kinds all)) c.put_over.ensures.cause
 
 pub returns-in-Missing-clause-exact_full : goal.returns-in-Missing-clause-exact_full
 returns-in-Missing-clause-exact_full g c =
@@ -262,13 +273,14 @@ returns-in-Missing-clause-exact_full g c =
     let v = view c.args.seat.now in
     let u = view c.search.new.seat in
     let keeps = c.search.ensures.quiet.quiet.unchanged in
+    let kinds = c.search.ensures.quiet.quiet.calls.goes_on.kinds in
     let grown = grown_keeps v u keeps in
     let seat = g.met.H.HeapSeat.seat c.search.new.seat in
     let w = view c.put_first.new.seat in
     IfErr-weaker c.put_first.result (λ (fault : AllocFault). PutFails g.H.HeapSeat.reads (node_bytes (length c.args.value.now)) fault u w)
     (λ (fault : AllocFault). (looks : Looks) → fault ≡ Full looks → ReachesAllHeld v → ReachesAllHeld w)
     (λ fault fails looks is all. all_quiet u w (g.met.H.HeapSeat.seat c.put_first.new.seat)
-    (full_keeps g.H.HeapSeat.reads (node_bytes (length c.args.value.now)) fault u w looks is fails) (all_quiet v u seat keeps all)) c.put_first.ensures.cause
+    (full_keeps g.H.HeapSeat.reads (node_bytes (length c.args.value.now)) fault u w looks is fails) c.put_first.ensures.calls.goes_on.kinds (all_quiet v u seat keeps kinds all)) c.put_first.ensures.cause
 
 pub returns-in_ok-table-in-NoTable-clause-exact_full : goal.returns-in_ok-table-in-NoTable-clause-exact_full
 returns-in_ok-table-in-NoTable-clause-exact_full g c =
@@ -276,6 +288,7 @@ returns-in_ok-table-in-NoTable-clause-exact_full g c =
     let v = view c.args.seat.now in
     let u = view c.search.new.seat in
     let keeps = c.search.ensures.quiet.quiet.unchanged in
+    let kinds = c.search.ensures.quiet.quiet.calls.goes_on.kinds in
     let grown = grown_keeps v u keeps in
     let seat = g.met.H.HeapSeat.seat c.search.new.seat in
     let y = view c.make_table.new.seat in
@@ -283,7 +296,7 @@ returns-in_ok-table-in-NoTable-clause-exact_full g c =
     IfErr-weaker c.put_first-in-NoTable.result (λ (fault : AllocFault). PutFails g.H.HeapSeat.reads (node_bytes (length c.args.value.now)) fault y w)
     (λ (fault : AllocFault). (looks : Looks) → fault ≡ Full looks → ReachesAllHeld v → ReachesAllHeld w)
     (λ fault fails looks is all. all_quiet y w (g.met.H.HeapSeat.seat c.put_first-in-NoTable.new.seat)
-    (full_keeps g.H.HeapSeat.reads (node_bytes (length c.args.value.now)) fault y w looks is fails) (c.in_ok-table-in-NoTable.ensures.exact (all_quiet v u seat keeps all))) c.put_first-in-NoTable.ensures.cause
+    (full_keeps g.H.HeapSeat.reads (node_bytes (length c.args.value.now)) fault y w looks is fails) c.put_first-in-NoTable.ensures.calls.goes_on.kinds (c.in_ok-table-in-NoTable.ensures.exact (all_quiet v u seat keeps kinds all))) c.put_first-in-NoTable.ensures.cause
 
 pub returns-in_err-table-in-NoTable-clause-exact_full : goal.returns-in_err-table-in-NoTable-clause-exact_full
 returns-in_err-table-in-NoTable-clause-exact_full g c =
@@ -291,13 +304,14 @@ returns-in_err-table-in-NoTable-clause-exact_full g c =
     let v = view c.args.seat.now in
     let u = view c.search.new.seat in
     let keeps = c.search.ensures.quiet.quiet.unchanged in
+    let kinds = c.search.ensures.quiet.quiet.calls.goes_on.kinds in
     let grown = grown_keeps v u keeps in
     let seat = g.met.H.HeapSeat.seat c.search.new.seat in
     let y = view c.make_table.new.seat in
     let p = err_from_is_err_and c.from_residual-in_err-table-in-NoTable.result c.from_residual-in_err-table-in-NoTable.ensures.1 in
     rw (p.1, p.2)
     (λ looks is all. all_quiet u y (g.met.H.HeapSeat.seat c.make_table.new.seat)
-    (full_keeps g.H.HeapSeat.reads table_bytes c.in_err-table-in-NoTable.field-0.0 u y looks is c.in_err-table-in-NoTable.ensures.cause) (all_quiet v u seat keeps all))
+    (full_keeps g.H.HeapSeat.reads table_bytes c.in_err-table-in-NoTable.field-0.0 u y looks is c.in_err-table-in-NoTable.ensures.cause) c.make_table.ensures.calls.goes_on.kinds (all_quiet v u seat keeps kinds all))
 
 pub returns-in_ok-table-in-NoTable-clause-exact : goal.returns-in_ok-table-in-NoTable-clause-exact
 returns-in_ok-table-in-NoTable-clause-exact g c =
@@ -305,9 +319,10 @@ returns-in_ok-table-in-NoTable-clause-exact g c =
     let v = view c.args.seat.now in
     let u = view c.search.new.seat in
     let keeps = c.search.ensures.quiet.quiet.unchanged in
+    let kinds = c.search.ensures.quiet.quiet.calls.goes_on.kinds in
     let grown = grown_keeps v u keeps in
     let seat = g.met.H.HeapSeat.seat c.search.new.seat in
-    on_ok_weaker c.put_first-in-NoTable.result (λ exact all. exact (c.in_ok-table-in-NoTable.ensures.exact (all_quiet v u seat keeps all))) c.put_first-in-NoTable.ensures.exact
+    on_ok_weaker c.put_first-in-NoTable.result (λ exact all. exact (c.in_ok-table-in-NoTable.ensures.exact (all_quiet v u seat keeps kinds all))) c.put_first-in-NoTable.ensures.exact
 
 pub returns-in_ok-table-in-NoTable-clause-ok : goal.returns-in_ok-table-in-NoTable-clause-ok
 returns-in_ok-table-in-NoTable-clause-ok g c =
@@ -365,13 +380,14 @@ returns-in_ok-table-in-NoTable-clause-crash g c =
     let v = view c.args.seat.now in
     let u = view c.search.new.seat in
     let keeps = c.search.ensures.quiet.quiet.unchanged in
+    let kinds = c.search.ensures.quiet.quiet.calls.goes_on.kinds in
     let grown = grown_keeps v u keeps in
     let seat = g.met.H.HeapSeat.seat c.search.new.seat in
     let y = view c.make_table.new.seat in
     let w = view c.put_first-in-NoTable.new.seat in
     let makes = c.in_ok-table-in-NoTable.ensures.ok in
     let table = c.in_ok-table-in-NoTable.table in
-    change_after (shard_of c.args.key) (λ map. with_key map c.args.key c.args.value.now) v u w grown seat c.requires.shard.only (change_behind c.args.key (λ map. with_key map c.args.key c.args.value.now) table u y w makes (c.make_table.ensures.crash (λ map. with_key map c.args.key c.args.value.now)) c.put_first-in-NoTable.ensures.crash)
+    change_after (shard_of c.args.key) (λ map. with_key map c.args.key c.args.value.now) v u w grown kinds seat c.requires.shard.only (change_behind c.args.key (λ map. with_key map c.args.key c.args.value.now) table u y w makes (c.make_table.ensures.crash (λ map. with_key map c.args.key c.args.value.now)) c.put_first-in-NoTable.ensures.crash)
 
 pub returns-in_ok-table-in-NoTable-clause-calls : goal.returns-in_ok-table-in-NoTable-clause-calls
 returns-in_ok-table-in-NoTable-clause-calls g c =
@@ -391,3 +407,14 @@ returns-in_ok-table-in-NoTable-clause-calls g c =
     let row = row_more (260 + (2 * n + 12)) (1 + 1) (one + most) (272 + 2 * n) 2 (most + one) u w (omega arith) (omega arith) (omega arith)
     (row_then 260 1 one (2 * n + 12) 1 most u y w c.make_table.ensures.calls c.put_first-in-NoTable.ensures.calls) in
     few_calls (272 + 2 * n) 2 (most + one) n (shard_of c.args.key) v u w (omega arith) (omega arith) c.search.ensures.quiet row
+
+pub returns-in-Found-clause-calls : goal.returns-in-Found-clause-calls
+returns-in-Found-clause-calls g c =
+    let view = g.H.HeapSeat.view in
+    let u = view c.search.new.seat in
+    let w = view c.put_over.new.seat in
+    let n = value_words (length c.args.value.now) in
+    let most = span_of (node_bytes (length c.args.value.now)) in
+    let more = most + span_of table_bytes in
+    few_calls (2 * n + 13) 2 more n (shard_of c.args.key) (view c.args.seat.now) u w (omega arith) (omega arith) c.search.ensures.quiet
+    (row_more (2 * n + 13) 2 most (2 * n + 13) 2 more u w (omega arith) (omega arith) (omega arith) c.put_over.ensures.calls)
