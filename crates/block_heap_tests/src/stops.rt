@@ -114,8 +114,14 @@ load 8 1 81
 fence
 free 8";
 
-/// Words that have no meaning, of an image of four superblocks.
-const OTHERS: &str = "4 7, 9 70, 15 71, 38 72, 1067 73, 1071 74, 1095 75";
+/// Where the kinds of the roots begin in an image of four superblocks, and where it ends.
+const FIRST_KIND: usize = 33_864;
+
+const END: usize = 34_888;
+
+/// Words of an image of four superblocks that have no meaning, and kinds of roots.
+const OTHERS: &str = "4 7, 9 70, 15 71, 38 72, 1067 73, 1071 74, 1095 75, 33864 2, 33873 1, \
+                      34887 2";
 
 /// What a run of the script left.
 #[derive(Drop)]
@@ -210,7 +216,7 @@ fn mixed(alloc: Global, closed: &Closed, seed: u64) -> Result<Vec<u64>, AllocErr
 
 /// Whether the header is good and each block is named by its offset.
 fn are_named(image: &[u64], given: &[Option<Block>]) -> bool {
-    if read_header(image).is_err() {
+    if read_header(image, None).is_err() {
         return false;
     }
     for b in given.iter().flatten() {
@@ -222,23 +228,33 @@ fn are_named(image: &[u64], given: &[Option<Block>]) -> bool {
 }
 
 /// Whether a word of an image of four superblocks stays as it is: one of the header that is not
-/// `used`, or one without a meaning.
+/// `used`, one without a meaning, or the kind of a root.
 fn stays(place: usize) -> bool {
     match place {
         0..8 | 9..16 | 37..40 => true,
         1_064..1_096 => place % 8 > 2,
+        FIRST_KIND..END => true,
         _ => false,
     }
 }
 
-/// Whether the words that stay are as they were, and no more superblocks are taken than the four.
-fn keeps_rest(opened: &[u64], left: &[u64]) -> bool {
-    for place in 0..1_096 {
+/// Whether the words from `from` on that stay are as they were, up to the word `until`.
+fn keeps_between(opened: &[u64], left: &[u64], from: usize, until: usize) -> bool {
+    for place in from..until {
         if stays(place) && at(left, place) != at(opened, place) {
             return false;
         }
     }
-    at(left, 8) <= 4
+    true
+}
+
+/// Whether the words that stay are as they were, no more superblocks are taken than the four, and
+/// there are as many words.
+fn keeps_rest(opened: &[u64], left: &[u64]) -> bool {
+    keeps_between(opened, left, 0, 1_096)
+        && keeps_between(opened, left, FIRST_KIND, END)
+        && at(left, 8) <= 4
+        && left.len() == END
 }
 
 /// Runs the script with a budget of so many steps, and asserts what is so of what is left. Whether
