@@ -1,7 +1,7 @@
 -- A heap for one thread that was opened at rest: what lasts, and that it is right.
 use Rattle.std.proofs.Common.{ℕ, ◌≤◌, None, List, get_or, ap, sym, ◌∙◌, arith}
 use Rattle.heap_model.specs.declared.block.Block.{Block}
-use Rattle.heap_model.specs.Geometry.{largest_capacity, capacity_word}
+use Rattle.heap_model.specs.Geometry.{largest_capacity, capacity_word, kind_word}
 use Rattle.heap_model.proofs.SizeLemmas.{four_blocks}
 use Rattle.line_memory.specs.View.{View}
 use Rattle.heap_seat.specs.declared.fault.Looks.{Looks}
@@ -17,7 +17,10 @@ opened_lasts words held budget p some small opens = record {
   small = small;
   stable = running_stable p opens.running
       (ap (λ (v : View). get_or v.volatile capacity_word 0) opens.words_are ∙ sym opens.capacity)
-      (ap (λ (v : View). get_or v.durable capacity_word 0) opens.words_are ∙ sym opens.capacity);
+      (ap (λ (v : View). get_or v.durable capacity_word 0) opens.words_are ∙ sym opens.capacity)
+      (λ root below.
+      ap (λ (v : View). get_or v.durable (kind_word p.capacity root) 0) opens.words_are
+      ∙ sym (ap (λ (v : View). get_or v.volatile (kind_word p.capacity root) 0) opens.words_are));
   used = record {
     volatile = opens.running.is.used;
     durable = let same = opens.running.settled.used in let fits = opens.running.is.used in omega arith;

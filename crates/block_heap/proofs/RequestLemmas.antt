@@ -3,7 +3,7 @@ use Rattle.std.proofs.Common.{◌≡◌, ℕ, zero, suc, ◌+◌, ◌-◌, ◌<�
 use Rattle.std.specs.Prelude.{slice_index_or, ⊤}
 use Rattle.std.proofs.lemmas.Bool.{cases_lt}
 use Rattle.heap_model.specs.declared.block.Block.{Block}
-use Rattle.heap_model.specs.Geometry.{used_word}
+use Rattle.heap_model.specs.Geometry.{roots, kind_word, used_word}
 use Rattle.heap_model.specs.Sizes.{IsClass, IsLeastClassFor, class_sizes, size_of, largest_small, span_of, last_class}
 use Rattle.heap_model.specs.Words.{head_first}
 use Rattle.line_memory.specs.View.{volatile_at, durable_at}
@@ -65,6 +65,7 @@ pub request_stable : (r : Result (Option Block) Stopped) (p q : Parts) (bytes : 
 request_stable (Ok answer) p q bytes stable leaves_held answers held =
     let kept = stable_kept p.capacity (held_in p) p.words q.words stable leaves_held.as_allocator in
     running_stable q (answer_runs answer bytes p q answers).0 (kept.capacity_is ∙ sym leaves_held.capacity) (kept.capacity_durable ∙ sym leaves_held.capacity)
+    (subst (λ n. (root : ℕ) → root < roots → durable_at q.words (kind_word n root) ≡ volatile_at q.words (kind_word n root)) (sym leaves_held.capacity) kept.kinds_durable)
 request_stable (Err e) p q bytes stable leaves_held answers held =
     subst (λ n. IsStable n q.words (held_in q)) (sym leaves_held.capacity)
     (subst (λ blocks. IsStable p.capacity q.words blocks) (sym held) (stable_kept p.capacity (held_in p) p.words q.words stable leaves_held.as_allocator))

@@ -1,6 +1,6 @@
 -- How the parts of a heap stay right over steps that store nothing, and what follows from them.
 use Rattle.std.proofs.Common.{◌≡◌, ℕ, ◌+◌, ◌*◌, ◌<◌, ◌≤◌, ◌^◌, inl, inr, None, List, length, get_or, set, ap, sym, subst, ◌∙◌, arith, get_or-set_same, get_or-set_other}
-use Rattle.heap_model.specs.Geometry.{lists, head_word, info_word, used_word, capacity_word}
+use Rattle.heap_model.specs.Geometry.{roots, kind_word, lists, head_word, info_word, used_word, capacity_word}
 use Rattle.heap_model.specs.Words.{head_first, head_pops}
 use Rattle.heap_at_rest.proofs.PartLemmas.{part_taken}
 use Rattle.heap_shape.specs.Whole.{IsShape, layout_at}
@@ -64,10 +64,12 @@ is_head p list run less = record {
 }
 
 -- the held blocks of a heap that runs are stable
-pub running_stable : (p : Parts) → IsRunning p → volatile_at p.words capacity_word ≡ p.capacity → durable_at p.words capacity_word ≡ p.capacity → IsStable p.capacity p.words (held_in p)
-running_stable p run volatile durable = record {
+pub running_stable : (p : Parts) → IsRunning p → volatile_at p.words capacity_word ≡ p.capacity → durable_at p.words capacity_word ≡ p.capacity
+    → ((root : ℕ) → root < roots → durable_at p.words (kind_word p.capacity root) ≡ volatile_at p.words (kind_word p.capacity root)) → IsStable p.capacity p.words (held_in p)
+running_stable p run volatile durable kinds = record {
   capacity_is = volatile;
   capacity_durable = durable;
+  kinds_durable = kinds;
   low = volatile_at p.words used_word;
   fits = run.is.used;
   used = omega arith;

@@ -180,14 +180,22 @@ module _ (capacity : ℕ) (held : List Block) where
 
   -- held blocks stay named where neither the capacity nor an info of theirs is stored to, and both values of `used` stay above them
   stable_by : (to : ℕ → Type 0) (v w : View) (stable : IsStable capacity v held) → StoresOnly to v w → (to capacity_word → ⊥)
-      → stable.low ≤ volatile_at w used_word → stable.low ≤ durable_at w used_word
+      → ((word : ℕ) → IsKindWord capacity word → to word → ⊥) → stable.low ≤ volatile_at w used_word → stable.low ≤ durable_at w used_word
       → ((b : Block) (d : ℕ) → Contains held b → HasPartIn capacity b d → to (info_word d) → ⊥) → IsStable capacity w held
-  stable_by to v w stable stores no_capacity used used_durable no_info = record {
+  stable_by to v w stable stores no_capacity no_kind used used_durable no_info = record {
     capacity_is = stores.volatile capacity_word no_capacity ∙ stable.capacity_is;
     capacity_durable = elim (stores.durable capacity_word no_capacity) as (λ _. durable_at w capacity_word ≡ capacity) [
       | inl e ↦ e ∙ stable.capacity_durable
       | inr e ↦ e ∙ stable.capacity_is
     ];
+    kinds_durable = λ root below.
+        let word = kind_word capacity root in
+        let none = no_kind word (record { from = omega arith; until = omega arith }) in
+        let same : volatile_at w word ≡ volatile_at v word = stores.volatile word none in
+        elim (stores.durable word none) as (λ _. durable_at w word ≡ volatile_at w word) [
+          | inl e ↦ e ∙ stable.kinds_durable root below ∙ sym same
+          | inr e ↦ e ∙ sym same
+        ];
     low = stable.low;
     fits = stable.fits;
     used = used;
@@ -216,7 +224,7 @@ module _ (capacity : ℕ) (held : List Block) where
   pub stable_kept : (v w : View) → IsStable capacity v held → StoresAsAllocator capacity held v w → IsStable capacity w held
   stable_kept v w stable as_allocator =
       let fits = stable.fits in
-      stable_by (IsAllocatorWord capacity held) v w stable as_allocator.stores (λ may. not_first capacity_word may (omega arith))
+      stable_by (IsAllocatorWord capacity held) v w stable as_allocator.stores (λ may. not_first capacity_word may (omega arith)) (λ word kind may. not_kind word kind may)
       (let p = stable.used in let q = as_allocator.used in omega arith) (let p = stable.used_durable in let q = as_allocator.used_durable in omega arith)
       (λ b d holds part may.
       let taken = part_taken (low_layout capacity held v stable.low) b d (stable.named b holds) part in
@@ -230,7 +238,8 @@ module _ (capacity : ℕ) (held : List Block) where
       let p = stable.used in
       let q = stable.used_durable in
       let same : volatile_at w used_word ≡ volatile_at v used_word = stores.volatile used_word not_used in
-      stable_by to v w stable stores (λ t. header_apart capacity_word t (omega arith)) (omega arith)
+      stable_by to v w stable stores (λ t. header_apart capacity_word t (omega arith))
+      (λ word kind t. let until = own_until v word stable (own word t) in let from = kind.from in omega arith) (omega arith)
       (elim (stores.durable used_word not_used) as (λ _. stable.low ≤ durable_at w used_word) [ inl e ↦ omega arith | inr e ↦ omega arith ])
       (λ b d holds part t.
       let taken = part_taken (low_layout capacity held v stable.low) b d (stable.named b holds) part in
@@ -246,6 +255,7 @@ module _ (capacity : ℕ) (held : List Block) where
   stable_fewer fewer v are stable = record {
     capacity_is = stable.capacity_is;
     capacity_durable = stable.capacity_durable;
+    kinds_durable = stable.kinds_durable;
     low = stable.low;
     fits = stable.fits;
     used = stable.used;

@@ -1,7 +1,7 @@
 -- What an allocator may store to, and what stays of the held blocks whatever it does.
 use Rattle.std.specs.Prelude.{◌≡◌, ℕ, ◌+◌, ◌<◌, ◌≤◌, List, Option, Some, Contains}
 use Rattle.heap_model.specs.declared.block.Block.{Block}
-use Rattle.heap_model.specs.Geometry.{lists, largest_capacity, head_word, info_word, anchor_word, link_word, used_word, capacity_word, start_word}
+use Rattle.heap_model.specs.Geometry.{lists, roots, largest_capacity, kind_word, head_word, info_word, anchor_word, link_word, used_word, capacity_word, start_word}
 use Rattle.heap_model.specs.Blocks.{IsBlock, IsIn}
 use Rattle.heap_model.specs.Recovered.{HasPartIn}
 use Rattle.heap_shape.specs.Standing.{HasNoHeld}
@@ -29,10 +29,11 @@ pub record StoresAsAllocator (capacity : ℕ) (held : List Block) (v w : View) :
   pub used_durable : durable_at v used_word ≤ durable_at w used_word
   pub fits : UsedFits capacity v → UsedFits capacity w
 
--- each held block is named whichever of its two values each word has: its infos are durable, and it ends below both values of `used`
+-- each held block is named whichever of its two values each word has: its infos are durable, and it ends below both values of `used`; and so are the kinds of the roots
 pub record IsStable (capacity : ℕ) (v : View) (held : List Block) : Type 0 where
   pub capacity_is : volatile_at v capacity_word ≡ capacity
   pub capacity_durable : durable_at v capacity_word ≡ capacity
+  pub kinds_durable : (root : ℕ) → root < roots → durable_at v (kind_word capacity root) ≡ volatile_at v (kind_word capacity root)
   pub low : ℕ
   pub fits : low ≤ capacity
   pub used : low ≤ volatile_at v used_word

@@ -1,9 +1,13 @@
 -- The laws of a seat, of a heap for one thread: each is a fact that can be decided, so that it follows from what lasts.
-use Rattle.std.proofs.Common.{◌≡◌, ℕ, suc, ◌+◌, ◌*◌, ◌^◌, ◌⊎◌, inl, inr, refl, ap, sym, subst, ◌∙◌, arith}
+use Rattle.std.proofs.Common.{◌≡◌, ℕ, suc, ◌<◌, ◌+◌, ◌*◌, ◌^◌, ◌⊎◌, inl, inr, refl, ap, sym, subst, ◌∙◌, arith}
 use Rattle.std.proofs.lemmas.Bool.{cases_eq}
 use Rattle.std.proofs.Math.Logic.{∥∥₁_elim}
 use Rattle.heap_model.specs.declared.block.Block.{Block}
-use Rattle.heap_model.specs.Geometry.{fixed_words, capacity_word, state_word}
+use Rattle.heap_model.specs.Geometry.{roots, fixed_words, capacity_word, state_word, kind_word}
+use Rattle.heap_model.specs.Header.{capacity_of}
+use Rattle.heap_model.proofs.HeaderLemmas.{header_lasts, kinds_last}
+use Rattle.heap_model.proofs.ImageLemmas.{get_or-words_from}
+use Rattle.heap_seat.specs.View.{kind_of}
 use Rattle.heap_model.specs.Durability.{IsTransient}
 use Rattle.heap_model.specs.Image.{Image}
 use Rattle.heap_model.specs.Blocks.{layout_of, AreOneOrApart}
@@ -11,13 +15,13 @@ use Rattle.heap_model.proofs.DecisionLemmas.{at_most, both, is_block}
 use Rattle.heap_model.proofs.PartLemmas.{same_fields}
 use Rattle.line_memory.specs.View.{volatile_at, durable_at}
 use Rattle.heap_seat.specs.Sound.{IsSeat, IsPlaced}
-use Rattle.heap_seat.specs.Words.{IsOwn, MixesOwn, NamesAll, MayRead, HasPicked}
+use Rattle.heap_seat.specs.Words.{IsOwn, MixesOwn, NamesAll, MayRead, HasPicked, StoresKinds}
 use Rattle.std.specs.Prelude.{Bool, true, false, cond, Some}
 use Rattle.block_heap.specs.Closing.{KeepsFixed}
 use Rattle.heap_model.specs.Geometry.{IsFixed}
 use Rattle.block_heap.specs.AllocatorWords.{IsLasting}
 use Rattle.block_heap.specs.Parts.{held_in}
-use Rattle.block_heap.specs.SeqState.{SeqState, all_roots, seat_of, MayLeave}
+use Rattle.block_heap.specs.SeqState.{SeqState, all_roots, kinds_seen, seat_of, MayLeave}
 use Rattle.block_heap.specs.Stable.{root_below, stable_placed, stable_apart, stable_names, own_lasts, own_value}
 
 -- a fact that can be decided, and that does not fail
@@ -72,6 +76,34 @@ mixed_law s image left = record {
         | inl durable ↦ inr durable
         | inr volatile ↦ inl volatile
       ];
+}
+
+-- each image that may be left has the capacity and the kinds of the roots
+left_capacity : (s : SeqState) (image : Image) → MayLeave s image → capacity_of image ≡ s.parts.capacity
+left_capacity s image left = decided (cases_eq (capacity_of image) s.parts.capacity)
+    (λ (lasts : Lasts s). elim (left.others capacity_word (λ e. omega (arith, e)) (header_lasts s.parts.capacity capacity_word (omega arith))) as (λ _. capacity_of image ≡ s.parts.capacity) [
+      | inl e ↦ e ∙ lasts.stable.capacity_durable
+      | inr e ↦ e ∙ lasts.stable.capacity_is
+    ]) s.lasts
+
+left_kind : (s : SeqState) (image : Image) → MayLeave s image → (root : ℕ) → root < roots
+    → image (kind_word s.parts.capacity root) ≡ volatile_at s.parts.words (kind_word s.parts.capacity root)
+left_kind s image left root below =
+    let word = kind_word s.parts.capacity root in
+    decided (cases_eq (image word) (volatile_at s.parts.words word))
+    (λ (lasts : Lasts s). elim (left.others word (λ e. omega (arith, e)) (kinds_last s.parts.capacity root)) as (λ _. image word ≡ volatile_at s.parts.words word) [
+      | inl e ↦ e ∙ lasts.stable.kinds_durable root below
+      | inr e ↦ e
+    ]) s.lasts
+
+pub stored_law : (s : SeqState) (image : Image) → MayLeave s image → StoresKinds (seat_of s) image
+unfolding kinds_seen
+stored_law s image left = record {
+  each = λ root below.
+      subst (λ n. image (kind_word n root) ≡ kind_of (seat_of s) root) (sym (left_capacity s image left))
+      (left_kind s image left root below
+      ∙ sym (get_or-words_from (volatile_at s.parts.words) (kind_word s.parts.capacity 0) roots root 0 below
+      ∙ ap (volatile_at s.parts.words) (omega arith)));
 }
 
 pub named_law : (s : SeqState) (image : Image) → MayLeave s image → NamesAll image (seat_of s).held

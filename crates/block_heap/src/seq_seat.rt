@@ -15,7 +15,7 @@ impl<C: Chance> HeapSeat for SeqHeap<C> {
     ghost use Rattle.block_heap.specs.Order.{IsServedInOrder};
     ghost use Rattle.block_heap.specs.Returns.{ComesBack};
     ghost use Rattle.block_heap.specs.Serving.{DrawsFew, HasRoomFor, RefusesAs};
-    ghost use Rattle.block_heap.specs.Laws.{seat_law, mixed_law, named_law, keeps_none_law, keeps_row_law, may_be_law};
+    ghost use Rattle.block_heap.specs.Laws.{seat_law, mixed_law, named_law, stored_law, keeps_none_law, keeps_row_law, may_be_law};
     ghost use Rattle.block_heap.specs.Closing.{KeepsFixed};
 
     ghost view = { seat_of };
@@ -94,6 +94,8 @@ impl<C: Chance> HeapSeat for SeqHeap<C> {
     ghost seat = { seat_law };
 
     ghost mixed = { mixed_law };
+
+    ghost stored_kinds = { stored_law };
 
     ghost named = { named_law };
 

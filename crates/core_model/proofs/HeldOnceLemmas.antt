@@ -4,7 +4,7 @@ use Rattle.std.proofs.lemmas.Bool.{cases_lt}
 use Rattle.heap_model.specs.declared.block.Block.{Block}
 use Rattle.heap_model.specs.Counting.{times, total}
 use Rattle.heap_model.specs.Blocks.{AreOneOrApart, Names, layout_of}
-use Rattle.heap_model.specs.Geometry.{start_word, old_image_words, image_words}
+use Rattle.heap_model.specs.Geometry.{start_word, superblocks_end, image_words}
 use Rattle.heap_model.proofs.BlockLemmas.{never_overlap, block_inside}
 use Rattle.core_model.specs.Cells.{Cell, used_cell, head_cell, info_cell, anchor_cell, link_cell, root_cell, data_cell, no_cell, superblock_at}
 use Rattle.core_model.specs.Guards.{IsOwn}
@@ -61,7 +61,7 @@ module _ (k : Setup) (words : List ℕ) (views : List View) (sound : Sound k wor
         | inr apart ↦ apart
       ]
 
-  inside : (b : Block) → IsHeldBy views b → (start_word k.capacity 0 ≤ b.first_word) × (b.first_word + b.words ≤ old_image_words k.capacity)
+  inside : (b : Block) → IsHeldBy views b → (start_word k.capacity 0 ≤ b.first_word) × (b.first_word + b.words ≤ superblocks_end k.capacity)
   inside b held =
       let placed = block_inside (layout_of (durable_image k.capacity words)) b (names_of b held).block in
       let c = durable_capacity k words views sound in

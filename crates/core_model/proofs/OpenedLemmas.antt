@@ -3,7 +3,7 @@ use Rattle.std.proofs.Common.{◌≡◌, ◌≢◌, ℕ, ◌+◌, ◌*◌, ◌/�
 use Rattle.std.proofs.lemmas.Bool.{cases_eq, cases_lt}
 use Rattle.std.proofs.lemmas.List.{get_or_append_left, get_or-map, length-map}
 use Rattle.heap_model.specs.declared.block.Block.{Block}
-use Rattle.heap_model.specs.Geometry.{lists, roots, head_word, info_word, anchor_word, link_word, start_word, superblock_words, old_image_words, image_words, largest_capacity_fits}
+use Rattle.heap_model.specs.Geometry.{lists, roots, head_word, info_word, anchor_word, link_word, start_word, superblock_words, superblocks_end, image_words, largest_capacity_fits}
 use Rattle.heap_model.specs.Sizes.{IsClass, words_of_class, blocks_of}
 use Rattle.heap_model.specs.Words.{head_first, head_pops, anchor_state, anchor_first, empty_state, partial_state, full_state, full_anchor, large_info}
 use Rattle.heap_model.specs.Counting.{times, total, one_if, below}
@@ -78,8 +78,8 @@ module _ (words : List ℕ) (held : List Block) (budget seats : ℕ) (block_owne
   anchor_is : (d : ℕ) → d < c → anchor m d ≡ image (anchor_word d)
   anchor_is d less = volatile_is (anchor_cell d) (lt-ltb d c less)
 
-  next_is : (word : ℕ) → start_word c 0 ≤ word → word < old_image_words c → next m word ≡ image word
-  next_is word low high = volatile_is (data_cell word) (and_is (nat_le (start_word c 0) word) (nat_lt word (old_image_words c)) (le-leb (start_word c 0) word low) (lt-ltb word (old_image_words c) high))
+  next_is : (word : ℕ) → start_word c 0 ≤ word → word < superblocks_end c → next m word ≡ image word
+  next_is word low high = volatile_is (data_cell word) (and_is (nat_le (start_word c 0) word) (nat_lt word (superblocks_end c)) (le-leb (start_word c 0) word low) (lt-ltb word (superblocks_end c) high))
 
   -- held blocks
   pub record IsSmall (p : Block) : Type 0 where

@@ -3,7 +3,7 @@ use Rattle.std.proofs.Common.{◌≡◌, ◌≢◌, ℕ, zero, suc, ◌+◌, ◌
 use Rattle.std.proofs.lemmas.Bool.{cases_eq, cases_lt}
 use Rattle.std.proofs.lemmas.List.{get_or-set_other}
 use Rattle.std.proofs.lemmas.Grind.{get_or-set_at}
-use Rattle.heap_model.specs.Geometry.{old_image_words, image_words, start_word, lists, head_word}
+use Rattle.heap_model.specs.Geometry.{superblocks_end, image_words, start_word, lists, head_word}
 use Rattle.core_model.specs.Cells.{Cell, used_cell, head_cell, info_cell, anchor_cell, link_cell, root_cell, data_cell, no_cell, is_cell, index_of, cell_at, header_cell, descriptor_cell}
 use Rattle.core_model.specs.View.{known}
 use Rattle.core_model.specs.Effects.{seen, learn}
@@ -66,12 +66,12 @@ cell_at_index c (root_cell n) is =
     ∙ pick (nat_lt (40 + n) 1064) _ _ (lt-ltb (40 + n) 1064 (omega arith))
     ∙ ap root_cell (let e : 40 + n - 40 ≡ n = omega arith in e)
 cell_at_index c (data_cell word) is =
-    let both = and_both (nat_le (start_word c 0) word) (nat_lt word (old_image_words c)) is in
+    let both = and_both (nat_le (start_word c 0) word) (nat_lt word (superblocks_end c)) is in
     let from : start_word c 0 ≤ word = leb-true (start_word c 0) word both.0 in
     skip (nat_lt word 40) _ _ (not-lt word 40 (omega arith))
     ∙ skip (nat_lt word 1064) _ _ (not-lt word 1064 (omega arith))
     ∙ skip (nat_lt word (start_word c 0)) _ _ (not-lt word (start_word c 0) from)
-    ∙ pick (nat_lt word (old_image_words c)) _ _ both.1
+    ∙ pick (nat_lt word (superblocks_end c)) _ _ both.1
 cell_at_index c no_cell is = absurd (cc)
 
 -- a cell lies in the image
@@ -82,7 +82,7 @@ index_within c (info_cell d) is = let less : d < c = ltb-true d c is in omega ar
 index_within c (anchor_cell d) is = let less : d < c = ltb-true d c is in omega arith
 index_within c (link_cell d) is = let less : d < c = ltb-true d c is in omega arith
 index_within c (root_cell n) is = let less : n < 1024 = ltb-true n 1024 is in omega arith
-index_within c (data_cell word) is = let less = ltb-true word (old_image_words c) (and_both (nat_le (start_word c 0) word) (nat_lt word (old_image_words c)) is).1 in omega arith
+index_within c (data_cell word) is = let less = ltb-true word (superblocks_end c) (and_both (nat_le (start_word c 0) word) (nat_lt word (superblocks_end c)) is).1 in omega arith
 index_within c no_cell is = absurd (cc)
 
 -- the word index of the cell at a word index is that
@@ -95,13 +95,13 @@ index_at c word is = elim (cases_lt word 40) [
       | inl line ↦ via (descriptor_cell ((word - 1064) / 8) ((word - 1064) % 8))
           (skip (nat_lt word 40) _ _ (not-lt word 40 (omega arith)) ∙ skip (nat_lt word 1064) _ _ (not-lt word 1064 past_roots) ∙ pick (nat_lt word (start_word c 0)) _ _ (lt-ltb word (start_word c 0) line))
           (in_the_line past_roots)
-      | inr past_lines ↦ elim (cases_lt word (old_image_words c)) [
+      | inr past_lines ↦ elim (cases_lt word (superblocks_end c)) [
         | inl block ↦ via (data_cell word)
             (skip (nat_lt word 40) _ _ (not-lt word 40 (omega arith)) ∙ skip (nat_lt word 1064) _ _ (not-lt word 1064 past_roots) ∙ skip (nat_lt word (start_word c 0)) _ _ (not-lt word (start_word c 0) past_lines)
-            ∙ pick (nat_lt word (old_image_words c)) _ _ (lt-ltb word (old_image_words c) block)) (λ _. refl)
+            ∙ pick (nat_lt word (superblocks_end c)) _ _ (lt-ltb word (superblocks_end c) block)) (λ _. refl)
         | inr beyond ↦ via no_cell
             (skip (nat_lt word 40) _ _ (not-lt word 40 (omega arith)) ∙ skip (nat_lt word 1064) _ _ (not-lt word 1064 past_roots) ∙ skip (nat_lt word (start_word c 0)) _ _ (not-lt word (start_word c 0) past_lines)
-            ∙ skip (nat_lt word (old_image_words c)) _ _ (not-lt word (old_image_words c) beyond)) (λ e. absurd (true≢false (sym e)))
+            ∙ skip (nat_lt word (superblocks_end c)) _ _ (not-lt word (superblocks_end c) beyond)) (λ e. absurd (true≢false (sym e)))
       ]
     ]
   ]
@@ -151,13 +151,13 @@ cell_there c word = elim (cases_lt word 40) [
       | inl line ↦ via (descriptor_cell ((word - 1064) / 8) ((word - 1064) % 8))
           (skip (nat_lt word 40) _ _ (not-lt word 40 (omega arith)) ∙ skip (nat_lt word 1064) _ _ (not-lt word 1064 past_roots) ∙ pick (nat_lt word (start_word c 0)) _ _ (lt-ltb word (start_word c 0) line))
           (in_the_line ((word - 1064) / 8) (nat_eq ((word - 1064) % 8) 0) (nat_eq ((word - 1064) % 8) 1) (nat_eq ((word - 1064) % 8) 2) (omega arith))
-      | inr past_lines ↦ elim (cases_lt word (old_image_words c)) [
+      | inr past_lines ↦ elim (cases_lt word (superblocks_end c)) [
         | inl block ↦ via (data_cell word)
             (skip (nat_lt word 40) _ _ (not-lt word 40 (omega arith)) ∙ skip (nat_lt word 1064) _ _ (not-lt word 1064 past_roots) ∙ skip (nat_lt word (start_word c 0)) _ _ (not-lt word (start_word c 0) past_lines)
-            ∙ pick (nat_lt word (old_image_words c)) _ _ (lt-ltb word (old_image_words c) block)) (inl (and_is (nat_le (start_word c 0) word) (nat_lt word (old_image_words c)) (le-leb (start_word c 0) word past_lines) (lt-ltb word (old_image_words c) block)))
+            ∙ pick (nat_lt word (superblocks_end c)) _ _ (lt-ltb word (superblocks_end c) block)) (inl (and_is (nat_le (start_word c 0) word) (nat_lt word (superblocks_end c)) (le-leb (start_word c 0) word past_lines) (lt-ltb word (superblocks_end c) block)))
         | inr beyond ↦ via no_cell
             (skip (nat_lt word 40) _ _ (not-lt word 40 (omega arith)) ∙ skip (nat_lt word 1064) _ _ (not-lt word 1064 past_roots) ∙ skip (nat_lt word (start_word c 0)) _ _ (not-lt word (start_word c 0) past_lines)
-            ∙ skip (nat_lt word (old_image_words c)) _ _ (not-lt word (old_image_words c) beyond)) (inr refl)
+            ∙ skip (nat_lt word (superblocks_end c)) _ _ (not-lt word (superblocks_end c) beyond)) (inr refl)
       ]
     ]
   ]

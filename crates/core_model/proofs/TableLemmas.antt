@@ -2,7 +2,7 @@
 use Rattle.std.proofs.Common.{◌≡◌, ◌≢◌, ℕ, ◌+◌, ◌*◌, ◌<◌, ◌≤◌, inl, inr, ◌⊎◌, Bool, true, false, cond, nat_lt, nat_le, List, get_or, set, length, refl, ap, sym, ◌∙◌, ltb-true, leb-true, true≢false, arith}
 use Rattle.std.proofs.lemmas.List.{get_or-set_same, get_or-set_other}
 use Rattle.std.proofs.lemmas.Grind.{get_or-set_at}
-use Rattle.heap_model.specs.Geometry.{image_words, old_image_words, start_word, IsFixed, in_header, in_descriptor, lists}
+use Rattle.heap_model.specs.Geometry.{image_words, superblocks_end, start_word, IsFixed, in_header, in_descriptor, lists}
 use Rattle.core_model.specs.Cells.{Cell, used_cell, head_cell, info_cell, anchor_cell, link_cell, root_cell, data_cell, no_cell, same_cell, is_cell, index_of, cell_at}
 use Rattle.core_model.specs.Memory.{StepPlace, volatile_at, durable_at, tickets, write, with_cell, table_index, table_length, memory_of}
 use Rattle.core_model.proofs.MemoryLemmas.{same-true, same-refl}
@@ -84,7 +84,7 @@ no_cell_at c word (inl first) (info_cell d) e z = omega (arith, z, first)
 no_cell_at c word (inl first) (anchor_cell d) e z = omega (arith, z, first)
 no_cell_at c word (inl first) (link_cell d) e z = omega (arith, z, first)
 no_cell_at c word (inl first) (root_cell n) e z = omega (arith, z, first)
-no_cell_at c word (inl first) (data_cell n) e z = let low : start_word c 0 ≤ n = leb-true (start_word c 0) n (and_both (nat_le (start_word c 0) n) (nat_lt n (old_image_words c)) e).0 in omega (arith, z, first, low)
+no_cell_at c word (inl first) (data_cell n) e z = let low : start_word c 0 ≤ n = leb-true (start_word c 0) n (and_both (nat_le (start_word c 0) n) (nat_lt n (superblocks_end c)) e).0 in omega (arith, z, first, low)
 no_cell_at c word (inl first) no_cell e z = true≢false (sym e)
 no_cell_at c word (inr (inl (in_header w past before_roots not_used around))) used_cell e z = not_used (sym z)
 no_cell_at c word (inr (inl (in_header w past before_roots not_used around))) (head_cell list) e z = let less : list < lists = ltb-true list lists e in elim around as (λ _. ⊥) [ inl low ↦ omega (arith, z, less, low) | inr high ↦ omega (arith, z, less, high) ]
@@ -92,7 +92,7 @@ no_cell_at c word (inr (inl (in_header w past before_roots not_used around))) (i
 no_cell_at c word (inr (inl (in_header w past before_roots not_used around))) (anchor_cell d) e z = omega (arith, z, before_roots)
 no_cell_at c word (inr (inl (in_header w past before_roots not_used around))) (link_cell d) e z = omega (arith, z, before_roots)
 no_cell_at c word (inr (inl (in_header w past before_roots not_used around))) (root_cell n) e z = omega (arith, z, before_roots)
-no_cell_at c word (inr (inl (in_header w past before_roots not_used around))) (data_cell n) e z = let low : start_word c 0 ≤ n = leb-true (start_word c 0) n (and_both (nat_le (start_word c 0) n) (nat_lt n (old_image_words c)) e).0 in omega (arith, z, before_roots, low)
+no_cell_at c word (inr (inl (in_header w past before_roots not_used around))) (data_cell n) e z = let low : start_word c 0 ≤ n = leb-true (start_word c 0) n (and_both (nat_le (start_word c 0) n) (nat_lt n (superblocks_end c)) e).0 in omega (arith, z, before_roots, low)
 no_cell_at c word (inr (inl (in_header w past before_roots not_used around))) no_cell e z = true≢false (sym e)
 no_cell_at c word (inr (inl (in_descriptor d at w less low high same))) used_cell e z = omega (arith, z, same)
 no_cell_at c word (inr (inl (in_descriptor d at w less low high same))) (head_cell list) e z = let l : list < lists = ltb-true list lists e in omega (arith, z, same, l)
@@ -100,7 +100,7 @@ no_cell_at c word (inr (inl (in_descriptor d at w less low high same))) (info_ce
 no_cell_at c word (inr (inl (in_descriptor d at w less low high same))) (anchor_cell f) e z = omega (arith, z, same, low, high)
 no_cell_at c word (inr (inl (in_descriptor d at w less low high same))) (link_cell f) e z = omega (arith, z, same, low, high)
 no_cell_at c word (inr (inl (in_descriptor d at w less low high same))) (root_cell n) e z = let l : n < 1024 = ltb-true n 1024 e in omega (arith, z, same, l)
-no_cell_at c word (inr (inl (in_descriptor d at w less low high same))) (data_cell n) e z = let l : start_word c 0 ≤ n = leb-true (start_word c 0) n (and_both (nat_le (start_word c 0) n) (nat_lt n (old_image_words c)) e).0 in omega (arith, z, same, l, less, high)
+no_cell_at c word (inr (inl (in_descriptor d at w less low high same))) (data_cell n) e z = let l : start_word c 0 ≤ n = leb-true (start_word c 0) n (and_both (nat_le (start_word c 0) n) (nat_lt n (superblocks_end c)) e).0 in omega (arith, z, same, l, less, high)
 no_cell_at c word (inr (inl (in_descriptor d at w less low high same))) no_cell e z = true≢false (sym e)
 no_cell_at c word (inr (inr kind)) used_cell e z = let from = kind.from in omega (arith, z)
 no_cell_at c word (inr (inr kind)) (head_cell list) e z = let from = kind.from in let less : list < lists = ltb-true list lists e in omega (arith, z)
@@ -108,7 +108,7 @@ no_cell_at c word (inr (inr kind)) (info_cell d) e z = let from = kind.from in l
 no_cell_at c word (inr (inr kind)) (anchor_cell d) e z = let from = kind.from in let less : d < c = ltb-true d c e in omega (arith, z)
 no_cell_at c word (inr (inr kind)) (link_cell d) e z = let from = kind.from in let less : d < c = ltb-true d c e in omega (arith, z)
 no_cell_at c word (inr (inr kind)) (root_cell n) e z = let from = kind.from in let less : n < 1024 = ltb-true n 1024 e in omega (arith, z)
-no_cell_at c word (inr (inr kind)) (data_cell n) e z = let from = kind.from in let less : n < old_image_words c = ltb-true n (old_image_words c) (and_both (nat_le (start_word c 0) n) (nat_lt n (old_image_words c)) e).1 in omega (arith, z)
+no_cell_at c word (inr (inr kind)) (data_cell n) e z = let from = kind.from in let less : n < superblocks_end c = ltb-true n (superblocks_end c) (and_both (nat_le (start_word c 0) n) (nat_lt n (superblocks_end c)) e).1 in omega (arith, z)
 no_cell_at c word (inr (inr kind)) no_cell e z = true≢false (sym e)
 
 -- and it lies in the image

@@ -1,6 +1,6 @@
 -- The words that steps work on, by what they are, and where each stands in an image. Here alone cells and word indices meet.
 use Rattle.std.specs.Prelude.{ℕ, ◌-◌, ◌/◌, ◌%◌, Bool, true, false, ◌&&◌, cond, nat_eq, nat_lt, nat_le}
-use Rattle.heap_model.specs.Geometry.{lists, roots, fixed_words, used_word, head_word, root_word, info_word, anchor_word, link_word, superblock_words, start_word, old_image_words}
+use Rattle.heap_model.specs.Geometry.{lists, roots, fixed_words, used_word, head_word, root_word, info_word, anchor_word, link_word, superblock_words, start_word, superblocks_end}
 
 -- a word: the mark of taken superblocks, the head of a list, the info, the anchor or the link of a descriptor, a root, or a word of a superblock by its word index; or none that steps work on
 pub data Cell : Type 0 where
@@ -37,7 +37,7 @@ is_cell capacity (info_cell d) = nat_lt d capacity
 is_cell capacity (anchor_cell d) = nat_lt d capacity
 is_cell capacity (link_cell d) = nat_lt d capacity
 is_cell capacity (root_cell i) = nat_lt i roots
-is_cell capacity (data_cell word) = nat_le (start_word capacity 0) word && nat_lt word (old_image_words capacity)
+is_cell capacity (data_cell word) = nat_le (start_word capacity 0) word && nat_lt word (superblocks_end capacity)
 is_cell capacity no_cell = false
 
 -- its word index
@@ -66,4 +66,4 @@ cell_at capacity word =
     cond (nat_lt word (root_word 0)) (header_cell word)
     (cond (nat_lt word fixed_words) (root_cell (word - root_word 0))
     (cond (nat_lt word (start_word capacity 0)) (descriptor_cell ((word - fixed_words) / 8) ((word - fixed_words) % 8))
-    (cond (nat_lt word (old_image_words capacity)) (data_cell word) no_cell)))
+    (cond (nat_lt word (superblocks_end capacity)) (data_cell word) no_cell)))

@@ -1,7 +1,7 @@
 -- The blocks that seats hold, and that every mixed image of the shared words names each of them.
 use Rattle.std.specs.Prelude.{◌≡◌, ◌≢◌, ℕ, ◌+◌, ◌*◌, ◌<◌, ◌≤◌, ◌⊎◌, cond, nat_lt, List, get_or, length}
 use Rattle.heap_model.specs.declared.block.Block.{Block}
-use Rattle.heap_model.specs.Geometry.{start_word, superblock_words, old_image_words, image_words}
+use Rattle.heap_model.specs.Geometry.{start_word, superblock_words, superblocks_end, image_words}
 use Rattle.heap_model.specs.Sizes.{words_of_class}
 use Rattle.heap_model.specs.Blocks.{AreOneOrApart}
 use Rattle.heap_model.specs.Counting.{times, total}
@@ -37,7 +37,7 @@ pub record AreHeldOnce (capacity : ℕ) (views : List View) : Type 0 where
   pub by_two : (i j : ℕ) (v u : View) → j ≢ i → i < length views → get_or views i v ≡ v → j < length views → get_or views j u ≡ u
       → (a b : Block) → IsHeld v a → IsHeld u b → AreApart a b
   pub by_any : (a b : Block) → IsHeldBy views a → IsHeldBy views b → AreOneOrApart a b
-  pub inside : (b : Block) → IsHeldBy views b → (start_word capacity 0 ≤ b.first_word) × (b.first_word + b.words ≤ old_image_words capacity)
+  pub inside : (b : Block) → IsHeldBy views b → (start_word capacity 0 ≤ b.first_word) × (b.first_word + b.words ≤ superblocks_end capacity)
 
 -- the volatile words of the image, and the durable ones
 abbrev pub volatile_image : ℕ → List ℕ → Image

@@ -1,7 +1,7 @@
 -- Chains of blocks as the core reads them, and what it keeps once the blocks of a chain are in a cache.
 use Rattle.std.proofs.Common.{◌≡◌, ◌≢◌, ℕ, ◌+◌, ◌<◌, ◌≤◌, List, [], ◌∷◌, get_or, set, length, refl, ap, sym, le-leb, lt-ltb, arith}
 use Rattle.heap_model.specs.Chains.{Walks}
-use Rattle.heap_model.specs.Geometry.{lists, start_word, old_image_words}
+use Rattle.heap_model.specs.Geometry.{lists, start_word, superblocks_end}
 use Rattle.heap_model.specs.Sizes.{IsClass, words_of_class}
 use Rattle.heap_model.specs.Counting.{times, total}
 use Rattle.heap_model.proofs.SizeLemmas.{two_words}
@@ -24,11 +24,11 @@ use Rattle.crash_core.proofs.ShareLemmas.{no_place}
 use Rattle.crash_core.proofs.GivenLemmas.{given_mine, given_theirs, walks_other}
 use Rattle.crash_core.proofs.WordLemmas.{read_is}
 
-within : (n d b words : ℕ) → start_word n d ≤ b → b + words ≤ start_word n (d + 1) → 2 ≤ words → d < n → (start_word n 0 ≤ b) × (b < old_image_words n)
+within : (n d b words : ℕ) → start_word n d ≤ b → b + words ≤ start_word n (d + 1) → 2 ≤ words → d < n → (start_word n 0 ≤ b) × (b < superblocks_end n)
 within n d b words low high two less = (omega arith, omega arith)
 
 -- a block of a cut superblock lies in the image
-pub cut_range : (n class d b : ℕ) → IsClass class → d < n → IsCutBlock n class d b → (start_word n 0 ≤ b) × (b < old_image_words n)
+pub cut_range : (n class d b : ℕ) → IsClass class → d < n → IsCutBlock n class d b → (start_word n 0 ≤ b) × (b < superblocks_end n)
 cut_range n class d b is less cut = let ends = inside_of n class d b is cut in within n d b (words_of_class class) ends.0 ends.1 (two_words class is) less
 
 pub none_of : {A : Type 0} (xs : List A) → length xs ≡ 0 → xs ≡ []
@@ -41,8 +41,8 @@ walk_first f from (x ∷ xs) some walks = sym walks.0
 
 module _ (c : CoreState) (k : Setup) (views : List View) (keeps : KeepsViews c k views) where
   -- the first word of a block, as it stands in the table
-  pub raw_next : (b : ℕ) → start_word k.capacity 0 ≤ b → b < old_image_words k.capacity → next (memory_in c k) b ≡ get_or c.words.items b 0
-  raw_next b from until = read_is k.capacity c.words.items (volatile_at (data_cell b)) (and_is _ _ (le-leb (start_word k.capacity 0) b from) (lt-ltb b (old_image_words k.capacity) until))
+  pub raw_next : (b : ℕ) → start_word k.capacity 0 ≤ b → b < superblocks_end k.capacity → next (memory_in c k) b ≡ get_or c.words.items b 0
+  raw_next b from until = read_is k.capacity c.words.items (volatile_at (data_cell b)) (and_is _ _ (le-leb (start_word k.capacity 0) b from) (lt-ltb b (superblocks_end k.capacity) until))
 
   -- blocks of a cut superblock that are linked are the chain that the table leads along
   pub chain_is : (class d from : ℕ) (bs : List ℕ) → IsClass class → d < k.capacity → ((b : ℕ) → 0 < times b bs → IsCutBlock k.capacity class d b) → Walks (next (memory_in c k)) from bs

@@ -2,7 +2,7 @@
 use Rattle.std.proofs.Common.{◌≡◌, ◌≢◌, ℕ, zero, suc, ◌+◌, ◌<◌, ◌≤◌, ◌↔◌, inl, inr, true, nat_eq, List, [], ◌∷◌, get_or, set, length, refl, ap, sym, subst, ◌∙◌, length-set, eq-eqb, eqb-true, arith}
 use Rattle.std.proofs.lemmas.Bool.{cases_eq, cases_lt}
 use Rattle.std.specs.Vec.{with_item}
-use Rattle.heap_model.specs.Geometry.{lists, start_word, old_image_words}
+use Rattle.heap_model.specs.Geometry.{lists, start_word, superblocks_end}
 use Rattle.heap_model.specs.Sizes.{IsClass}
 use Rattle.heap_model.specs.Counting.{times, total, without}
 use Rattle.crash_core.specs.declared.owners.BlockPlace.{BlockPlace}
@@ -71,8 +71,8 @@ module _ (c : CoreState) (k : Setup) (views : List View) (i : ℕ) (v : View) (t
   ]
 
   -- a cache is no longer than the image
-  pub cache_short : (class : ℕ) → length (of_class v.caches class) ≤ old_image_words c.geometry.capacity
-  cache_short class = short (old_image_words c.geometry.capacity) (of_class v.caches class)
+  pub cache_short : (class : ℕ) → length (of_class v.caches class) ≤ superblocks_end c.geometry.capacity
+  cache_short class = short (superblocks_end c.geometry.capacity) (of_class v.caches class)
       (λ b some. let s = in_lists_total b class v.caches some in (moves.block_range c k views i v t keeps below at at_t b (omega arith)).1)
       (λ b. elim (cases_lt 0 (times b (of_class v.caches class))) [
         | inl some ↦ let o = once b in let l = list_at_most b class v.caches in omega arith
@@ -89,7 +89,7 @@ module _ (c : CoreState) (k : Setup) (views : List View) (i : ℕ) (v : View) (t
     some_block : 0 < times_block block v
     some_block = let s = in_small in omega arith
 
-    pub held_range : (start_word c.geometry.capacity 0 ≤ block) × (block < old_image_words c.geometry.capacity)
+    pub held_range : (start_word c.geometry.capacity 0 ≤ block) × (block < superblocks_end c.geometry.capacity)
     held_range = moves.block_range c k views i v t keeps below at at_t block some_block
 
     pub held_is : IsClass (info (memory_at c) (superblock_at c.geometry.capacity block))
@@ -120,7 +120,7 @@ module _ (c : CoreState) (k : Setup) (views : List View) (i : ℕ) (v : View) (t
       count_is : length (of_class v.caches class) ≡ e.count
       count_is = kept.caches.count class e at_e less
 
-      pub count_short : e.count ≤ old_image_words c.geometry.capacity
+      pub count_short : e.count ≤ superblocks_end c.geometry.capacity
       count_short = let n = count_is in let s = cache_short class in omega arith
 
       to_may : (1 ≤ length (of_class v.caches class) → next (memory_in c k) block ≡ first_of (of_class v.caches class)) → MayFree (memory_in c k) v block

@@ -4,7 +4,7 @@ use Rattle.std.proofs.lemmas.Bool.{cases_lt}
 use Rattle.std.specs.Prelude.{Vec}
 use Rattle.std.specs.declared.alloc.Global.{Global}
 use Rattle.std.specs.Vec.{with_item}
-use Rattle.heap_model.specs.Geometry.{start_word, old_image_words, anchor_word}
+use Rattle.heap_model.specs.Geometry.{start_word, superblocks_end, anchor_word}
 use Rattle.heap_model.specs.Sizes.{IsClass, words_of_class, blocks_of}
 use Rattle.heap_model.specs.Counting.{times}
 use Rattle.heap_model.specs.Words.{anchor_state, anchor_first, anchor_count, full_anchor}
@@ -307,7 +307,7 @@ give_fits c i d t word found core less at_t ticket some decides found_is as_it_w
 pub record BatchFits (c : CoreState) (t : SeatNotes) : Type 0 where
   pub is_class : IsClass t.batch.class
   pub below : t.batch.descriptor < c.geometry.capacity
-  pub last : (start_word c.geometry.capacity 0 ≤ t.batch.last) × (t.batch.last < old_image_words c.geometry.capacity)
+  pub last : (start_word c.geometry.capacity 0 ≤ t.batch.last) × (t.batch.last < superblocks_end c.geometry.capacity)
 
 pub batch_fits : (c : CoreState) (i : ℕ) (t : SeatNotes) → IsCore c → i < length c.seats.items → get_or c.seats.items i t ≡ t → t.batch.count ≢ 0 → BatchFits c t
 batch_fits c i t core less at_t some =

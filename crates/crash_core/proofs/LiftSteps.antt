@@ -1,7 +1,7 @@
 -- The core when the first block of a cache goes behind the batch.
 use Rattle.std.proofs.Common.{◌≡◌, ◌≢◌, ℕ, ◌+◌, ◌-◌, ◌<◌, ◌≤◌, ◌↔◌, true, false, cond, nat_eq, List, [], ◌∷◌, ◌++◌, get_or, set, length, refl, ap, ap₂, sym, subst, ◌∙◌, length-set, eq-eqb, eqb-true, true≢false, arith}
 use Rattle.std.specs.Vec.{with_item}
-use Rattle.heap_model.specs.Geometry.{start_word, old_image_words}
+use Rattle.heap_model.specs.Geometry.{start_word, superblocks_end}
 use Rattle.heap_model.specs.Counting.{times}
 use Rattle.crash_core.specs.declared.owners.BlockPlace.TheVariants as place
 use Rattle.crash_core.specs.declared.owners.Cache.{Cache}
@@ -50,12 +50,12 @@ module _ (c : CoreState) (k : Setup) (views : List View) (i : ℕ) (v : View) (t
   good : Good k (memory_in c k) views
   good = keeps.sound.good
 
-  pub last_range : t.batch.count ≢ 0 → (start_word c.geometry.capacity 0 ≤ t.batch.last) × (t.batch.last < old_image_words c.geometry.capacity)
-  last_range some = subst (λ b. (start_word c.geometry.capacity 0 ≤ b) × (b < old_image_words c.geometry.capacity)) kept.batch.last
+  pub last_range : t.batch.count ≢ 0 → (start_word c.geometry.capacity 0 ≤ t.batch.last) × (t.batch.last < superblocks_end c.geometry.capacity)
+  last_range some = subst (λ b. (start_word c.geometry.capacity 0 ≤ b) × (b < superblocks_end c.geometry.capacity)) kept.batch.last
       (moves.block_range c k views i v t keeps below at at_t (last_of v.batch.blocks) (let n = kept.batch.count in let l = last_there v.batch.blocks (omega arith) in omega arith))
 
-  pub batch_short : t.batch.count ≤ old_image_words c.geometry.capacity
-  batch_short = let n = kept.batch.count in let s = short (old_image_words c.geometry.capacity) v.batch.blocks
+  pub batch_short : t.batch.count ≤ superblocks_end c.geometry.capacity
+  batch_short = let n = kept.batch.count in let s = short (superblocks_end c.geometry.capacity) v.batch.blocks
       (λ b some. (moves.block_range c k views i v t keeps below at at_t b (omega arith)).1)
       (λ b. let o = once c k views i v t keeps below at at_t b in omega arith) in omega arith
 

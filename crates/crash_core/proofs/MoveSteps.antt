@@ -1,7 +1,7 @@
 -- The core when a block goes from a cache to what its seat holds.
 use Rattle.std.proofs.Common.{◌≡◌, ◌≢◌, ℕ, ◌+◌, ◌-◌, ◌<◌, ◌≤◌, ◌↔◌, true, nat_eq, nat_lt, List, [], ◌∷◌, get_or, set, length, refl, ap, sym, subst, ◌∙◌, length-set, lt-ltb, ltb-true, arith}
 use Rattle.std.specs.Vec.{with_item}
-use Rattle.heap_model.specs.Geometry.{lists, start_word, old_image_words}
+use Rattle.heap_model.specs.Geometry.{lists, start_word, superblocks_end}
 use Rattle.heap_model.specs.Sizes.{words_of_class, last_class}
 use Rattle.heap_model.specs.Counting.{times, total, one_if}
 use Rattle.heap_model.specs.Chains.{Walks}
@@ -54,7 +54,7 @@ module _ (c : CoreState) (k : Setup) (views : List View) (i : ℕ) (v : View) (t
   good = keeps.sound.good
 
   -- a block of a seat lies in the superblocks
-  pub block_range : (b : ℕ) → 0 < times_block b v → (start_word c.geometry.capacity 0 ≤ b) × (b < old_image_words c.geometry.capacity)
+  pub block_range : (b : ℕ) → 0 < times_block b v → (start_word c.geometry.capacity 0 ≤ b) × (b < superblocks_end c.geometry.capacity)
   block_range b some =
       let tot = total_at (times_block b) views i v below at in
       let inside = good.shaped.chained.inside b (omega arith) in
@@ -65,7 +65,7 @@ module _ (c : CoreState) (k : Setup) (views : List View) (i : ℕ) (v : View) (t
       let two = two_words (info (memory_in c k) (superblock_at k.capacity b)) is_class in let cap = keeps.capacity in
       within (superblock_at k.capacity b) low high (omega arith) (omega arith) where
         within : (d : ℕ) → start_word k.capacity d ≤ b → b + words_of_class (info (memory_in c k) (superblock_at k.capacity b)) ≤ start_word k.capacity (d + 1) → 0 < words_of_class (info (memory_in c k) (superblock_at k.capacity b)) → d < k.capacity
-            → (start_word c.geometry.capacity 0 ≤ b) × (b < old_image_words c.geometry.capacity)
+            → (start_word c.geometry.capacity 0 ≤ b) × (b < superblocks_end c.geometry.capacity)
         within d low high two less = let cap = keeps.capacity in (omega arith, omega arith)
 
   module _ (class : ℕ) where
@@ -106,7 +106,7 @@ module _ (c : CoreState) (k : Setup) (views : List View) (i : ℕ) (v : View) (t
       pub in_caches : 0 < total (times e.first) v.caches
       in_caches = in_lists_total e.first class v.caches in_cache
 
-      pub first_range : (start_word c.geometry.capacity 0 ≤ e.first) × (e.first < old_image_words c.geometry.capacity)
+      pub first_range : (start_word c.geometry.capacity 0 ≤ e.first) × (e.first < superblocks_end c.geometry.capacity)
       first_range = block_range e.first (let s = in_caches in omega arith)
 
       pub first_long : e.first < length c.blocks.items
@@ -178,7 +178,7 @@ pub record AllocFits (c : CoreState) (class : ℕ) (e : Cache) : Type 0 where
   pub last : class < lists
   pub count : 1 ≤ e.count
   pub from : start_word c.geometry.capacity 0 ≤ e.first
-  pub until : e.first < old_image_words c.geometry.capacity
+  pub until : e.first < superblocks_end c.geometry.capacity
   pub long : e.first < length c.blocks.items
 
 pub alloc_fits : (c : CoreState) (i class : ℕ) (t : SeatNotes) → IsCore c → i < length c.seats.items → get_or c.seats.items i t ≡ t → Decides c i (λ m v. MayAlloc v class) true → AllocFits c class (get_or t.caches class no_cache)

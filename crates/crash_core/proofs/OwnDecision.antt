@@ -2,7 +2,7 @@
 use Rattle.std.proofs.Common.{◌≡◌, ℕ, zero, suc, ◌+◌, ◌-◌, ◌*◌, ◌/◌, ◌<◌, ◌≤◌, ◌↔◌, inl, inr, Bool, true, false, ◌&&◌, nat_eq, nat_lt, nat_le, List, [], ◌∷◌, get_or, length, refl, ap, sym, subst, ◌∙◌, le-leb, lt-ltb, true≢false, arith}
 use Rattle.std.proofs.Math.Nat.{div-mul-le_self, lt-div-mul-add}
 use Rattle.std.proofs.lemmas.Bool.{cases_eq, cases_lt, cases_order}
-use Rattle.heap_model.specs.Geometry.{roots, start_word, old_image_words}
+use Rattle.heap_model.specs.Geometry.{roots, start_word, superblocks_end}
 use Rattle.heap_model.specs.Sizes.{IsClass, words_of_class}
 use Rattle.heap_model.specs.Counting.{times, total, one_if}
 use Rattle.heap_model.proofs.CountingLemmas.{one_if_true}
@@ -78,7 +78,7 @@ module _ (c : CoreState) (k : Setup) (views : List View) (i : ℕ) (v : View) (t
   own_link word d x b part x_is is = own_is word (link_cell d) part b (one_true b (times_own v (link_cell d))
       (let s = share_is d in let p = s.is_raw in let q = s.is_split in let r = s.is_cutting in let o = s.is_classed in let e = ap (λ y. raw_in y + split_in y + cutting_in y + classed_in y) x_is in omega arith))
 
-  module _ (word : ℕ) (from : start_word c.geometry.capacity 0 ≤ word) (until : word < old_image_words c.geometry.capacity) (d : ℕ) (d_is : d ≡ superblock_at c.geometry.capacity word) (x : Share)
+  module _ (word : ℕ) (from : start_word c.geometry.capacity 0 ≤ word) (until : word < superblocks_end c.geometry.capacity) (d : ℕ) (d_is : d ≡ superblock_at c.geometry.capacity word) (x : Share)
       (x_is : x ≡ share_for i (get_or c.superblocks.items d no_superblock)) where
     d_v : superblock_at v.setup.capacity word ≡ d
     d_v = ap (λ n. superblock_at n word) (seat_capacity c k views i v keeps below at) ∙ sym d_is

@@ -1,7 +1,7 @@
 //! How blocks go between what a seat holds, its caches and its batch.
 
 ghost use Rattle.std.specs.Prelude.{◌≡◌, ◌<◌, ◌≤◌, length, get_or, cond, nat_eq, true};
-ghost use Rattle.heap_model.specs.Geometry.{start_word, old_image_words};
+ghost use Rattle.heap_model.specs.Geometry.{start_word, superblocks_end};
 ghost use Rattle.core_model.specs.Cells.{superblock_at};
 ghost use Rattle.core_model.specs.Memory.{info};
 ghost use Rattle.core_model.specs.Effects.{after_alloc, after_free, after_lift};
@@ -61,7 +61,7 @@ fn held_class(core: &CoreState, seat: usize, block: u64) -> u64
     ensures some { 1 ≤ result }
     ensures last { result ≤ LAST_CLASS }
     ensures from { start_word core.now.geometry.capacity 0 ≤ block }
-    ensures until { block < old_image_words core.now.geometry.capacity }
+    ensures until { block < superblocks_end core.now.geometry.capacity }
 {
     let d = (block - core.geometry.start(0)) / SUPERBLOCK_WORDS;
     info(core, d)

@@ -1,7 +1,7 @@
 //! Which words are a seat's own.
 
 ghost use Rattle.std.specs.Prelude.{◌<◌, ◌≤◌, length};
-ghost use Rattle.heap_model.specs.Geometry.{start_word, old_image_words};
+ghost use Rattle.heap_model.specs.Geometry.{start_word, superblocks_end};
 ghost use Rattle.core_model.specs.Cells.{cell_at, data_cell};
 ghost use Rattle.core_model.specs.Guards.{IsOwn};
 ghost use Rattle.crash_core.specs.OwnWords.{IsPart};
@@ -29,7 +29,7 @@ pub fn part_at(geometry: Geometry, word: u64) -> Part
             i: word - ROOT_WORD,
         };
     }
-    if word >= geometry.old_length() {
+    if word >= geometry.end() {
         return Part::Shared;
     }
     if word >= geometry.start(0) {
@@ -66,7 +66,7 @@ fn is_own_data(core: &CoreState, seat: usize, word: u64) -> bool
     requires core { IsCore core.now }
     requires seat { seat < length core.now.seats.items }
     requires from { start_word core.now.geometry.capacity 0 ≤ word }
-    requires until { word < old_image_words core.now.geometry.capacity }
+    requires until { word < superblocks_end core.now.geometry.capacity }
     ensures { Decides core.now seat (λ m v. IsOwn v (data_cell word)) result }
 {
     let d = (word - core.geometry.start(0)) / SUPERBLOCK_WORDS;

@@ -1,7 +1,7 @@
 //! The words that steps look at, by what they are.
 
 ghost use Rattle.std.specs.Prelude.{◌≡◌, ◌<◌, ◌≤◌};
-ghost use Rattle.heap_model.specs.Geometry.{start_word, old_image_words};
+ghost use Rattle.heap_model.specs.Geometry.{start_word, superblocks_end};
 ghost use Rattle.core_model.specs.Memory.{info, anchor, link, next, durable_used, durable_info};
 ghost use Rattle.crash_core.specs.Standing.{IsCore, memory_at};
 
@@ -56,7 +56,7 @@ pub(crate) fn durable_used(core: &CoreState) -> u64
 pub(crate) fn next(core: &CoreState, block: u64) -> u64
     requires core { IsCore core.now }
     requires from { start_word core.now.geometry.capacity 0 ≤ block }
-    requires until { block < old_image_words core.now.geometry.capacity }
+    requires until { block < superblocks_end core.now.geometry.capacity }
     ensures { result ≡ next (memory_at core.now) block }
 {
     core.words[block as usize]

@@ -6,7 +6,7 @@ use Rattle.std.proofs.lemmas.List.Folds.{list_any_at, list_any_none}
 use Rattle.std.proofs.lemmas.List.Elements.{All-from_get_or}
 use Rattle.std.proofs.lemmas.List.FromFn.{get_or-range_with_len, length-range_with_len}
 use Rattle.heap_model.specs.declared.header.BadHeader.TheVariants.{Short, Magic, Version, Capacity, Length, State, Used, Kind}
-use Rattle.heap_model.specs.Geometry.{magic, version, old_version, largest_capacity, largest_old_capacity, roots, clean, dirty, image_words, old_image_words}
+use Rattle.heap_model.specs.Geometry.{magic, version, old_version, largest_capacity, largest_old_capacity, roots, kind_word, clean, dirty, image_words, old_image_words}
 use Rattle.heap_model.specs.Image.{Image}
 use Rattle.heap_model.specs.Header.{HasHeader, HasGoodHeader, HasKindsBelow, is_old, most_superblocks, whole_words, kinds_of, has_kind_above, has_fault, header_fault}
 use Rattle.heap_model.specs.Durability.{IsTransient, is_head, is_anchor, is_link}
@@ -143,6 +143,12 @@ no_fault limit bytes image (inr (good, below)) =
     no_cause limit version largest_capacity (image_words (image 2)) bytes image
     (passes version largest_capacity (image_words (image 2)) bytes image good)
     (rw (not_old) refl) (rw (not_old) refl) (or_right _ _ (eq-eqb (image 1) version two)) (rw (not_old) (none_above limit image below)) (omega arith)
+
+-- what a crash leaves at random is no kind of a root
+pub kinds_last : (capacity root : ℕ) → IsTransient capacity (kind_word capacity root) → ⊥
+kinds_last capacity root (is_head list word few at) = omega arith
+kinds_last capacity root (is_anchor d word less at) = omega arith
+kinds_last capacity root (is_link d word less at) = omega arith
 
 -- what a crash leaves at random is no word of the header before the heads
 pub header_lasts : (capacity word : ℕ) → word < 16 → IsTransient capacity word → ⊥

@@ -87,13 +87,17 @@ link_word d = 1066 + 8 * d
 abbrev pub start_word : ℕ → ℕ → ℕ
 start_word capacity d = 1064 + 8 * capacity + 8192 * d
 
--- the words up to the end of the last superblock, which is where an image of the old version ends
+-- the first word behind the last superblock
+abbrev pub superblocks_end : ℕ → ℕ
+superblocks_end capacity = 1064 + 8200 * capacity
+
+-- the words of a whole image of the old version, which ends there
 abbrev pub old_image_words : ℕ → ℕ
-old_image_words capacity = 1064 + 8200 * capacity
+old_image_words capacity = superblocks_end capacity
 
 -- the kind of root i: of what it leads to, by which a filter knows the links there
 abbrev pub kind_word : ℕ → ℕ → ℕ
-kind_word capacity i = 1064 + 8200 * capacity + i
+kind_word capacity i = superblocks_end capacity + i
 
 -- the words of a whole image
 abbrev pub image_words : ℕ → ℕ

@@ -3,7 +3,7 @@ use Rattle.std.proofs.Common.{◌≡◌, ◌≢◌, ◌*◌, ◌<◌, ℕ, inl, 
 use Rattle.heap_model.specs.declared.block.Block.{Block}
 use Rattle.heap_model.specs.Blocks.{Names}
 use Rattle.heap_model.specs.Durability.{IsTransient, is_head, is_anchor, is_link}
-use Rattle.heap_model.specs.Geometry.{IsFixed, in_header, in_descriptor, image_words, old_image_words, lists, start_word, state_word, dirty, clean}
+use Rattle.heap_model.specs.Geometry.{IsFixed, in_header, in_descriptor, image_words, superblocks_end, lists, start_word, state_word, dirty, clean}
 use Rattle.heap_model.specs.Header.{IsWellFormed, HasKindsBelow, capacity_of, header_fault}
 use Rattle.heap_model.specs.Image.{Image}
 use Rattle.core_model.specs.Cells.{Cell, used_cell, head_cell, info_cell, anchor_cell, link_cell, root_cell, data_cell, no_cell, cell_at, is_cell, index_of}
@@ -29,11 +29,11 @@ lasting c cell is (a_root n) word at (is_head list w few same) = omega (arith, a
 lasting c cell is (a_root n) word at (is_anchor e w less same) = omega (arith, at, same, ltb-true n 1024 is)
 lasting c cell is (a_root n) word at (is_link e w less same) = omega (arith, at, same, ltb-true n 1024 is)
 lasting c cell is (a_data x) word at (is_head list w few same) =
-    omega (arith, at, same, few, leb-true (start_word c 0) x (and_both (nat_le (start_word c 0) x) (nat_lt x (old_image_words c)) is).0)
+    omega (arith, at, same, few, leb-true (start_word c 0) x (and_both (nat_le (start_word c 0) x) (nat_lt x (superblocks_end c)) is).0)
 lasting c cell is (a_data x) word at (is_anchor e w less same) =
-    omega (arith, at, same, less, leb-true (start_word c 0) x (and_both (nat_le (start_word c 0) x) (nat_lt x (old_image_words c)) is).0)
+    omega (arith, at, same, less, leb-true (start_word c 0) x (and_both (nat_le (start_word c 0) x) (nat_lt x (superblocks_end c)) is).0)
 lasting c cell is (a_data x) word at (is_link e w less same) =
-    omega (arith, at, same, less, leb-true (start_word c 0) x (and_both (nat_le (start_word c 0) x) (nat_lt x (old_image_words c)) is).0)
+    omega (arith, at, same, less, leb-true (start_word c 0) x (and_both (nat_le (start_word c 0) x) (nat_lt x (superblocks_end c)) is).0)
 
 -- nor is a word that no step changes
 fixed_lasts : (c word : ℕ) → IsFixed c word → IsTransient c word → ⊥

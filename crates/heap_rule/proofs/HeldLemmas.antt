@@ -3,7 +3,7 @@ use Rattle.std.proofs.Common.{◌+◌, ◌≡◌, ◌<◌, ◌≤◌, ℕ, inr, 
 use Rattle.heap_model.specs.declared.block.Block.{Block}
 use Rattle.heap_model.specs.Blocks.{AreOneOrApart, layout_of, IsIn}
 use Rattle.heap_model.specs.Counting.{times}
-use Rattle.heap_model.specs.Geometry.{image_words, old_image_words, largest_capacity, used_word, root_word, roots, start_word}
+use Rattle.heap_model.specs.Geometry.{image_words, superblocks_end, largest_capacity, used_word, root_word, roots, start_word}
 use Rattle.heap_model.specs.Image.{Image}
 use Rattle.heap_model.specs.Sizes.{words_of_class}
 use Rattle.heap_model.proofs.BlockLemmas.{block_inside, block_words}
@@ -68,8 +68,8 @@ module _ (v : View) (s : HasSoundState v) where
   held_cell b held word within =
       let placed = held_placed b held in
       let from = placed.from in let until = placed.until in let low = placed.low in let first = within.from in let last = within.until in
-      cell_at_index v.setup.capacity (data_cell word) (and_is (nat_le (start_word v.setup.capacity 0) word) (nat_lt word (old_image_words v.setup.capacity))
-      (le-leb (start_word v.setup.capacity 0) word (omega arith)) (lt-ltb word (old_image_words v.setup.capacity) (omega arith)))
+      cell_at_index v.setup.capacity (data_cell word) (and_is (nat_le (start_word v.setup.capacity 0) word) (nat_lt word (superblocks_end v.setup.capacity))
+      (le-leb (start_word v.setup.capacity 0) word (omega arith)) (lt-ltb word (superblocks_end v.setup.capacity) (omega arith)))
 
   held_own : (b : Block) → IsHeld v b → (word : ℕ) → IsIn b word → 0 < times_own v (data_cell word)
   held_own b (a_small class first there) word within = let from = within.from in let until = within.until in

@@ -3,7 +3,7 @@ use Rattle.std.proofs.Common.{◌≡◌, ℕ, ◌+◌, ◌-◌, ◌*◌, ◌/◌
 use Rattle.std.proofs.Math.Nat.{div-mul-le_self, lt-div-mul-add}
 use Rattle.std.proofs.lemmas.Bool.{cases_lt, cases_order}
 use Rattle.heap_model.specs.declared.block.Block.{Block}
-use Rattle.heap_model.specs.Geometry.{roots, start_word, old_image_words, superblock_words}
+use Rattle.heap_model.specs.Geometry.{roots, start_word, superblocks_end, superblock_words}
 use Rattle.heap_model.specs.Sizes.{IsClass, words_of_class}
 use Rattle.heap_model.specs.Counting.{times, total, one_if}
 use Rattle.heap_model.proofs.BlockLemmas.{block_step}
@@ -63,7 +63,7 @@ module _ (v : View) (s : HasSoundState v) (o : Owned) (own : HasOwned o (parts_o
   pub link_own : (d : ℕ) (x : Stake) (b : Bool) → d < v.setup.capacity → x ≡ get_or o.stakes.items d x → one_if b ≡ unclassed_in x + classed_in x → (b ≡ true) ↔ (0 < times_own v (link_cell d))
   link_own d x b less is b_is = one_true b (times_own v (link_cell d)) (let q = (stake_is d x less is).unclassed in let r = (stake_is d x less is).is_classed in omega arith)
 
-  module _ (word : ℕ) (from : start_word v.setup.capacity 0 ≤ word) (until : word < old_image_words v.setup.capacity) (d : ℕ) (d_is : d ≡ superblock_at v.setup.capacity word) (x : Stake) (x_is : x ≡ get_or o.stakes.items d x) where
+  module _ (word : ℕ) (from : start_word v.setup.capacity 0 ≤ word) (until : word < superblocks_end v.setup.capacity) (d : ℕ) (d_is : d ≡ superblock_at v.setup.capacity word) (x : Stake) (x_is : x ≡ get_or o.stakes.items d x) where
     pub d_below : d < v.setup.capacity
     d_below = omega arith
 
@@ -107,7 +107,7 @@ module _ (v : View) (s : HasSoundState v) (o : Owned) (own : HasOwned o (parts_o
         after_word : word < block + words
         after_word = let l = lt-div-mul-add {a = word - start_word v.setup.capacity d} {b = words} some_words in let a = low in omega arith
 
-        pub block_inside : block < old_image_words v.setup.capacity
+        pub block_inside : block < superblocks_end v.setup.capacity
         block_inside = let b = before_word in omega arith
 
         block_at : superblock_at v.setup.capacity block ≡ d

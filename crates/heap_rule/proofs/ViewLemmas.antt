@@ -1,7 +1,7 @@
 -- What a view shows of own words is so in every sound state, and what it has lies in the image.
 use Rattle.std.proofs.Common.{◌≡◌, inl, inr, ℕ, suc, zero, ◌+◌, ◌<◌, ◌≤◌, true, nat_lt, nat_le, List, [], ◌∷◌, length, refl, ap, sym, subst, ◌∙◌, lt-ltb, le-leb, arith}
 use Rattle.std.proofs.lemmas.Bool.{cases_lt}
-use Rattle.heap_model.specs.Geometry.{start_word, old_image_words}
+use Rattle.heap_model.specs.Geometry.{start_word, superblocks_end}
 use Rattle.heap_model.specs.Sizes.{IsClass, words_of_class, blocks_of}
 use Rattle.heap_model.specs.Chains.{Walks}
 use Rattle.heap_model.specs.Words.{anchor_state, empty_state}
@@ -27,7 +27,7 @@ use Rattle.heap_rule.specs.Shown.{Shows, ShowsDurable, ShowsEmpty, by_claim, by_
 pub cut_cell : (c class d b : ℕ) → IsClass class → IsCutBlock c class d b → d < c → is_cell c (data_cell b) ≡ true
 cut_cell c class d b is at less =
     let place = inside_of c class d b is at in let low = place.0 in let high = place.1 in let two = two_words class is in
-    and_is (nat_le (start_word c 0) b) (nat_lt b (old_image_words c)) (le-leb (start_word c 0) b (omega arith)) (lt-ltb b (old_image_words c) (omega arith))
+    and_is (nat_le (start_word c 0) b) (nat_lt b (superblocks_end c)) (le-leb (start_word c 0) b (omega arith)) (lt-ltb b (superblocks_end c) (omega arith))
 
 -- numbers a step apart begin with the first
 pub first_step : (from apart n : ℕ) → 1 ≤ n → first_of (steps from apart n) ≡ from
@@ -73,7 +73,7 @@ module _ (v : View) (s : HasSoundState v) where
       let low = good.shaped.durable.below (superblock_at v.setup.capacity b) (omega arith) in let q = good.shaped.durable.behind in let r = good.shaped.durable.room in omega arith
 
   -- it begins among the words of superblocks
-  pub block_range : (b : ℕ) → 0 < times_block b v → (start_word v.setup.capacity 0 ≤ b) × (b < old_image_words v.setup.capacity)
+  pub block_range : (b : ℕ) → 0 < times_block b v → (start_word v.setup.capacity 0 ≤ b) × (b < superblocks_end v.setup.capacity)
   block_range b own = cut_range v.setup.capacity (info m (superblock_at v.setup.capacity b)) (superblock_at v.setup.capacity b) b (block_class b own) (block_below b own) (block_cut b own).1
 
   -- the seat has it once
@@ -85,13 +85,13 @@ module _ (v : View) (s : HasSoundState v) where
   ]
 
   -- a cache and the batch are no longer than the image
-  pub cache_short : (class : ℕ) → length (of_class v.caches class) ≤ old_image_words v.setup.capacity
-  cache_short class = short (old_image_words v.setup.capacity) (of_class v.caches class)
+  pub cache_short : (class : ℕ) → length (of_class v.caches class) ≤ superblocks_end v.setup.capacity
+  cache_short class = short (superblocks_end v.setup.capacity) (of_class v.caches class)
       (λ b some. let t = in_lists_total b class v.caches some in (block_range b (omega arith)).1)
       (λ b. let o = block_once b in let l = list_at_most b class v.caches in omega arith)
 
-  pub batch_short : length v.batch.blocks ≤ old_image_words v.setup.capacity
-  batch_short = short (old_image_words v.setup.capacity) v.batch.blocks (λ b some. (block_range b (omega arith)).1) (λ b. let o = block_once b in omega arith)
+  pub batch_short : length v.batch.blocks ≤ superblocks_end v.setup.capacity
+  batch_short = short (superblocks_end v.setup.capacity) v.batch.blocks (λ b some. (block_range b (omega arith)).1) (λ b. let o = block_once b in omega arith)
 
   -- a claimed superblock that is shown to be empty is empty
   pub empty_shown : (d : ℕ) → 0 < times_raw d v + times_classed d v.classed → ShowsEmpty v d → anchor_state (anchor m d) ≡ empty_state

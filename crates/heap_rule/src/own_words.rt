@@ -2,7 +2,7 @@
 
 ghost use Rattle.std.specs.Prelude.{◌≡◌, ◌<◌, ◌≤◌, ◌↔◌, ◌*◌, true};
 ghost use Rattle.heap_model.specs.declared.block.Block.{Block};
-ghost use Rattle.heap_model.specs.Geometry.{start_word, old_image_words};
+ghost use Rattle.heap_model.specs.Geometry.{start_word, superblocks_end};
 ghost use Rattle.core_model.specs.Cells.{cell_at, data_cell};
 ghost use Rattle.core_model.specs.Guards.{IsOwn};
 ghost use Rattle.core_model.specs.Held.{IsHeld};
@@ -34,7 +34,7 @@ impl Seat {
     /// of a large block; of others, those of the seat's small blocks.
     fn owns_data(&self, word: u64) -> bool
         requires from { start_word self.now.view.setup.capacity 0 ≤ word }
-        requires until { word < old_image_words self.now.view.setup.capacity }
+        requires until { word < superblocks_end self.now.view.setup.capacity }
         ensures { (result ≡ true) ↔ IsOwn self.now.view (data_cell word) }
     {
         let d = (word - self.geometry.start(0)) / SUPERBLOCK_WORDS;

@@ -3,7 +3,7 @@ use Rattle.std.proofs.Common.{◌≡◌, ◌≢◌, ◌≤◌, ◌<◌, ℕ, zer
 use Rattle.std.proofs.lemmas.Bool.{cases_lt}
 use Rattle.heap_model.specs.Counting.{times, without}
 use Rattle.std.proofs.lemmas.List.{get_or-set_other, get_or-set_same}
-use Rattle.heap_model.specs.Geometry.{start_word, old_image_words, info_word, anchor_word}
+use Rattle.heap_model.specs.Geometry.{start_word, superblocks_end, info_word, anchor_word}
 use Rattle.heap_model.proofs.BlockLemmas.{block_step}
 use Rattle.heap_model.specs.Sizes.{IsClass, words_of_class, blocks_of}
 use Rattle.heap_model.specs.Words.{full_anchor}
@@ -29,10 +29,10 @@ use Rattle.crash_core.proofs.LiftSteps.{last_there}
 use Rattle.heap_rule_tests.specs.Cuts.{HasBegun, HasClass, HasLinked, HasLinks, HasMade, KeepsHeldBlocks, with_making}
 use Rattle.heap_rule_tests.specs.Draws.{HasDrawn, HasStoppedAt}
 
-module _ (v : View) (has : HasSoundState v) (word : ℕ) (from : start_word v.setup.capacity 0 ≤ word) (until : word < old_image_words v.setup.capacity) (raw : 0 < times_raw (superblock_at v.setup.capacity word) v) where
+module _ (v : View) (has : HasSoundState v) (word : ℕ) (from : start_word v.setup.capacity 0 ≤ word) (until : word < superblocks_end v.setup.capacity) (raw : 0 < times_raw (superblock_at v.setup.capacity word) v) where
   cell_is : cell_at v.setup.capacity word ≡ data_cell word
-  cell_is = cell_at_index v.setup.capacity (data_cell word) (and_is (nat_le (start_word v.setup.capacity 0) word) (nat_lt word (old_image_words v.setup.capacity))
-      (le-leb (start_word v.setup.capacity 0) word from) (lt-ltb word (old_image_words v.setup.capacity) until))
+  cell_is = cell_at_index v.setup.capacity (data_cell word) (and_is (nat_le (start_word v.setup.capacity 0) word) (nat_lt word (superblocks_end v.setup.capacity))
+      (le-leb (start_word v.setup.capacity 0) word from) (lt-ltb word (superblocks_end v.setup.capacity) until))
 
   drawn_can : (ticket value : ℕ) → v.stopped ≡ None → Can (drew v ticket) (Store word value)
   drawn_can ticket value going = record {
@@ -164,13 +164,13 @@ stopped_more v t w step p stop = let q = stop.parts in record {
 -- where block i - 1 of the superblock begins
 pub block_place : (v w : View) (class d i block : ℕ) → KeepsParts (record v { volatile = w.volatile }) w → IsClass class → d < v.setup.capacity → 1 ≤ i → i < blocks_of class
     → block ≡ start_word v.setup.capacity d + (i - 1) * words_of_class class
-    → (start_word w.setup.capacity 0 ≤ block) × (block < old_image_words w.setup.capacity) × (superblock_at w.setup.capacity block ≡ d) × (block + words_of_class class ≤ start_word v.setup.capacity (d + 1))
+    → (start_word w.setup.capacity 0 ≤ block) × (block < superblocks_end w.setup.capacity) × (superblock_at w.setup.capacity block ≡ d) × (block + words_of_class class ≤ start_word v.setup.capacity (d + 1))
 block_place v w class d i block p is less some below at =
     let cut : IsCutBlock v.setup.capacity class d block = record { index = i - 1; below = omega arith; at = at } in
     let range = cut_range v.setup.capacity class d block is less cut in
     let cap : v.setup.capacity ≡ w.setup.capacity = sym (ap (λ (k : Setup). k.capacity) p.setup) in (
       subst (λ n. start_word n 0 ≤ block) cap range.0,
-      subst (λ n. block < old_image_words n) cap range.1,
+      subst (λ n. block < superblocks_end n) cap range.1,
       subst (λ n. superblock_at n block ≡ d) cap (superblock_is v.setup.capacity class d block is cut),
       (inside_of v.setup.capacity class d block is cut).1,
     )

@@ -4,7 +4,7 @@ use Rattle.std.specs.Bool.{⊤}
 use Rattle.std.proofs.lemmas.Bool.{cases_lt}
 use Rattle.std.proofs.lemmas.List.{get_or-set_same}
 use Rattle.heap_model.specs.Counting.{times, total, without}
-use Rattle.heap_model.specs.Geometry.{start_word, old_image_words}
+use Rattle.heap_model.specs.Geometry.{start_word, superblocks_end}
 use Rattle.heap_model.specs.Sizes.{IsClass, words_of_class, last_class}
 use Rattle.heap_model.proofs.SizeLemmas.{two_words}
 use Rattle.core_model.specs.declared.event.Event.TheVariants.{Store, Tick}
@@ -46,8 +46,8 @@ module _ (v : View) (has : HasSoundState v) (class block : ℕ) (is : IsClass cl
 
   pub block_cell_is : cell_at v.setup.capacity block ≡ data_cell block
   block_cell_is = let range = block_range v has block had in cell_at_index v.setup.capacity (data_cell block)
-      (and_is (nat_le (start_word v.setup.capacity 0) block) (nat_lt block (old_image_words v.setup.capacity))
-      (le-leb (start_word v.setup.capacity 0) block range.0) (lt-ltb block (old_image_words v.setup.capacity) range.1))
+      (and_is (nat_le (start_word v.setup.capacity 0) block) (nat_lt block (superblocks_end v.setup.capacity))
+      (le-leb (start_word v.setup.capacity 0) block range.0) (lt-ltb block (superblocks_end v.setup.capacity) range.1))
 
   block_own : IsOwn v (data_cell block)
   block_own = let two = two_words class is in let there = in_classes_word block block 0 class v.small (omega arith)

@@ -2,7 +2,7 @@
 
 ghost use Rattle.std.specs.Prelude.{◌≡◌, ◌<◌, ◌≤◌, [], Some, OnOk, IfErr};
 ghost use Rattle.heap_model.specs.Counting.{times};
-ghost use Rattle.heap_model.specs.Geometry.{old_image_words, start_word};
+ghost use Rattle.heap_model.specs.Geometry.{superblocks_end, start_word};
 ghost use Rattle.core_model.specs.Cells.{info_cell, superblock_at};
 ghost use Rattle.core_model.specs.View.{of_class, times_raw};
 ghost use Rattle.heap_rule.specs.Seated.{IsSeatOf};
@@ -22,7 +22,7 @@ use super_block::{Geometry, block_words};
 fn link_block(seat: &mut Seat, shared: &Shared, word: u64, value: u64) -> Result<(), Stopped>
     requires seat { IsSeatOf shared.now seat.old }
     requires from { start_word seat.old.view.setup.capacity 0 ≤ word }
-    requires until { word < old_image_words seat.old.view.setup.capacity }
+    requires until { word < superblocks_end seat.old.view.setup.capacity }
     requires raw { 0 < times_raw (superblock_at seat.old.view.setup.capacity word) seat.old.view }
     ensures linked { OnOk result (HasLinked word value seat.old.view seat.new.view) }
     ensures stopped { IfErr result (λ e. HasStoppedAt e.step seat.old.view seat.new.view) }

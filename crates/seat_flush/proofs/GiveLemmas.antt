@@ -4,7 +4,7 @@ use Rattle.std.specs.Bool.{⊤}
 use Rattle.std.specs.Prelude.{Result, Ok, Err}
 use Rattle.std.specs.Result.{is_ok}
 use Rattle.heap_model.specs.Counting.{times}
-use Rattle.heap_model.specs.Geometry.{start_word, old_image_words}
+use Rattle.heap_model.specs.Geometry.{start_word, superblocks_end}
 use Rattle.heap_model.specs.Sizes.{IsClass, words_of_class}
 use Rattle.heap_model.specs.Words.{anchor_count, anchor_first, anchor_state, full_anchor}
 use Rattle.heap_model.proofs.SizeLemmas.{two_words}
@@ -54,8 +54,8 @@ module _ (v : View) (has : HasSoundState v) (d class last : ℕ) (batch : IsBatc
 
   pub last_cell : cell_at v.setup.capacity last ≡ data_cell last
   last_cell = let range = block_range v has last had in cell_at_index v.setup.capacity (data_cell last)
-      (and_is (nat_le (start_word v.setup.capacity 0) last) (nat_lt last (old_image_words v.setup.capacity))
-      (le-leb (start_word v.setup.capacity 0) last range.0) (lt-ltb last (old_image_words v.setup.capacity) range.1))
+      (and_is (nat_le (start_word v.setup.capacity 0) last) (nat_lt last (superblocks_end v.setup.capacity))
+      (le-leb (start_word v.setup.capacity 0) last range.0) (lt-ltb last (superblocks_end v.setup.capacity) range.1))
 
   batch_class : IsClass v.batch.class
   batch_class = let of = (has.sound.good.blocks has.seat v has.below has.at).batched last there in

@@ -7,7 +7,7 @@ use Rattle.std.proofs.lemmas.List.Elements.{Contains-append_cases}
 use Rattle.heap_model.specs.declared.block.Block.{Block}
 use Rattle.heap_model.specs.Blocks.{IsIn, AreOneOrApart}
 use Rattle.heap_model.specs.Counting.{times}
-use Rattle.heap_model.specs.Geometry.{fixed_words, roots, start_word, superblock_words, old_image_words, kind_word, largest_capacity}
+use Rattle.heap_model.specs.Geometry.{fixed_words, roots, start_word, superblock_words, superblocks_end, kind_word, largest_capacity}
 use Rattle.heap_model.specs.Image.{Image}
 use Rattle.heap_model.specs.Sizes.{words_of_class}
 use Rattle.heap_model.proofs.CountingLemmas.{one_if_true}
@@ -178,7 +178,7 @@ module _ (v : View) (s : HasSoundState v) where
   pub word_held : (word : ℕ) → IsOwnWord (held_blocks v) v.roots word → IsHeldWord v word
   word_held word (in_block b w c within) = let placed = held_placed v s b (held_is b c) in let low = placed.from in let high = placed.until in let most = placed.low in let from = within.from in let until = within.until in
       subst (λ (cell : Cell). 0 < times_held v cell) (sym (cell_at_index v.setup.capacity (data_cell word)
-      (and_is (nat_le (start_word v.setup.capacity 0) word) (nat_lt word (old_image_words v.setup.capacity)) (le-leb (start_word v.setup.capacity 0) word (omega arith)) (lt-ltb word (old_image_words v.setup.capacity) (omega arith)))))
+      (and_is (nat_le (start_word v.setup.capacity 0) word) (nat_lt word (superblocks_end v.setup.capacity)) (le-leb (start_word v.setup.capacity 0) word (omega arith)) (lt-ltb word (superblocks_end v.setup.capacity) (omega arith)))))
       (block_word b (held_is b c) word within)
   word_held word (in_root i w c is) = subst (λ n. IsHeldWord v n) (sym is)
       (subst (λ (cell : Cell). 0 < times_held v cell) (sym (cell_at_index v.setup.capacity (root_cell i) (lt-ltb i roots (root_below i c)))) (contains_times v.roots i c))

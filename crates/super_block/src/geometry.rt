@@ -1,6 +1,6 @@
 //! The word indices that depend on the capacity of an image.
 ghost use Rattle.std.specs.Prelude.{◌≡◌, ◌<◌, ◌≤◌};
-ghost use Rattle.heap_model.specs.Geometry.{largest_capacity, info_word, anchor_word, link_word, start_word, kind_word, roots, image_words, old_image_words};
+ghost use Rattle.heap_model.specs.Geometry.{largest_capacity, info_word, anchor_word, link_word, start_word, kind_word, roots, image_words, old_image_words, superblocks_end};
 
 use crate::layout::{ANCHOR_OFFSET, DESCRIPTOR_WORDS, FIXED_WORDS, LINK_OFFSET, ROOTS, SUPERBLOCK_WORDS};
 
@@ -34,13 +34,19 @@ impl Geometry {
     pub fn length(self) -> u64
         ensures { result ≡ image_words self.capacity }
     {
-        self.old_length() + ROOTS
+        self.end() + ROOTS
     }
 
-    /// How many words an image of the old version has, which are those up to the end of the last
-    /// superblock.
+    /// How many words an image of the old version has, which ends with its superblocks.
     pub fn old_length(self) -> u64
         ensures { result ≡ old_image_words self.capacity }
+    {
+        self.end()
+    }
+
+    /// The first word behind the last superblock.
+    pub fn end(self) -> u64
+        ensures { result ≡ superblocks_end self.capacity }
     {
         FIXED_WORDS + (DESCRIPTOR_WORDS + SUPERBLOCK_WORDS) * self.capacity
     }
@@ -50,7 +56,7 @@ impl Geometry {
         requires { i < roots }
         ensures { result ≡ kind_word self.capacity i }
     {
-        self.old_length() + i
+        self.end() + i
     }
 
     /// The word that says what superblock `d` holds, the first of its descriptor.

@@ -4,7 +4,7 @@ use Rattle.heap_model.specs.declared.block.Block.{Block}
 use Rattle.heap_model.specs.Geometry.{clean, dirty, magic_word, version_word, capacity_word, state_word, used_word, roots, kind_word, IsReserved, in_header, in_descriptor, IsFixed}
 use Rattle.heap_model.specs.Header.{IsWellFormed, HasKindsBelow, capacity_of, kinds_of}
 use Rattle.heap_model.specs.Durability.{IsTransient, is_head, is_anchor, is_link, IsCrashImage, IsClosedImage}
-use Rattle.heap_model.proofs.HeaderLemmas.{no_fault, header_lasts}
+use Rattle.heap_model.proofs.HeaderLemmas.{no_fault, header_lasts, kinds_last}
 use Rattle.line_memory.specs.View.{volatile_at, durable_at}
 use Rattle.block_heap.specs.Closing.{IsOpened, KeepsFixed}
 use Rattle.block_heap.specs.SeqState.{SeqState}
@@ -13,12 +13,7 @@ use Rattle.dict_model.specs.Links.{kind_count}
 use Rattle.trace_run.specs.Left.{AreWholeImage}
 use Rattle.trace_run.specs.Runs.{LeavesHeader}
 
--- no kind of a root is transient, and no word without a meaning is
-kinds_stay : (capacity root : ℕ) → IsTransient capacity (kind_word capacity root) → ⊥
-kinds_stay capacity root (is_head list _ below e) = omega arith
-kinds_stay capacity root (is_anchor d _ below e) = omega arith
-kinds_stay capacity root (is_link d _ below e) = omega arith
-
+-- no word without a meaning is transient
 reserved_stays : (capacity word : ℕ) → IsReserved capacity word → IsTransient capacity word → ⊥
 reserved_stays capacity _ (in_header word low high used_not lists_not) (is_head list _ below e) = elim lists_not as (λ _. ⊥) [ inl before ↦ omega arith | inr behind ↦ omega arith ]
 reserved_stays capacity _ (in_header word low high used_not lists_not) (is_anchor d _ below e) = omega arith
@@ -59,7 +54,7 @@ module _ (words values left : List ℕ) (formed : IsWellFormed (8 * length words
   kind_left root below =
       let capacity = capacity_of (slice_index words) in
       subst (λ n. slice_index left (kind_word n root) ≡ slice_index words (kind_word capacity root)) (sym left_capacity)
-      (same (kind_word capacity root) (λ e. omega (arith, e)) (kinds_stay capacity root)
+      (same (kind_word capacity root) (λ e. omega (arith, e)) (kinds_last capacity root)
       ∙ fixed (kind_word capacity root) (inr (inr (record { from = omega arith; until = omega arith }))))
 
   pub header_left : LeavesHeader (slice_index words) (length left) (slice_index left)
