@@ -1,7 +1,7 @@
 -- What an allocator stores to leaves held blocks, roots, their kinds and words without a meaning alone, so that every image left names the held blocks.
 use Rattle.std.proofs.Common.{◌≡◌, ℕ, ◌<◌, ◌≤◌, ◌⊎◌, inl, inr, List, Contains, refl, sym, subst, ◌∙◌, arith}
 use Rattle.heap_model.specs.declared.block.Block.{Block}
-use Rattle.heap_model.specs.Geometry.{roots, largest_capacity, root_word, info_word, used_word, capacity_word, start_word, IsReserved, in_header, in_descriptor, IsKindWord}
+use Rattle.heap_model.specs.Geometry.{roots, largest_capacity, root_word, info_word, used_word, capacity_word, start_word, kind_word, IsReserved, in_header, in_descriptor, IsKindWord}
 use Rattle.heap_model.specs.Image.{words_from}
 use Rattle.heap_model.specs.Blocks.{IsIn}
 use Rattle.heap_model.specs.Recovered.{HasPartIn}
