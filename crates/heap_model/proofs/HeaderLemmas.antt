@@ -1,14 +1,15 @@
 -- A header is good, as one of its version, exactly where no cause holds.
-use Rattle.std.proofs.Common.{◌≡◌, ◌≢◌, ◌⊎◌, inl, inr, ℕ, ◌+◌, ◌<◌, ◌≤◌, ◌*◌, Bool, true, false, not, ◌||◌, ◌&&◌, cond, nat_eq, nat_lt, nat_le, Option, Some, None, get_or, refl, ◌∙◌, subst, arith}
+use Rattle.std.proofs.Common.{◌≡◌, ◌≢◌, ◌⊎◌, inl, inr, ℕ, ◌<◌, ◌≤◌, ◌*◌, Bool, true, false, not, ◌||◌, ◌&&◌, cond, nat_eq, nat_lt, nat_le, Option, Some, None, get_or, refl, ◌∙◌, subst, arith}
 use Rattle.std.proofs.lemmas.Bool.{cases_lt, ltb-false, eqb-true, eqb-false, eq-eqb, ne_eqb, le-ltb, le-leb, lt-leb, not-false, not_from_true, or_parts, or_cases, or_left, or_right}
 use Rattle.std.specs.List.{range_with_len}
 use Rattle.std.proofs.lemmas.List.Folds.{list_any_at, list_any_none}
 use Rattle.std.proofs.lemmas.List.Elements.{All-from_get_or}
 use Rattle.std.proofs.lemmas.List.FromFn.{get_or-range_with_len, length-range_with_len}
+use Rattle.heap_model.specs.declared.header.BadHeader.{BadHeader}
 use Rattle.heap_model.specs.declared.header.BadHeader.TheVariants.{Short, Magic, Version, Capacity, Length, State, Used, Kind}
 use Rattle.heap_model.specs.Geometry.{magic, version, old_version, largest_capacity, largest_old_capacity, roots, kind_word, clean, dirty, image_words, old_image_words}
 use Rattle.heap_model.specs.Image.{Image}
-use Rattle.heap_model.specs.Header.{HasHeader, HasGoodHeader, HasKindsBelow, is_old, most_superblocks, whole_words, kinds_of, has_kind_above, has_fault, header_fault}
+use Rattle.heap_model.specs.Header.{HasHeader, IsWellFormed, IsOldWellFormed, HasGoodHeader, HasKindsBelow, is_old, most_superblocks, whole_words, kinds_of, has_kind_above, has_fault, header_fault}
 use Rattle.heap_model.specs.Durability.{IsTransient, is_head, is_anchor, is_link}
 
 -- where a choice between something and the rest is nothing, the test is false and the rest is nothing
@@ -73,7 +74,7 @@ kinds_below (Some most) image none = λ i below. elim (cases_lt (kinds_of image 
       let long = length-range_with_len 0 roots in
       let found : get_or (range_with_len 0 roots) i 0 ≡ i = get_or-range_with_len 0 roots i 0 below ∙ omega arith in
       let some = list_any_at (λ k. nat_le most (kinds_of image k)) (range_with_len 0 roots) i 0 (omega arith)
-          (rw (found) (le-leb most (kinds_of image i) more)) in
+      (rw (found) (le-leb most (kinds_of image i) more)) in
       absurd (cc)
 ]
 
@@ -81,9 +82,9 @@ none_above : (limit : Option ℕ) (image : Image) → HasKindsBelow limit image 
 none_above None image below = refl
 none_above (Some most) image below = list_any_none (λ i. nat_le most (kinds_of image i)) (range_with_len 0 roots)
     (All-from_get_or (λ i. nat_le most (kinds_of image i) ≡ false) (range_with_len 0 roots) 0 (λ i inside.
-      let long = length-range_with_len 0 roots in
-      let found : get_or (range_with_len 0 roots) i 0 ≡ i = get_or-range_with_len 0 roots i 0 (omega arith) ∙ omega arith in
-      rw (found) (lt-leb most (kinds_of image i) (below i (omega arith)))))
+    let long = length-range_with_len 0 roots in
+    let found : get_or (range_with_len 0 roots) i 0 ≡ i = get_or-range_with_len 0 roots i 0 (omega arith) ∙ omega arith in
+    rw (found) (lt-leb most (kinds_of image i) (below i (omega arith)))))
 
 -- no cause: a good header of one of the versions
 pub good_header : (limit : Option ℕ) (bytes : ℕ) (image : Image) → header_fault limit bytes image ≡ None → HasGoodHeader limit bytes image
@@ -99,50 +100,90 @@ good_header limit bytes image none =
     let kind = none_parts (not (is_old image) && has_kind_above limit image) Kind _ used.1 in
     elim (or_cases (is_old image) (nat_eq (image 1) version) (not-false _ version_is.0)) as (λ _. HasGoodHeader limit bytes image) [
       | inl old ↦ inl (has_header old_version largest_old_capacity (old_image_words (image 2)) bytes image (record {
-          magic_is = magic_is.0;
-          version_is = eqb-true (image 1) old_version old;
-          capacity = subst (λ test. (nat_eq (image 2) 0 || nat_lt (cond test largest_old_capacity largest_capacity) (image 2)) ≡ false) old capacity.0;
-          length_is = subst (λ test. not (nat_eq bytes (8 * cond test (old_image_words (image 2)) (image_words (image 2)))) ≡ false) old length_is.0;
-          state = state.0;
-          used = used.0;
-        }))
+        magic_is = magic_is.0;
+        version_is = eqb-true (image 1) old_version old;
+        capacity = subst (λ test. (nat_eq (image 2) 0 || nat_lt (cond test largest_old_capacity largest_capacity) (image 2)) ≡ false) old capacity.0;
+        length_is = subst (λ test. not (nat_eq bytes (8 * cond test (old_image_words (image 2)) (image_words (image 2)))) ≡ false) old length_is.0;
+        state = state.0;
+        used = used.0;
+      }))
       | inr new ↦
           let two : image 1 ≡ version = eqb-true (image 1) version new in
           let not_old : is_old image ≡ false = ne_eqb (image 1) old_version (λ one. omega arith) in
-          inr (has_header version largest_capacity (image_words (image 2)) bytes image (record {
-            magic_is = magic_is.0;
-            version_is = two;
-            capacity = subst (λ test. (nat_eq (image 2) 0 || nat_lt (cond test largest_old_capacity largest_capacity) (image 2)) ≡ false) not_old capacity.0;
-            length_is = subst (λ test. not (nat_eq bytes (8 * cond test (old_image_words (image 2)) (image_words (image 2)))) ≡ false) not_old length_is.0;
-            state = state.0;
-            used = used.0;
-          }), kinds_below limit image (subst (λ test. (not test && has_kind_above limit image) ≡ false) not_old kind.0))
+          inr (
+            has_header version largest_capacity (image_words (image 2)) bytes image (record {
+              magic_is = magic_is.0;
+              version_is = two;
+              capacity = subst (λ test. (nat_eq (image 2) 0 || nat_lt (cond test largest_old_capacity largest_capacity) (image 2)) ≡ false) not_old capacity.0;
+              length_is = subst (λ test. not (nat_eq bytes (8 * cond test (old_image_words (image 2)) (image_words (image 2)))) ≡ false) not_old length_is.0;
+              state = state.0;
+              used = used.0;
+            }),
+            kinds_below limit image (subst (λ test. (not test && has_kind_above limit image) ≡ false) not_old kind.0),
+          )
     ]
 
--- a header that passes the tests of its version, and has no kind above the limit, has no cause
-no_cause : (limit : Option ℕ) (the_version most words bytes : ℕ) (image : Image) → Passes the_version most words bytes image
+-- a header that passes the tests of its version has no cause but a kind
+last_cause : (limit : Option ℕ) (the_version most words bytes : ℕ) (image : Image) → Passes the_version most words bytes image
     → most_superblocks image ≡ most → whole_words image ≡ words → (is_old image || nat_eq (image 1) version) ≡ true
-    → (not (is_old image) && has_kind_above limit image) ≡ false → 8512 ≤ bytes → header_fault limit bytes image ≡ None
+    → 8512 ≤ bytes → header_fault limit bytes image ≡ cond (not (is_old image) && has_kind_above limit image) (Some Kind) None
 unfolding header_fault has_fault
-no_cause limit the_version most words bytes image tests most_is words_are known kind long =
+last_cause limit the_version most words bytes image tests most_is words_are known long =
     let long_enough : nat_lt bytes 8512 ≡ false = le-ltb bytes 8512 long in
     let version_is = not_from_true _ known in
-    rw (long_enough, tests.magic_is, version_is, most_is, words_are, tests.capacity, tests.length_is, tests.state, tests.used, kind) refl
+    rw (long_enough, tests.magic_is, version_is, most_is, words_are, tests.capacity, tests.length_is, tests.state, tests.used) refl
 
-pub no_fault : (limit : Option ℕ) (bytes : ℕ) (image : Image) → HasGoodHeader limit bytes image → header_fault limit bytes image ≡ None
-no_fault limit bytes image (inl good) =
+old_cause : (limit : Option ℕ) (bytes : ℕ) (image : Image) → IsOldWellFormed bytes image → header_fault limit bytes image ≡ None
+old_cause limit bytes image good =
     let old : is_old image ≡ true = eq-eqb (image 1) old_version good.version_is in
     let length_is = good.length_is in
-    no_cause limit old_version largest_old_capacity (old_image_words (image 2)) bytes image
+    last_cause limit old_version largest_old_capacity (old_image_words (image 2)) bytes image
     (passes old_version largest_old_capacity (old_image_words (image 2)) bytes image good)
-    (rw (old) refl) (rw (old) refl) (or_left _ _ old) (rw (old) refl) (omega arith)
-no_fault limit bytes image (inr (good, below)) =
+    (rw (old) refl) (rw (old) refl) (or_left _ _ old) (omega arith)
+    ∙ (rw (old) refl)
+
+new_cause : (limit : Option ℕ) (bytes : ℕ) (image : Image) → IsWellFormed bytes image → header_fault limit bytes image ≡ cond (has_kind_above limit image) (Some Kind) None
+new_cause limit bytes image good =
     let two = good.version_is in
     let not_old : is_old image ≡ false = ne_eqb (image 1) old_version (λ one. omega arith) in
     let length_is = good.length_is in
-    no_cause limit version largest_capacity (image_words (image 2)) bytes image
+    last_cause limit version largest_capacity (image_words (image 2)) bytes image
     (passes version largest_capacity (image_words (image 2)) bytes image good)
-    (rw (not_old) refl) (rw (not_old) refl) (or_right _ _ (eq-eqb (image 1) version two)) (rw (not_old) (none_above limit image below)) (omega arith)
+    (rw (not_old) refl) (rw (not_old) refl) (or_right _ _ (eq-eqb (image 1) version two)) (omega arith)
+    ∙ (rw (not_old) refl)
+
+pub no_fault : (limit : Option ℕ) (bytes : ℕ) (image : Image) → HasGoodHeader limit bytes image → header_fault limit bytes image ≡ None
+no_fault limit bytes image (inl good) = old_cause limit bytes image good
+no_fault limit bytes image (inr (good, below)) = new_cause limit bytes image good ∙ (rw (none_above limit image below) refl)
+
+-- a kind at or above the limit is the cause where the header is good but for it
+pub kind_fault : (limit : Option ℕ) (bytes : ℕ) (image : Image) → IsWellFormed bytes image → (HasKindsBelow limit image → ⊥) → header_fault limit bytes image ≡ Some Kind
+kind_fault limit bytes image good above = new_cause limit bytes image good ∙ told (has_kind_above limit image) (λ none. above (kinds_below limit image none)) where
+  told : (test : Bool) → (test ≡ false → ⊥) → cond test (Some Kind) None ≡ Some Kind
+  told true some = refl
+  told false some = absurd (some refl)
+
+-- a choice that is told with one rest is told with the other, where the rest is
+told_too : {A : Type 0} (test : Bool) (x cause : A) (rest other : Option A) → (rest ≡ Some cause → other ≡ Some cause)
+    → cond test (Some x) rest ≡ Some cause → cond test (Some x) other ≡ Some cause
+told_too true x cause rest other later told = told
+told_too false x cause rest other later told = later told
+
+-- a cause that is told with no limit is told with each
+pub told_with_limit : (limit : Option ℕ) (bytes : ℕ) (image : Image) (cause : BadHeader) → header_fault None bytes image ≡ Some cause → header_fault limit bytes image ≡ Some cause
+unfolding header_fault has_fault
+told_with_limit limit bytes image cause told =
+    told_too (nat_lt bytes 8512) Short cause _ _
+    (told_too (not (nat_eq (image 0) magic)) Magic cause _ _
+    (told_too (not (is_old image || nat_eq (image 1) version)) Version cause _ _
+    (told_too (nat_eq (image 2) 0 || nat_lt (most_superblocks image) (image 2)) Capacity cause _ _
+    (told_too (not (nat_eq bytes (8 * whole_words image))) Length cause _ _
+    (told_too (not (nat_eq (image 3) clean || nat_eq (image 3) dirty)) State cause _ _
+    (told_too (nat_lt (image 2) (image 8)) Used cause _ _
+    (no_kind (not (is_old image))))))))) told where
+      no_kind : (test : Bool) → cond (test && false) (Some Kind) None ≡ Some cause → cond (test && has_kind_above limit image) (Some Kind) None ≡ Some cause
+      no_kind true none = absurd (cc)
+      no_kind false none = absurd (cc)
 
 -- what a crash leaves at random is no kind of a root
 pub kinds_last : (capacity root : ℕ) → IsTransient capacity (kind_word capacity root) → ⊥

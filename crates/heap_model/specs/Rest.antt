@@ -1,5 +1,5 @@
 -- A heap at rest: nothing is claimed, cached or batched, and lists, chains and anchors are right for exactly the held blocks.
-use Rattle.std.specs.Prelude.{◌≡◌, ◌≢◌, ℕ, ◌+◌, ◌*◌, ◌<◌, ◌≤◌, ◌↔◌, ◌&&◌, nat_lt, nat_le, List, [], ◌∷◌, map, length, Contains, AllPairs, slice_index}
+use Rattle.std.specs.Prelude.{◌≡◌, ◌≢◌, ℕ, ◌+◌, ◌*◌, ◌<◌, ◌≤◌, ◌↔◌, ◌&&◌, nat_lt, nat_le, List, [], map, length, Contains, AllPairs, slice_index}
 use Rattle.std.specs.List.{range_with_len}
 use Rattle.heap_model.specs.declared.block.Block.{Block}
 use Rattle.heap_model.specs.Geometry.{lists, head_word, info_word, anchor_word, link_word, start_word, superblock_words}
