@@ -1,2 +1,6 @@
+mod FormatLemmas
+mod KindLemmas
+pub mod MigrationLemmas
 pub mod SameHeader
+mod StoredLemmas
 pub mod WordBytes

@@ -1,2 +1,3 @@
 pub mod Header
+pub mod Migration
 pub mod Words

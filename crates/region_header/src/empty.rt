@@ -5,7 +5,8 @@ ghost use Rattle.heap_model.specs.Header.{empty_words, IsWellFormed};
 
 use std::alloc::{AllocError, Global};
 use super_block::{
-    CAPACITY_WORD, CLEAN, Geometry, MAGIC, MAGIC_WORD, STATE_WORD, VERSION, VERSION_WORD,
+    CAPACITY_WORD, CLEAN, Geometry, MAGIC, MAGIC_WORD, ROOTS_OF_KIND_ONE, STATE_WORD, VERSION,
+    VERSION_WORD,
 };
 
 /// The words of an empty image of `capacity` superblocks, closed, of which none has been taken.
@@ -16,11 +17,14 @@ pub fn format(alloc: Global, capacity: u64) -> Result<Vec<u64>, AllocError>
     ensures well_formed { IfOk result
         (λ words. IsWellFormed (8 * length words.items) (slice_index words.items)) }
 {
-    let length = Geometry::new(capacity).length();
-    let mut words = vec![in alloc; 0; length as usize]?;
+    let geometry = Geometry::new(capacity);
+    let mut words = Vec::with_capacity(alloc, geometry.length() as usize)?;
+    words.resize(geometry.old_length() as usize, 0)?;
     words[MAGIC_WORD as usize] = MAGIC;
     words[VERSION_WORD as usize] = VERSION;
     words[CAPACITY_WORD as usize] = capacity;
     words[STATE_WORD as usize] = CLEAN;
+    words.resize(geometry.kind(ROOTS_OF_KIND_ONE) as usize, 1)?;
+    words.resize(geometry.length() as usize, 0)?;
     Ok(words)
 }

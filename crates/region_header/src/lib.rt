@@ -6,10 +6,12 @@ mod check;
 mod conversions;
 mod empty;
 mod laws;
+mod migration;
 
 pub use byte_list::Bytes;
 pub use check::{Header, check_bytes, read_header};
 pub use conversions::{bytes_to_words, words_to_bytes};
 pub use empty::format;
 pub use heap_model::BadHeader;
-pub use laws::conversions_are_inverse;
+pub use laws::{a_good_image_has_a_current_form, conversions_are_inverse};
+pub use migration::{migrate, migrate_owned};
