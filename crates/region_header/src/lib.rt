@@ -14,4 +14,4 @@ pub use conversions::{bytes_to_words, words_to_bytes};
 pub use empty::format;
 pub use heap_model::BadHeader;
 pub use laws::{a_good_image_has_a_current_form, conversions_are_inverse};
-pub use migration::{migrate, migrate_owned};
+pub use migration::{current, migrate, migrate_owned};

@@ -1,11 +1,11 @@
 //! Images of the version before, which stored no kinds of roots, as images of this version.
-ghost use Rattle.std.specs.Prelude.{◌≡◌, ◌*◌, length, slice_index, IfOk};
+ghost use Rattle.std.specs.Prelude.{◌≡◌, ◌*◌, ℕ, Option, length, slice_index, IfOk};
 ghost use Rattle.heap_model.specs.Geometry.{roots};
-ghost use Rattle.heap_model.specs.Header.{IsOldWellFormed};
-ghost use Rattle.region_header.specs.Migration.{migrated};
+ghost use Rattle.heap_model.specs.Header.{IsOldWellFormed, HasGoodHeader};
+ghost use Rattle.region_header.specs.Migration.{migrated, current_words};
 
 use std::alloc::{AllocError, Global};
-use super_block::{VERSION, VERSION_WORD};
+use super_block::{OLD_VERSION, VERSION, VERSION_WORD};
 
 /// The words of an image of the old version as those of one of this version: the same words, but
 /// the version, and the kinds of the roots behind them, which the old version left to the program.
@@ -32,4 +32,19 @@ pub fn migrate_owned(words: Vec<u64>, kinds: &[u32]) -> Result<Vec<u64>, AllocEr
         new.push_reserved(kinds[i] as u64);
     }
     Ok(new)
+}
+
+/// The words of an image with a good header in this version: as they are or, where they are of the
+/// old version, migrated in their room.
+pub fn current(words: Vec<u64>, kinds: &[u32]) -> Result<Vec<u64>, AllocError>
+    ghost limit: { Option ℕ }
+    requires good { HasGoodHeader limit (8 * length words.items) (slice_index words.items) }
+    requires roots { length kinds.now ≡ roots }
+    ensures ok { IfOk result (λ new. new.items ≡ current_words words.items kinds.now) }
+{
+    if words[VERSION_WORD as usize] == OLD_VERSION {
+        migrate_owned(words, kinds)
+    } else {
+        Ok(words)
+    }
 }

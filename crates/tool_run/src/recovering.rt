@@ -111,7 +111,7 @@ fn recover_beside(alloc: Global, bytes: Vec<u8>) -> Result<(Vec<u64>, Recovered)
     ensures none { OnOk result ((at : ℕ) → PointsOutside (image_in bytes.items) at → ⊥) }
     ensures err { IfErr result (IsRecoveryFault (image_in bytes.items)) }
 {
-    let words = current(alloc, words_in(alloc, bytes)?, &root_kinds())?;
+    let words = current(words_in(alloc, bytes)?, &root_kinds())?;
     let recovered = recover(alloc, &words, &root_kinds(), &DictFilter)?;
     Ok((words, recovered))
 }
