@@ -1,71 +1,62 @@
 -- What recovery of an image's words says of its bytes.
-use Rattle.std.proofs.Common.{◌≡◌, ◌↔◌, ℕ, ◌*◌, List, length, slice_index, Result, Ok, Err, Some, None, IfOk, IfErr, OnOk, sym, ◌∙◌, subst}
+use Rattle.std.proofs.Common.{◌≡◌, ◌↔◌, ℕ, ◌*◌, List, length, slice_index, Result, Ok, Err, Some, None, IfErr, sym, ap, ◌∙◌, subst}
 use Rattle.heap_model.specs.declared.block.Block.{Block}
-use Rattle.heap_model.specs.Geometry.{clean}
+use Rattle.heap_model.specs.Geometry.{roots, clean}
 use Rattle.heap_model.specs.Image.{Image, image_of_bytes}
-use Rattle.heap_model.specs.Header.{IsWellFormed, header_fault, state_of}
+use Rattle.heap_model.specs.Header.{HasGoodHeader, HasKindsBelow, IsWellFormed, header_fault, state_of, first_kinds}
 use Rattle.heap_model.specs.Blocks.{layout_of}
-use Rattle.heap_model.specs.Reach.{IsReached, IsOutside}
 use Rattle.heap_model.specs.Recovered.{IsFreeSuperblock, AreAscending}
 use Rattle.heap_model.specs.Recovery.{IsRecovered}
 use Rattle.heap_model.proofs.HeaderLemmas.{no_fault}
-use Rattle.dict_model.specs.Links.{dict_links, root_kind}
+use Rattle.dict_model.specs.Links.{dict_links, kind_count, root_kind}
 use Rattle.region_header.specs.Words.{AreWordsOf}
+use Rattle.region_header.specs.Migration.{current_words}
 use Rattle.heap_recover.specs.Fault.{TellsFault}
 use Rattle.heap_recover.specs.declared.answer.Recovered.{Recovered}
 use Rattle.heap_recover.specs.declared.answer.Was.TheVariants.{Clean}
 use Rattle.heap_recover.specs.declared.fault.RecoverFault.{RecoverFault}
 use Rattle.heap_recover.specs.declared.fault.RecoverFault.TheVariants.{Header, Outside, Memory}
-use Rattle.image_run.proofs.PutLemmas.{image_of_words}
-use Rattle.tool_run.specs.Making.{PointsOutside}
-use Rattle.tool_run.specs.Recovering.{IsRecoveredHeap, IsRecoveryFault}
+use Rattle.image_run.proofs.PutLemmas.{image_of_words, words_are_in, first_are}
+use Rattle.tool_run.specs.Making.{IsKept, PointsOutside, image_in}
+use Rattle.tool_run.specs.Recovering.{HoldsImage, IsRecoveredHeap, IsRecoveryFault, words_in_bytes}
 
--- an image recovered with the kinds of roots
-RecoversWith : Image → (ℕ → ℕ) → Recovered → Type 0
-RecoversWith image kinds answer =
-    AreAscending (λ (b : Block). b.first_word) (IsReached image kinds dict_links) answer.heap.held
-    × AreAscending (λ d. d) (IsFreeSuperblock (layout_of image) (IsReached image kinds dict_links)) answer.free.items
-    × IsRecovered image (slice_index answer.heap.words) (IsReached image kinds dict_links)
-    × ((answer.was ≡ Clean) ↔ (state_of image ≡ clean))
+-- recovery of an image gives the heap that it gives of the same image in another form
+pub recovered_heap : (image other : Image) (answer : Recovered) → image ≡ other
+    → AreAscending (λ (b : Block). b.first_word) (IsKept image) answer.heap.held
+    → AreAscending (λ d. d) (IsFreeSuperblock (layout_of image) (IsKept image)) answer.free.items
+    → IsRecovered image (slice_index answer.heap.words) (IsKept image)
+    → ((answer.was ≡ Clean) ↔ (state_of image ≡ clean))
+    → HasKindsBelow (Some kind_count) (slice_index answer.heap.words) → IsRecoveredHeap other answer
+recovered_heap image other answer same held free words was kinds =
+    subst (λ (i : Image). IsRecoveredHeap i answer) same
+    (record { recovers = record { held_are = held; free_are = free; words_are = words }; was = was; kinds = kinds })
 
-module _ (words kinds bytes : List ℕ) (kinds_are : (i : ℕ) → slice_index kinds i ≡ root_kind i) (of : AreWordsOf words bytes) where
-  -- the heap is what recovery of the bytes gives
-  pub recovery_of : (result : Result Recovered RecoverFault)
-      → IfOk result (λ answer. AreAscending (λ (b : Block). b.first_word) (IsReached (slice_index words) (slice_index kinds) dict_links) answer.heap.held)
-      → IfOk result (λ answer. AreAscending (λ d. d) (IsFreeSuperblock (layout_of (slice_index words)) (IsReached (slice_index words) (slice_index kinds) dict_links)) answer.free.items)
-      → IfOk result (λ answer. IsRecovered (slice_index words) (slice_index answer.heap.words) (IsReached (slice_index words) (slice_index kinds) dict_links))
-      → IfOk result (λ answer. (answer.was ≡ Clean) ↔ (state_of (slice_index words) ≡ clean))
-      → IfOk result (IsRecoveredHeap (image_of_bytes bytes))
-  unfolding RecoversWith
-  recovery_of (Err e) held free left was = tt
-  recovery_of (Ok answer) held free left was =
-      let here : RecoversWith (slice_index words) (slice_index kinds) answer = (held, free, left, was) in
-      let kinds_same : RecoversWith (slice_index words) root_kind answer = subst (λ (ks : ℕ → ℕ). RecoversWith (slice_index words) ks answer) (λ i at. kinds_are at i) here in
-      let there : RecoversWith (image_of_bytes bytes) root_kind answer = subst (λ (image : Image). RecoversWith image root_kind answer) (image_of_words words bytes of) kinds_same in
-      record { recovers = record { held_are = there.0; free_are = there.1; words_are = there.2 }; was = there.3 }
+module _ (words kinds bytes : List ℕ) (count : length kinds ≡ roots) (kinds_are : (i : ℕ) → slice_index kinds i ≡ root_kind i) (of : AreWordsOf words bytes) where
+  -- the words in the new version are those in the bytes
+  pub current_in : current_words words kinds ≡ current_words (words_in_bytes bytes) first_kinds
+  current_in = ap (λ ws. current_words ws kinds) (sym (words_are_in words bytes of)) ∙ ap (λ ks. current_words (words_in_bytes bytes) ks) (first_are kinds count kinds_are)
 
-  -- what points outside in the bytes does so in the words
-  outside_words : (at : ℕ) → PointsOutside (image_of_bytes bytes) at → IsOutside (slice_index words) (slice_index kinds) dict_links at
-  outside_words at points =
-      let kinds_same : IsOutside (image_of_bytes bytes) (slice_index kinds) dict_links at = subst (λ (ks : ℕ → ℕ). IsOutside (image_of_bytes bytes) ks dict_links at) (λ i w. sym (kinds_are w) i) points in
-      subst (λ (image : Image). IsOutside image (slice_index kinds) dict_links at) (sym (image_of_words words bytes of)) kinds_same
+  pub image_is : slice_index (current_words words kinds) ≡ image_in bytes
+  image_is = ap (λ (ws : List ℕ). slice_index ws) current_in
 
-  pub none_outside : (result : Result Recovered RecoverFault) → OnOk result ((at : ℕ) → IsOutside (slice_index words) (slice_index kinds) dict_links at → ⊥)
-      → OnOk result ((at : ℕ) → PointsOutside (image_of_bytes bytes) at → ⊥)
-  none_outside (Err e) none = tt
-  none_outside (Ok answer) none = λ at points. none at (outside_words at points)
+  pub formed_in : IsWellFormed (8 * length (current_words words kinds)) (slice_index (current_words words kinds)) → HoldsImage bytes
+  formed_in formed = subst (λ (ws : List ℕ). IsWellFormed (8 * length ws) (slice_index ws)) current_in formed
+
+  -- the header of the words is that of the bytes
+  pub good_words : HasGoodHeader (Some kind_count) (length bytes) (image_of_bytes bytes) → HasGoodHeader (Some kind_count) (8 * length words) (slice_index words)
+  good_words good = subst (λ n. HasGoodHeader (Some kind_count) n (slice_index words)) (sym of.count)
+      (subst (λ (image : Image). HasGoodHeader (Some kind_count) (length bytes) image) (sym (image_of_words words bytes of)) good)
 
   -- why the bytes are not recovered
-  pub recovery_fault : (result : Result Recovered RecoverFault) → IsWellFormed (length bytes) (image_of_bytes bytes)
-      → IfErr result (TellsFault (8 * length words) (slice_index words) (slice_index kinds) dict_links) → IfErr result (IsRecoveryFault (image_of_bytes bytes))
+  pub recovery_fault : (result : Result Recovered RecoverFault) → HasGoodHeader (Some kind_count) (length bytes) (image_of_bytes bytes)
+      → IfErr result (TellsFault (Some kind_count) words (current_words words kinds) dict_links) → IfErr result (IsRecoveryFault (image_in bytes))
   recovery_fault (Ok answer) good why = tt
   recovery_fault (Err Memory) good why = tt
   recovery_fault (Err (Header cause)) good why =
-      let none : header_fault (length bytes) (image_of_bytes bytes) ≡ None = no_fault (length bytes) (image_of_bytes bytes) good in
-      let some : header_fault (8 * length words) (image_of_bytes bytes) ≡ Some cause = subst (λ (image : Image). header_fault (8 * length words) image ≡ Some cause) (image_of_words words bytes of) why in
-      let same : header_fault (length bytes) (image_of_bytes bytes) ≡ Some cause = subst (λ n. header_fault n (image_of_bytes bytes) ≡ Some cause) of.count some in
+      let none : header_fault (Some kind_count) (8 * length words) (slice_index words) ≡ None = no_fault (Some kind_count) (8 * length words) (slice_index words) (good_words good) in
+      let some : header_fault (Some kind_count) (8 * length words) (slice_index words) ≡ Some cause = why in
       absurd (cc)
-  recovery_fault (Err (Outside at value)) good why =
-      let kinds_same : IsOutside (slice_index words) root_kind dict_links at = subst (λ (ks : ℕ → ℕ). IsOutside (slice_index words) ks dict_links at) (λ i w. kinds_are w i) why.1 in
-      let there : PointsOutside (image_of_bytes bytes) at = subst (λ (image : Image). IsOutside image root_kind dict_links at) (image_of_words words bytes of) kinds_same in
-      (there, why.2 ∙ of.word at)
+  recovery_fault (Err (Outside at value)) good why = (
+    subst (λ (image : Image). PointsOutside image at) image_is why.1.0,
+    why.1.1 ∙ ap (λ (image : Image). image at) image_is,
+  )
