@@ -146,7 +146,7 @@ class Schedule:
         if not seat.roots or not blocks:
             return None
         root, block = self.chance.choice(sorted(seat.roots)[:20]), self.chance.choice(blocks)
-        # Roots 0 to 7 lead to tables, all of whose words are links.
-        words = [] if root >= 48 else [["store", block + i, 0] for i in range(8)]
+        # What a root of kind 1 leads to is a table, all of whose words are links.
+        words = [["store", block + i, 0] for i in range([0, 8, 1][self.core.image.kind(root)])]
         value = self.chance.choice([0, 0x5250 << 48 | 8 * block, 0x5250 << 48 | 8 * block])
         return words + self.durably(root, value)

@@ -12,7 +12,10 @@ LARGEST_SMALL = SIZES[-1]
 FIXED = 1064  # the words before the first descriptor
 ROOTS = range(40, 1064)
 SUPERBLOCK = 8192
-USED, STATE = 8, 3
+VERSION, USED, STATE = 1, 8, 3
+MOST = {1: 256, 2: 4096}  # the superblocks of an image, by its version
+KINDS = 3  # a kind is below it: 1 of a table, 2 of a node, 0 of a block without links
+FIRST_KINDS = [1] * 8 + [0] * (len(ROOTS) - 8)  # of an empty image, and of one of version 1
 LONGEST_VALUE = 131072
 
 
@@ -36,15 +39,42 @@ def offset_in(word):
     return word & ((1 << 48) - 1)
 
 
+def kinds_begin(capacity):
+    """Behind the last superblock: there an image of version 1 ends, and there one of version 2 has
+    the kinds of its roots."""
+    return FIXED + (8 + SUPERBLOCK) * capacity
+
+
+def length_of(version, capacity):
+    return kinds_begin(capacity) + (len(ROOTS) if version == 2 else 0)
+
+
+def migrated(words):
+    """The words as version 2 has them."""
+    if words[VERSION] == 2:
+        return words
+    return words[:VERSION] + [2] + words[VERSION + 1:] + FIRST_KINDS
+
+
 class Image:
-    """An image with a good header. A block is (first word, words)."""
+    """An image with a good header, in version 2 once it is read. A block is (first word, words)."""
 
     def __init__(self, data):
         cause = header_cause(data)
         if cause:
             raise Refused(7, [f"bad header {cause}"])
-        self.words = to_words(data)
+        self.words = migrated(to_words(data))
         self.capacity, self.used = self.words[2], self.words[USED]
+
+    def kind_place(self, root):
+        """Where the kind of the root at this word is stored."""
+        return kinds_begin(self.capacity) + root - ROOTS[0]
+
+    def kind(self, root):
+        return self.words[self.kind_place(root)]
+
+    def kinds(self):
+        return self.words[kinds_begin(self.capacity):]
 
     def info(self, d):
         return self.words[FIXED + 8 * d]
@@ -80,7 +110,7 @@ class Image:
 
     def reached(self, roots, outside=None):
         """The blocks that some roots reach; words outside are added to a list."""
-        pairs, places = set(), [(at, 1 if at - 40 < 8 else 0) for at in roots]
+        pairs, places = set(), [(at, self.kind(at)) for at in roots]
         while places:
             at, kind = places.pop()
             word = self.words[at]
@@ -118,6 +148,7 @@ class Image:
             if not holds:
                 raise Refused(9, [f"bad shard {shard} at {at}"])
 
+        demand(self.kind(root) == 1, self.kind_place(root))
         if words[root] == 0:
             return found
         table = self.target(words[root])
@@ -140,14 +171,18 @@ class Image:
 
 
 def header_cause(data):
+    """The first cause that holds. Those behind `version` are asked by the version."""
     if len(data) < 8 * FIXED:
         return "short"
     words = to_words(data[:8 * FIXED])
-    checks = [("magic", words[0] == MAGIC), ("version", words[1] == 1),
-              ("capacity", 1 <= words[2] <= 256),
-              ("length", len(data) == 8 * (FIXED + 8200 * words[2])),
-              ("state", words[STATE] in (1, 2)), ("used", words[USED] <= words[2])]
-    return next((cause for cause, is_good in checks if not is_good), None)
+    version, capacity = words[VERSION], words[2]
+    checks = [("magic", lambda: words[0] == MAGIC), ("version", lambda: version in MOST),
+              ("capacity", lambda: 1 <= capacity <= MOST[version]),
+              ("length", lambda: len(data) == 8 * length_of(version, capacity)),
+              ("state", lambda: words[STATE] in (1, 2)), ("used", lambda: words[USED] <= capacity),
+              ("kind", lambda: version == 1
+               or all(kind < KINDS for kind in to_words(data[8 * kinds_begin(capacity):])))]
+    return next((cause for cause, is_good in checks if not is_good()), None)
 
 
 def runs_of(indexes):
