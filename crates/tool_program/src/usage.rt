@@ -3,7 +3,7 @@
 /// Every command with a line of its own, the options with their ranges, and an example.
 pub const USAGE: &str = "\
 usage: heap_tool COMMAND
-  format IMAGE S       put an empty heap of S superblocks of 64 KiB (1 to 256)
+  format IMAGE S       put an empty heap of S superblocks of 64 KiB (1 to 4096)
   show IMAGE [--map]   recover the heap and print a report; with --map its superblocks too
   run IMAGE --workers N [--stop K] [--seed X] [--sum] [--map]
                        work off the requests on standard input, put the heap that is left,
