@@ -5,7 +5,7 @@ use Rattle.heap_model.specs.Image.{Image}
 use Rattle.heap_model.specs.Blocks.{layout_of, Names, IsBlock}
 use Rattle.heap_model.specs.Pointers.{IsPointerTo, Leads, LeadsOutside}
 use Rattle.heap_model.specs.Geometry.{roots, root_word}
-use Rattle.heap_model.specs.Reach.{Links, words_in, Closure, by_start, by_link, ReachFrom, Reach, is_root, is_linked, IsTracedFrom, TracesAlike, IsClosed}
+use Rattle.heap_model.specs.Reach.{Links, words_in, Closure, by_start, by_link, ReachFrom, Reach, is_root, is_linked, IsTracedFrom, IsTraced, TracesAlike, IsClosed}
 use Rattle.heap_model.proofs.BlockLemmas.{same_first}
 use Rattle.heap_model.proofs.DecisionLemmas.{is_block}
 
@@ -148,3 +148,17 @@ module _ (image other : Image) (chosen : ℕ → Type 0) (kinds : ℕ → ℕ) (
         let reaches : (c : Block) → Leads image (image (a.first_word + link.position)) c → ReachFrom image chosen kinds links c kind =
         λ c leads. by_link a c from kind before (record { position = link.position; listed = listed; leads = leads }) in
         reaches b (leads_here (a.first_word + link.position) kind b traced reaches link.leads)
+
+-- what is reached, and what a trace looks at, depends only on the kinds of the roots that there are
+pub reach_by_kinds : (image : Image) (kinds other : ℕ → ℕ) (links : Links) → ((i : ℕ) → i < roots → kinds i ≡ other i)
+    → (b : Block) (kind : ℕ) → Reach image kinds links b kind → Reach image other links b kind
+reach_by_kinds image kinds other links same _ _ (by_start b kind starts) =
+    by_start b kind (record { root = starts.root; below = starts.below; is_chosen = starts.is_chosen; kind_is = starts.kind_is ∙ same starts.root starts.below; leads = starts.leads })
+reach_by_kinds image kinds other links same _ _ (by_link a b from kind reached leads) =
+    by_link a b from kind (reach_by_kinds image kinds other links same a from reached) leads
+
+pub traced_by_kinds : (image : Image) (kinds other : ℕ → ℕ) (links : Links) → ((i : ℕ) → i < roots → kinds i ≡ other i)
+    → (at : ℕ) → IsTraced image kinds links at → IsTraced image other links at
+traced_by_kinds image kinds other links same _ (is_root root at below chosen is) = is_root root at below chosen is
+traced_by_kinds image kinds other links same _ (is_linked a from position kind at reached listed is) =
+    is_linked a from position kind at (reach_by_kinds image kinds other links same a from reached) listed is

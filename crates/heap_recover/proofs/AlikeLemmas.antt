@@ -1,22 +1,22 @@
 -- An image between one and what recovery makes of it is recovered to the same: each word has the one value or the other, but the state and those that a crash leaves with any value.
 use Rattle.std.proofs.Common.{◌≡◌, ◌≢◌, ℕ, zero, suc, ◌+◌, ◌*◌, ◌<◌, ◌≤◌, ◌⊎◌, inl, inr, List, ◌∷◌, length, slice_index, Contains, refl, sym, ap, subst, ◌∙◌, arith}
 use Rattle.heap_model.specs.declared.block.Block.{Block}
-use Rattle.heap_model.specs.Geometry.{magic_word, version_word, capacity_word, used_word, state_word, clean, dirty, info_word, root_word, start_word, roots}
-use Rattle.heap_model.specs.Header.{IsWellFormed, capacity_of, used_of}
+use Rattle.heap_model.specs.Geometry.{magic_word, version_word, capacity_word, used_word, state_word, clean, dirty, info_word, root_word, start_word, kind_word, roots}
+use Rattle.heap_model.specs.Header.{IsWellFormed, capacity_of, used_of, kinds_of}
 use Rattle.heap_model.specs.Image.{Image, words_from}
 use Rattle.heap_model.specs.Blocks.{IsBlock, IsIn, layout_of}
 use Rattle.heap_model.specs.Pointers.{Leads, LeadsOutside}
-use Rattle.heap_model.specs.Reach.{Links, AreInside, AnyRoot, Reach, IsReached, IsOutside, IsTraced, is_root, is_linked, TracesAlike, words_in, by_start, by_link}
+use Rattle.heap_model.specs.Reach.{Links, AreInside, AnyRoot, Reach, ReachIn, IsReached, IsReachedIn, IsOutsideIn, IsTraced, is_root, is_linked, TracesAlike, words_in, by_start, by_link}
 use Rattle.heap_model.specs.Recovered.{HasPartIn, IsFreeSuperblock, AreAscending}
 use Rattle.heap_model.specs.Recovery.{IsRecovered, in_header}
 use Rattle.heap_model.specs.Durability.{Mixes, IsCrashImage, IsTransient, is_head, is_anchor, is_link}
 use Rattle.heap_model.proofs.BlockLemmas.{block_inside}
 use Rattle.heap_model.proofs.ImageLemmas.{length-words_from}
-use Rattle.heap_model.proofs.ReachLemmas.{reached_block, reach_kept, nothing_more}
+use Rattle.heap_model.proofs.ReachLemmas.{reached_block, reach_kept, nothing_more, reach_by_kinds, traced_by_kinds}
 use Rattle.heap_at_rest.proofs.LeftLemmas.{IsLeft}
 use Rattle.heap_at_rest.proofs.LayoutLemmas.{same_there}
 use Rattle.heap_at_rest.proofs.RecoveredLemmas.{info_left}
-use Rattle.heap_recover.proofs.UnchangedLemmas.{words_unchanged, roots_unchanged}
+use Rattle.heap_recover.proofs.UnchangedLemmas.{words_unchanged, roots_unchanged, kinds_unchanged}
 use Rattle.line_memory.specs.View.{View}
 use Rattle.heap_recover.specs.InPlace.{IsRecoveryOf, RecoversAlike, IsBetween, IsPartlyRecovered}
 
@@ -36,10 +36,13 @@ stays capacity _ (inr (inr (inr inside))) (is_head list word below e) = omega ar
 stays capacity _ (inr (inr (inr inside))) (is_anchor d word below e) = omega arith
 stays capacity _ (inr (inr (inr inside))) (is_link d word below e) = omega arith
 
-module _ (old new : Image) (kinds : ℕ → ℕ) (links : Links) (bytes limit : ℕ) (held : List Block)
-    (formed : IsWellFormed bytes old) (none : (at : ℕ) → IsOutside old kinds links at → ⊥) (within : AreInside limit links)
-    (held_are : AreAscending (λ (b : Block). b.first_word) (IsReached old kinds links) held)
-    (recovered : IsRecovered old new (IsReached old kinds links)) (image : Image) (partly : IsPartlyRecovered old new image) where
+module _ (old new : Image) (links : Links) (bytes limit : ℕ) (held : List Block)
+    (formed : IsWellFormed bytes old) (none : (at : ℕ) → IsOutsideIn old links at → ⊥) (within : AreInside limit links)
+    (held_are : AreAscending (λ (b : Block). b.first_word) (IsReachedIn old links) held)
+    (recovered : IsRecovered old new (IsReachedIn old links)) (image : Image) (partly : IsPartlyRecovered old new image) where
+  abbrev kinds : ℕ → ℕ
+  kinds = kinds_of old
+
   -- a word that recovery keeps, and that a crash keeps
   same_as_old : (word : ℕ) → word ≢ state_word → (IsTransient (capacity_of old) word → ⊥) → new word ≡ old word → image word ≡ old word
   same_as_old word other lasts kept = elim (partly.others word other lasts) as (λ _. image word ≡ old word) [ inl e ↦ e | inr e ↦ e ∙ kept ]
@@ -156,31 +159,46 @@ module _ (old new : Image) (kinds : ℕ → ℕ) (links : Links) (bytes limit : 
       }) out
 
   -- a superblock without a part of a reached block
-  free_same : (d : ℕ) → IsFreeSuperblock (layout_of old) (IsReached old kinds links) d → IsFreeSuperblock (layout_of image) (IsReached image kinds links) d
+  free_same : (d : ℕ) → IsFreeSuperblock (layout_of old) (IsReached old kinds links) d → IsFreeSuperblock (layout_of image) (IsReachedIn image links) d
   free_same d free = record {
     taken = let same = used_same in let taken = free.taken in omega arith;
-    empty = λ b reached part. free.empty b (record { kind = reached.kind; reach = from_image b reached.kind reached.reach })
+    empty = λ b reached part. free.empty b (record { kind = reached.kind; reach = from_image b reached.kind (from_stored b reached.kind reached.reach) })
         (subst (λ c. HasPartIn c b d) capacity_same part);
   }
 
-  free_back : (d : ℕ) → IsFreeSuperblock (layout_of image) (IsReached image kinds links) d → IsFreeSuperblock (layout_of old) (IsReached old kinds links) d
+  free_back : (d : ℕ) → IsFreeSuperblock (layout_of image) (IsReachedIn image links) d → IsFreeSuperblock (layout_of old) (IsReached old kinds links) d
   free_back d free = record {
     taken = let same = used_same in let taken = free.taken in omega arith;
-    empty = λ b reached part. free.empty b (record { kind = reached.kind; reach = to_image b reached.kind reached.reach })
+    empty = λ b reached part. free.empty b (record { kind = reached.kind; reach = to_stored b reached.kind (to_image b reached.kind reached.reach) })
         (subst (λ c. HasPartIn c b d) (sym capacity_same) part);
   }
 
-  pub recovers_alike : RecoversAlike bytes old image kinds links
+  -- the kinds that the image stores
+  kinds_same : (root : ℕ) → root < roots → kinds_of image root ≡ kinds root
+  kinds_same root below =
+      let kind = kind_word (capacity_of old) root in
+      ap (λ c. image (kind_word c root)) capacity_same
+      ∙ same_as_old kind (λ e. omega (arith, e)) (stays (capacity_of old) kind (inr (inr (inr (omega arith)))))
+      (kinds_unchanged old new (IsReachedIn old links) recovered formed.used root below)
+
+  to_stored : (b : Block) (kind : ℕ) → Reach image kinds links b kind → ReachIn image links b kind
+  to_stored = reach_by_kinds image kinds (kinds_of image) links (λ root below. sym (kinds_same root below))
+
+  from_stored : (b : Block) (kind : ℕ) → ReachIn image links b kind → Reach image kinds links b kind
+  from_stored = reach_by_kinds image (kinds_of image) kinds links kinds_same
+
+  pub recovers_alike : RecoversAlike bytes old image links
   recovers_alike = record {
     formed = formed_same;
-    none_outside = λ at out. none_there at out.traced out.outside;
-    reach = λ b kind. (to_image b kind, from_image b kind);
+    none_outside = λ at out. none_there at (traced_by_kinds image (kinds_of image) kinds links kinds_same at out.traced) out.outside;
+    reach = λ b kind. (λ reached. to_stored b kind (to_image b kind reached), λ reached. from_image b kind (from_stored b kind reached));
     words = words_same;
     roots_are = roots_same;
+    kinds_are = kinds_same;
     free = λ d. (free_same d, free_back d);
   }
 
-module _ (old new : List ℕ) (kinds : ℕ → ℕ) (links : Links) (recovered : IsRecovered (slice_index old) (slice_index new) (IsReached (slice_index old) kinds links))
+module _ (old new : List ℕ) (links : Links) (recovered : IsRecovered (slice_index old) (slice_index new) (IsReachedIn (slice_index old) links))
     (formed : IsWellFormed (8 * length old) (slice_index old)) (v : View) (between : IsBetween old new v) where
   -- whatever a crash leaves of such words
   pub crash_partly : (image : Image) → IsCrashImage (slice_index v.durable) image → IsPartlyRecovered (slice_index old) (slice_index new) image
@@ -212,13 +230,13 @@ module _ (old new : List ℕ) (kinds : ℕ → ℕ) (links : Links) (recovered :
     ]
 
 -- so recovery of what is left keeps the same
-module _ (old new : List ℕ) (kinds : ℕ → ℕ) (links : Links) (held : List Block) (limit : ℕ) (within : AreInside limit links)
-    (is : IsRecoveryOf old kinds links new held) (v : View) (between : IsBetween old new v) where
-  alike_by : (image : Image) → IsPartlyRecovered (slice_index old) (slice_index new) image → RecoversAlike (8 * length old) (slice_index old) image kinds links
-  alike_by = recovers_alike (slice_index old) (slice_index new) kinds links (8 * length old) limit held is.formed is.none_outside within is.held_are is.words_are
+module _ (old new : List ℕ) (links : Links) (held : List Block) (limit : ℕ) (within : AreInside limit links)
+    (is : IsRecoveryOf old links new held) (v : View) (between : IsBetween old new v) where
+  alike_by : (image : Image) → IsPartlyRecovered (slice_index old) (slice_index new) image → RecoversAlike (8 * length old) (slice_index old) image links
+  alike_by = recovers_alike (slice_index old) (slice_index new) links (8 * length old) limit held is.formed is.none_outside within is.held_are is.words_are
 
-  pub crash_alike : (image : Image) → IsCrashImage (slice_index v.durable) image → RecoversAlike (8 * length old) (slice_index old) image kinds links
-  crash_alike image crash = alike_by image (crash_partly old new kinds links is.words_are is.formed v between image crash)
+  pub crash_alike : (image : Image) → IsCrashImage (slice_index v.durable) image → RecoversAlike (8 * length old) (slice_index old) image links
+  crash_alike image crash = alike_by image (crash_partly old new links is.words_are is.formed v between image crash)
 
-  pub mixed_alike : (image : Image) → Mixes (slice_index v.volatile) (slice_index v.durable) image → RecoversAlike (8 * length old) (slice_index old) image kinds links
-  mixed_alike image mixes = alike_by image (mixed_partly old new kinds links is.words_are is.formed v between image mixes)
+  pub mixed_alike : (image : Image) → Mixes (slice_index v.volatile) (slice_index v.durable) image → RecoversAlike (8 * length old) (slice_index old) image links
+  mixed_alike image mixes = alike_by image (mixed_partly old new links is.words_are is.formed v between image mixes)

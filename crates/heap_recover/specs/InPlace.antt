@@ -2,11 +2,11 @@
 use Rattle.std.specs.Prelude.{◌≡◌, ◌≢◌, ◌↔◌, ◌⊎◌, ℕ, zero, suc, ◌+◌, ◌*◌, ◌<◌, ◌≤◌, cond, nat_eq, List, length, slice_index, Some}
 use Rattle.heap_model.specs.declared.block.Block.{Block}
 use Rattle.heap_model.specs.Geometry.{roots, root_word, state_word, clean, dirty}
-use Rattle.heap_model.specs.Header.{IsWellFormed, capacity_of}
+use Rattle.heap_model.specs.Header.{IsWellFormed, capacity_of, kinds_of}
 use Rattle.heap_model.specs.Durability.{IsTransient}
 use Rattle.heap_model.specs.Image.{Image}
 use Rattle.heap_model.specs.Blocks.{IsIn, layout_of}
-use Rattle.heap_model.specs.Reach.{Links, Reach, IsReached, IsOutside}
+use Rattle.heap_model.specs.Reach.{Links, ReachIn, IsReachedIn, IsOutsideIn}
 use Rattle.heap_model.specs.Recovered.{IsFreeSuperblock, AreAscending}
 use Rattle.heap_model.specs.Recovery.{IsRecovered}
 use Rattle.line_memory.specs.View.{View, word_count, volatile_at, durable_at, IsPending}
@@ -17,12 +17,12 @@ differences old new zero = 0
 differences old new (suc n) = differences old new n + cond (nat_eq (old n) (new n)) 0 1
 
 -- the heap of these words and held blocks is what recovery makes of the image
-pub record IsRecoveryOf (old : List ℕ) (kinds : ℕ → ℕ) (links : Links) (new : List ℕ) (held : List Block) : Type 0 where
+pub record IsRecoveryOf (old : List ℕ) (links : Links) (new : List ℕ) (held : List Block) : Type 0 where
   pub formed : IsWellFormed (8 * length old) (slice_index old)
-  pub none_outside : (at : ℕ) → IsOutside (slice_index old) kinds links at → ⊥
-  pub held_are : AreAscending (λ (b : Block). b.first_word) (IsReached (slice_index old) kinds links) held
+  pub none_outside : (at : ℕ) → IsOutsideIn (slice_index old) links at → ⊥
+  pub held_are : AreAscending (λ (b : Block). b.first_word) (IsReachedIn (slice_index old) links) held
   pub long : length new ≡ length old
-  pub words_are : IsRecovered (slice_index old) (slice_index new) (IsReached (slice_index old) kinds links)
+  pub words_are : IsRecovered (slice_index old) (slice_index new) (IsReachedIn (slice_index old) links)
 
 -- a memory that has the image, each word of it durable
 pub record HoldsDurably (words : List ℕ) (v : View) : Type 0 where
@@ -30,15 +30,16 @@ pub record HoldsDurably (words : List ℕ) (v : View) : Type 0 where
   pub durable : v.durable ≡ words
 
 -- Recovery of the other image keeps the same as that of the one: its header is good, nothing in it is outside, the same blocks are
--- reached as the same kinds, with the same words, from the same roots, and the same superblocks are free.
-pub record RecoversAlike (bytes : ℕ) (image other : Image) (kinds : ℕ → ℕ) (links : Links) : Type 0 where
+-- reached as the same kinds, with the same words, from the same roots of the same kinds, and the same superblocks are free.
+pub record RecoversAlike (bytes : ℕ) (image other : Image) (links : Links) : Type 0 where
   pub formed : IsWellFormed bytes other
-  pub none_outside : (at : ℕ) → IsOutside other kinds links at → ⊥
-  pub reach : (b : Block) (kind : ℕ) → Reach image kinds links b kind ↔ Reach other kinds links b kind
-  pub words : (b : Block) (word : ℕ) → IsReached image kinds links b → IsIn b word → other word ≡ image word
+  pub none_outside : (at : ℕ) → IsOutsideIn other links at → ⊥
+  pub reach : (b : Block) (kind : ℕ) → ReachIn image links b kind ↔ ReachIn other links b kind
+  pub words : (b : Block) (word : ℕ) → IsReachedIn image links b → IsIn b word → other word ≡ image word
   pub roots_are : (root : ℕ) → root < roots → other (root_word root) ≡ image (root_word root)
-  pub free : (d : ℕ) → IsFreeSuperblock (layout_of image) (IsReached image kinds links) d
-      ↔ IsFreeSuperblock (layout_of other) (IsReached other kinds links) d
+  pub kinds_are : (root : ℕ) → root < roots → kinds_of other root ≡ kinds_of image root
+  pub free : (d : ℕ) → IsFreeSuperblock (layout_of image) (IsReachedIn image links) d
+      ↔ IsFreeSuperblock (layout_of other) (IsReachedIn other links) d
 
 -- each word that loads see, and each that is durable, is that of the one image or of the other
 pub record IsBetween (old new : List ℕ) (v : View) : Type 0 where

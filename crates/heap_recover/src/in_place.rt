@@ -91,8 +91,9 @@ fn store_image<M: LineMemory>(memory: &mut M, old: &[u64], new: &[u64]) -> Resul
 /// stored in the order of word index, each line is written back once, and at the end a fence makes
 /// all of it durable. Nothing is loaded.
 ///
-/// The memory has the image `x`, of which recovery with these kinds and this filter makes the heap
-/// `to`. The answer is `Stopped` where the memory allows no further step; what is left then is
+/// The memory has the image `x`, of this version, perhaps migrated, of which recovery with this
+/// filter makes the heap `to`. Its kinds of roots are those that it stores: nothing is read of
+/// `kinds`. The answer is `Stopped` where the memory allows no further step; what is left then is
 /// recovered to the same heap.
 pub fn rebuild<M: LineMemory, F: Filter>(
     memory: &mut M,
@@ -102,8 +103,8 @@ pub fn rebuild<M: LineMemory, F: Filter>(
     to: &Ready,
 ) -> Result<(), Stopped>
     requires memory { HoldsDurably x.now (M.view memory.old) }
-    requires recovered { IsRecoveryOf x.now (slice_index kinds.now) (F.links_of filter.now)
-        to.now.words to.now.held }
+    requires recovered { IsRecoveryOf x.now (F.links_of filter.now) to.now.words
+        to.now.held }
     ensures ok { OnOk result (HoldsDurably to.now.words (M.view memory.new)) }
     ensures stopped { IfErr result (λ e. IsStoppedAt (1 + 2 * differences (slice_index x.now)
         (slice_index to.now.words) (length x.now)) e.step (M.view memory.old) (M.view memory.new)) }
@@ -115,12 +116,10 @@ pub fn rebuild<M: LineMemory, F: Filter>(
     ensures between { IsBetween x.now to.now.words (M.view memory.new) }
     ensures crash { (image : Image)
         → IsCrashImage (slice_index (M.view memory.new).durable) image
-        → RecoversAlike (8 * length x.now) (slice_index x.now) image (slice_index kinds.now)
-        (F.links_of filter.now) }
+        → RecoversAlike (8 * length x.now) (slice_index x.now) image (F.links_of filter.now) }
     ensures mixed { (image : Image) → Mixes (slice_index (M.view memory.new).volatile)
         (slice_index (M.view memory.new).durable) image
-        → RecoversAlike (8 * length x.now) (slice_index x.now) image (slice_index kinds.now)
-        (F.links_of filter.now) }
+        → RecoversAlike (8 * length x.now) (slice_index x.now) image (F.links_of filter.now) }
 {
     store_image(memory, x, to.words())
 }

@@ -1,16 +1,17 @@
 //! The call that recovers an image.
-ghost use Rattle.std.specs.Prelude.{◌≡◌, ◌↔◌, ◌<◌, ◌*◌, ℕ, All, Some, Err, length, slice_index, IfOk, OnOk, IfErr, IsTrue};
+ghost use Rattle.std.specs.Prelude.{◌≡◌, ◌↔◌, ◌<◌, ◌*◌, ℕ, All, None, Some, Err, length, slice_index, IfOk, OnOk, IfErr, IsTrue};
 ghost use Rattle.heap_model.specs.declared.block.Block.{Block};
 ghost use Rattle.heap_model.specs.declared.header.BadHeader.{BadHeader};
-ghost use Rattle.heap_model.specs.Geometry.{roots, clean};
-ghost use Rattle.heap_model.specs.Header.{IsWellFormed, header_fault, state_of};
+ghost use Rattle.heap_model.specs.Geometry.{roots, clean, version_word};
+ghost use Rattle.heap_model.specs.Header.{IsWellFormed, HasGoodHeader, HasKindsBelow, header_fault, state_of};
 ghost use Rattle.heap_model.specs.Blocks.{layout_of};
-ghost use Rattle.heap_model.specs.Reach.{IsOutside, IsReached};
+ghost use Rattle.heap_model.specs.Reach.{IsOutsideIn, IsReachedIn};
 ghost use Rattle.heap_model.specs.Recovered.{IsFreeSuperblock, AreAscending};
 ghost use Rattle.heap_model.specs.Recovery.{IsRecovered};
 ghost use Rattle.super_block.specs.Division.{Describes};
+ghost use Rattle.region_header.specs.Migration.{current_words};
 ghost use Rattle.heap_recover.specs.Marked.{IsMarked, KeepsBlocks};
-ghost use Rattle.heap_recover.specs.Fault.{TellsFault};
+ghost use Rattle.heap_recover.specs.Fault.{TellsFault, TellsOutsideIn};
 ghost use Rattle.heap_recover.specs.Answer.{IsMadeOf};
 
 use crate::answer::{Recovered, Was};
@@ -18,13 +19,15 @@ use crate::fault::RecoverFault;
 use crate::lists::members;
 use crate::passes::rebuild;
 use filter_trace::{Filter, Marks, trace};
-use region_header::read_header;
+use region_header::{migrate, migrate_owned, read_header};
 use std::alloc::{AllocError, Global};
-use super_block::Ready;
+use super_block::{OLD_VERSION, Ready};
 
 /// Recovers an image: makes of any words a heap at rest in which exactly the blocks are held that
-/// the roots reach through the links of the filter, `kinds` being the kind of what each root leads
-/// to. Time and memory grow with the image. It is Ralloc's recovery: trace, then rebuild all else.
+/// the roots reach through the links of the filter. The kinds of what the roots lead to are those
+/// that the image stores; an image of the old version, which stores none, is first migrated with
+/// `kinds`, and these have no other use. Time and memory grow with the image. It is Ralloc's
+/// recovery: trace, then rebuild all else.
 pub fn recover<F: Filter>(
     alloc: Global,
     words: &[u64],
@@ -36,34 +39,41 @@ pub fn recover<F: Filter>(
 
     // the answer
     ensures held { IfOk result (λ answer. AreAscending (λ (b : Block). b.first_word)
-        (IsReached (slice_index words.now) (slice_index kinds.now) (F.links_of filter.now))
+        (IsReachedIn (slice_index (current_words words.now kinds.now)) (F.links_of filter.now))
         answer.heap.held) }
     ensures free { IfOk result (λ answer. AreAscending (λ d. d)
-        (IsFreeSuperblock (layout_of (slice_index words.now))
-        (IsReached (slice_index words.now) (slice_index kinds.now) (F.links_of filter.now)))
+        (IsFreeSuperblock (layout_of (slice_index (current_words words.now kinds.now)))
+        (IsReachedIn (slice_index (current_words words.now kinds.now)) (F.links_of filter.now)))
         answer.free.items) }
     ensures was { IfOk result (λ answer.
         (answer.was ≡ Was.Clean) ↔ (state_of (slice_index words.now) ≡ clean)) }
-    ensures long { IfOk result (λ answer. length answer.heap.words ≡ length words.now) }
-    ensures words { IfOk result (λ answer. IsRecovered (slice_index words.now)
+    ensures long { IfOk result (λ answer.
+        length answer.heap.words ≡ length (current_words words.now kinds.now)) }
+    ensures words { IfOk result (λ answer.
+        IsRecovered (slice_index (current_words words.now kinds.now))
         (slice_index answer.heap.words)
-        (IsReached (slice_index words.now) (slice_index kinds.now) (F.links_of filter.now))) }
+        (IsReachedIn (slice_index (current_words words.now kinds.now)) (F.links_of filter.now))) }
+    ensures kinds { IfOk result (λ answer.
+        HasKindsBelow (Some F.KINDS) (slice_index answer.heap.words)) }
 
     // when it comes, and what comes else
-    ensures formed { OnOk result (IsWellFormed (8 * length words.now) (slice_index words.now)) }
-    ensures none { OnOk result ((at : ℕ) → IsOutside (slice_index words.now)
-        (slice_index kinds.now) (F.links_of filter.now) at → ⊥) }
-    ensures cause { IfErr result (TellsFault (8 * length words.now) (slice_index words.now)
-        (slice_index kinds.now) (F.links_of filter.now)) }
+    ensures good { OnOk result
+        (HasGoodHeader (Some F.KINDS) (8 * length words.now) (slice_index words.now)) }
+    ensures formed { OnOk result (IsWellFormed (8 * length (current_words words.now kinds.now))
+        (slice_index (current_words words.now kinds.now))) }
+    ensures none { OnOk result ((at : ℕ)
+        → IsOutsideIn (slice_index (current_words words.now kinds.now))
+        (F.links_of filter.now) at → ⊥) }
+    ensures cause { IfErr result (TellsFault (Some F.KINDS) words.now
+        (current_words words.now kinds.now) (F.links_of filter.now)) }
     ensures header { (cause : BadHeader)
-        → header_fault (8 * length words.now) (slice_index words.now) ≡ Some cause
+        → header_fault (Some F.KINDS) (8 * length words.now) (slice_index words.now) ≡ Some cause
         → result ≡ Err (RecoverFault.Header cause) }
 {
     // A bad header is told before there is memory for a copy.
-    read_header(words)?;
-    let copy = Vec::from_slice(alloc, words)?;
-    let recovered = recover_owned(alloc, copy, kinds, filter)?;
-    Ok(recovered)
+    let header = read_header(words, Some(F::KINDS))?;
+    let current = current_copy(alloc, words, header.version, kinds)?;
+    recover_current(alloc, current, header.clean, filter)
 }
 
 /// The same in the room of the image, which is gone where it is refused.
@@ -77,22 +87,86 @@ pub fn recover_owned<F: Filter>(
     requires kinds { All (λ kind. kind < F.KINDS) kinds.now }
 
     // the answer
-    ensures ok { IfOk result (IsMadeOf words.items
-        (IsReached (slice_index words.items) (slice_index kinds.now) (F.links_of filter.now))) }
+    ensures ok { IfOk result (IsMadeOf (current_words words.items kinds.now)
+        (IsReachedIn (slice_index (current_words words.items kinds.now)) (F.links_of filter.now))) }
+    ensures was { IfOk result (λ answer.
+        (answer.was ≡ Was.Clean) ↔ (state_of (slice_index words.items) ≡ clean)) }
+    ensures kinds { IfOk result (λ answer.
+        HasKindsBelow (Some F.KINDS) (slice_index answer.heap.words)) }
 
     // when it comes, and what comes else
-    ensures formed { OnOk result (IsWellFormed (8 * length words.items) (slice_index words.items)) }
-    ensures none { OnOk result ((at : ℕ) → IsOutside (slice_index words.items)
-        (slice_index kinds.now) (F.links_of filter.now) at → ⊥) }
-    ensures cause { IfErr result (TellsFault (8 * length words.items) (slice_index words.items)
-        (slice_index kinds.now) (F.links_of filter.now)) }
+    ensures good { OnOk result
+        (HasGoodHeader (Some F.KINDS) (8 * length words.items) (slice_index words.items)) }
+    ensures formed { OnOk result (IsWellFormed (8 * length (current_words words.items kinds.now))
+        (slice_index (current_words words.items kinds.now))) }
+    ensures none { OnOk result ((at : ℕ)
+        → IsOutsideIn (slice_index (current_words words.items kinds.now))
+        (F.links_of filter.now) at → ⊥) }
+    ensures cause { IfErr result (TellsFault (Some F.KINDS) words.items
+        (current_words words.items kinds.now) (F.links_of filter.now)) }
     ensures header { (cause : BadHeader)
-        → header_fault (8 * length words.items) (slice_index words.items) ≡ Some cause
+        → header_fault (Some F.KINDS) (8 * length words.items) (slice_index words.items)
+        ≡ Some cause
         → result ≡ Err (RecoverFault.Header cause) }
 {
-    let header = read_header(&words)?;
-    let marks = trace(alloc, &words, kinds, filter)?;
-    let recovered = keep_marked(alloc, words, &marks, header.clean)?;
+    let header = read_header(&words, Some(F::KINDS))?;
+    let current = current_owned(words, header.version, kinds)?;
+    recover_current(alloc, current, header.clean, filter)
+}
+
+/// A copy of the words of an image with a good header, in this version.
+fn current_copy(
+    alloc: Global,
+    words: &[u64],
+    version: u64,
+    kinds: &[u32],
+) -> Result<Vec<u64>, AllocError>
+    requires good { HasGoodHeader None (8 * length words.now) (slice_index words.now) }
+    requires version { version ≡ slice_index words.now version_word }
+    requires roots { length kinds.now ≡ roots }
+    ensures ok { IfOk result (λ new. new.items ≡ current_words words.now kinds.now) }
+{
+    if version == OLD_VERSION {
+        migrate(alloc, words, kinds)
+    } else {
+        Vec::from_slice(alloc, words)
+    }
+}
+
+/// The words of an image with a good header, in this version.
+fn current_owned(words: Vec<u64>, version: u64, kinds: &[u32]) -> Result<Vec<u64>, AllocError>
+    requires good { HasGoodHeader None (8 * length words.items) (slice_index words.items) }
+    requires version { version ≡ slice_index words.items version_word }
+    requires roots { length kinds.now ≡ roots }
+    ensures ok { IfOk result (λ new. new.items ≡ current_words words.items kinds.now) }
+{
+    if version == OLD_VERSION {
+        migrate_owned(words, kinds)
+    } else {
+        Ok(words)
+    }
+}
+
+/// Recovers an image of this version with a good header.
+fn recover_current<F: Filter>(
+    alloc: Global,
+    words: Vec<u64>,
+    closed: bool,
+    filter: &F,
+) -> Result<Recovered, RecoverFault>
+    requires formed { IsWellFormed (8 * length words.items) (slice_index words.items) }
+    requires below { HasKindsBelow (Some F.KINDS) (slice_index words.items) }
+    requires closed { IsTrue closed ↔ (state_of (slice_index words.items) ≡ clean) }
+    ensures ok { IfOk result (IsMadeOf words.items
+        (IsReachedIn (slice_index words.items) (F.links_of filter.now))) }
+    ensures none { OnOk result ((at : ℕ) → IsOutsideIn (slice_index words.items)
+        (F.links_of filter.now) at → ⊥) }
+    ensures cause { IfErr result
+        (TellsOutsideIn (slice_index words.items) (F.links_of filter.now)) }
+{
+    let stored = root_table::kinds(&words);
+    let marks = trace(alloc, &words, &stored, filter)?;
+    let recovered = keep_marked(alloc, words, &marks, closed)?;
     Ok(recovered)
 }
 
