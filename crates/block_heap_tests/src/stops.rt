@@ -57,7 +57,7 @@ fn has_no_other(
     rt: &(impl Abort + AllocGlobal),
     heap: &SeqHeap<ConstantChance>,
 ) -> Result<(), Fail> {
-    let others = "0 8639 8641 8632 8648 8704 139712 18446744073709551615";
+    let others = "0 8639 8641 8632 8648 8704 139712 147904 18446744073709551615";
     for offset in &numbers(rt.alloc(), others)? {
         must_hold(rt, has_none_at(heap, *offset), "another block");
     }

@@ -8,12 +8,12 @@ use std::test::Fail;
 
 /// Images, what is done before, a seat, words, and whether all of these are its own then, or none.
 const OWNED: &str = "
-# roots, which are owned in turn; the header and words behind the end never are
+# roots, which are owned in turn; the header, the kinds of roots and words behind the end never are
 fresh | - | 0 | root:0 root:2 root:1022 | own
 fresh | - | 1 | root:1 root:1023 | own
 fresh | - | 0 | root:1 root:1023 | not own
 fresh | - | 1 | root:0 root:1022 | not own
-fresh | - | 0 | 0 2 3 8 16 36 39 17464 18446744073709551615 | not own
+fresh | - | 0 | 0 2 3 8 16 36 39 17464 18487 18488 18446744073709551615 | not own
 # held blocks, and nothing of their superblock beside
 all-held | - | 0 | 1080 2871 4664 6455 | own
 all-held | - | 1 | 2872 4663 6456 8247 | own

@@ -86,19 +86,37 @@ fn a_bad_shard_is_told_with_its_first_bad_link(rt: HostRuntime) -> Result<(), Fa
     Ok(())
 }
 
-/// The heap that recovery makes of the image with kinds of roots that have no links.
-fn recovered_without_links(alloc: Global, image: &[u64]) -> Result<Recovered, Fail> {
-    Ok(recover(alloc, image, &[OTHER; 1_024], &DictFilter)?)
+/// The kinds of roots 0, 1 and 7, behind the two superblocks. What root 0 leads to is not followed
+/// as a table, and root 1 is null.
+const OTHER_KINDS: &str = "1080 @9272, 17464 0, 17465 2, 17471 0";
+
+#[test]
+fn a_root_of_another_kind_makes_its_shard_bad(rt: HostRuntime) -> Result<(), Fail> {
+    let alloc = rt.alloc();
+    let heap = heap_with(alloc, OTHER_KINDS)?;
+    must_hold(&rt, fault_in(alloc, &heap, 0) == bad(0, 17_464), "shard 0");
+    must_hold(&rt, fault_in(alloc, &heap, 1) == bad(1, 17_465), "shard 1");
+    must_hold(&rt, fault_in(alloc, &heap, 2).is_none(), "shard 2");
+    must_hold(&rt, fault_in(alloc, &heap, 7) == bad(7, 17_471), "shard 7");
+    Ok(())
+}
+
+/// The image of the old version, which ends with its second superblock, and what recovery makes of
+/// it with kinds of roots that have no links.
+fn recovered_without_links(alloc: Global) -> Result<Recovered, Fail> {
+    let image = image_with(alloc, "1 1, 1080 @9272")?;
+    let old = image.get(..17_464).unwrap_or(&[]);
+    Ok(recover(alloc, old, &[OTHER; 1_024], &DictFilter)?)
 }
 
 #[test]
-fn a_heap_recovered_without_links_has_bad_shards(rt: HostRuntime) -> Result<(), Fail> {
-    // The node isn't held, and its superblock is freed.
-    let image = image_with(rt.alloc(), "1080 @9272")?;
-    let heap = recovered_without_links(rt.alloc(), &image)?;
+fn an_old_heap_gets_the_kinds_that_it_is_recovered_with(rt: HostRuntime) -> Result<(), Fail> {
+    // Only the table is held: its links are not followed.
+    let heap = recovered_without_links(rt.alloc())?;
+    must_hold(&rt, heap.heap.held().len() == 1, "the table");
     must_hold(
         &rt,
-        fault_in(rt.alloc(), &heap, 0) == bad(0, 1_080),
+        fault_in(rt.alloc(), &heap, 0) == bad(0, 17_464),
         "shard 0",
     );
     Ok(())

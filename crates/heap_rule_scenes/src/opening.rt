@@ -18,7 +18,7 @@ fn closed(alloc: Global) -> Result<Closed, Fail> {
 
 /// Asserts that the words are those of a heap of one superblock.
 fn must_be_heap(rt: &impl Abort, words: &[u64]) {
-    must_hold(rt, words.len() == 9_264, "the length");
+    must_hold(rt, words.len() == 10_288, "the length");
     let magic = words.get(MAGIC_WORD as usize).copied();
     let capacity = words.get(CAPACITY_WORD as usize).copied();
     must_hold(rt, magic == Some(MAGIC) && capacity == Some(1), "words");

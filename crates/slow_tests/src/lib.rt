@@ -1,6 +1,6 @@
-//! Tests that take thousands of recoveries or calls, the longest trace or the largest image:
+//! Tests that take thousands of recoveries or calls, the longest trace or a large image:
 //! recovery in place stopped at each of its steps, the command `rebuild` too, `run` of 16,777,216
-//! bytes, and a heap of 256 superblocks. The crate is nothing but these: the tests as LLVM builds
+//! bytes, and heaps of 256 and 257 superblocks. The crate is nothing but these: the tests as LLVM builds
 //! them take seconds, and `make test` passes over it.
 #![tactic(auto)]
 
@@ -13,7 +13,7 @@ mod command_stops;
 #[cfg(test)]
 mod in_place;
 #[cfg(test)]
-mod largest_image;
+mod large_image;
 #[cfg(test)]
 mod longest_trace;
 #[cfg(test)]

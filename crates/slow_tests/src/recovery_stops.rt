@@ -18,10 +18,22 @@ const HELD: [Block; 1] = [Block {
 /// Its words: the first two and the last.
 const WORDS: [(usize, u64); 3] = [(1_080, 7), (1_081, 1), (1_087, u64::MAX)];
 
+/// The kinds of the roots that lead to tables, behind the last superblock.
+const KINDS: [(usize, u64); 8] = [
+    (17_464, 1),
+    (17_465, 1),
+    (17_466, 1),
+    (17_467, 1),
+    (17_468, 1),
+    (17_469, 1),
+    (17_470, 1),
+    (17_471, 1),
+];
+
 /// An image of two superblocks of which the first has blocks of 64 bytes; root 8 leads to its first
 /// block.
 fn image(alloc: Global) -> Result<Vec<u64>, Fail> {
-    let mut image = vec![in alloc; 0; 17_464]?;
+    let mut image = vec![in alloc; 0; 18_488]?;
     let words = [
         (0, MAGIC),
         (1, VERSION),
@@ -33,6 +45,7 @@ fn image(alloc: Global) -> Result<Vec<u64>, Fail> {
     ];
     write(&mut image, &words);
     write(&mut image, &WORDS);
+    write(&mut image, &KINDS);
     Ok(image)
 }
 

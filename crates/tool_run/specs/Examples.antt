@@ -12,11 +12,11 @@ use Rattle.tool_run.specs.Lines.{no_image_line, bad_header_line, bad_line_line}
 use Rattle.tool_run.specs.Making.{formatted_line, drained_text, HasLeft, HasTooMuch}
 use Rattle.tool_run.specs.Status.{own_line, usage, done, bad_header, write_fault, bad_trace}
 
-formatted_one : formatted_line 1 ≡ codes "formatted 1 bytes 74112" ++ line_feed
+formatted_one : formatted_line 1 ≡ codes "formatted 1 bytes 82304" ++ line_feed
 unfolding digits
 formatted_one = refl
 
-formatted_most : formatted_line 256 ≡ codes "formatted 256 bytes 16802112" ++ line_feed
+formatted_most : formatted_line 4096 ≡ codes "formatted 4096 bytes 268714304" ++ line_feed
 unfolding digits
 formatted_most = refl
 

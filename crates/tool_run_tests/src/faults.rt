@@ -134,15 +134,15 @@ const STORE_FAILURES: [StoreFailing; 5] = [
         "format h 1",
         5,
         "write fault\n",
-        74_112,
+        82_304,
     ),
     (
         2,
         FailedPut::LeavesOld,
         "format h 1",
         0,
-        "formatted 1 bytes 74112\n",
-        74_112,
+        "formatted 1 bytes 82304\n",
+        82_304,
     ),
 ];
 
@@ -263,7 +263,7 @@ fn the_first_line_outside_the_grammar_is_told(rt: HostRuntime) -> Result<(), Fai
 
 const LAST_KEY: &str = "
 $ format h 1
-> formatted 1 bytes 74112
+> formatted 1 bytes 82304
 $ run h --workers 1
 < get 18446744073709551615
 < put 0 -

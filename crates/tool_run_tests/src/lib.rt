@@ -27,4 +27,6 @@ mod shows;
 #[cfg(test)]
 mod stops;
 #[cfg(test)]
+mod versions;
+#[cfg(test)]
 mod words;

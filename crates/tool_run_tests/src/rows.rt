@@ -8,7 +8,7 @@ use std::test::Fail;
 
 const ANSWERED: &str = "
 $ format h 4
-> formatted 4 bytes 270912
+> formatted 4 bytes 279104
 $ run h --workers 1 --map
 < put 5 6162
 < get 5
@@ -25,7 +25,7 @@ $ run h --workers 1 --map
 > sb 0 class 12 held 0
 > sb 1 free
 $ format h 4
-> formatted 4 bytes 270912
+> formatted 4 bytes 279104
 $ run --map h --stop 32768 --workers=1
 < put 5 6162
 < get 5
@@ -42,7 +42,7 @@ $ run --map h --stop 32768 --workers=1
 > sb 0 class 12 held 0
 > sb 1 free
 $ format h 1
-> formatted 1 bytes 74112
+> formatted 1 bytes 82304
 $ run h --workers 1
 < put 1 0102030405060708
 > full
@@ -54,7 +54,7 @@ $ run h --workers 1
 > heap 1 clean
 > held 1024 1
 $ format h 1
-> formatted 1 bytes 74112
+> formatted 1 bytes 82304
 $ run h --workers 1
 < put 1 aa
 < get 1
@@ -84,7 +84,7 @@ fn requests_are_answered_and_the_heap_is_told(rt: HostRuntime) {
 /// The last call shows that those before it left the heap as it was stopped.
 const REFUSED: &str = "
 $ format h 4
-> formatted 4 bytes 270912
+> formatted 4 bytes 279104
 $ run h --workers 1 --map
 < put 5 6162
 < get 5
@@ -151,7 +151,7 @@ fn a_refused_run_leaves_the_heap_as_it_is(rt: HostRuntime) {
 
 const GONE_ON_WITH: &str = "
 $ format h 4
-> formatted 4 bytes 270912
+> formatted 4 bytes 279104
 $ run h --workers 1
 < put 5 6162
 > ok
@@ -183,7 +183,7 @@ fn a_stopped_run_is_gone_on_with(rt: HostRuntime) {
 
 const LAST_BUCKET: &str = "
 $ format h 2
-> formatted 2 bytes 139712
+> formatted 2 bytes 147904
 $ run h --workers 1
 < put 18446744073709551615 -
 < get 18446744073709551615
@@ -218,7 +218,7 @@ fn keys_at_the_end_stand_in_the_last_bucket(rt: HostRuntime) -> Result<(), Fail>
 
 const LONG: &str = "
 $ format h 4
-> formatted 4 bytes 270912
+> formatted 4 bytes 279104
 $ run h --workers 1 --sum --map
 <0 1 65513
 <
@@ -233,7 +233,7 @@ $ run h --workers 1 --sum --map
 > sb 1 large 2
 > sb 2 inside 1
 $ format h 4
-> formatted 4 bytes 270912
+> formatted 4 bytes 279104
 $ run h --workers 1 --sum --map
 <0 1 65513
 < del 1
@@ -257,7 +257,7 @@ fn long_values_take_blocks_of_their_own(rt: HostRuntime) {
 
 const OTHER_CLASS: &str = "
 $ format h 2
-> formatted 2 bytes 139712
+> formatted 2 bytes 147904
 $ run h --workers 1 --map
 <0 0 14312
 <0 8 14312
@@ -295,7 +295,7 @@ fn freed_superblocks_serve_other_classes(rt: HostRuntime) {
 
 const FIFTH_REFUSED: &str = "
 $ format h 2
-> formatted 2 bytes 139712
+> formatted 2 bytes 147904
 $ run h --workers 1 --sum
 <0 0 14312
 <0 8 14312
@@ -340,7 +340,7 @@ $ gen 1
 = 2
 > usage
 $ format h 4
-> formatted 4 bytes 270912
+> formatted 4 bytes 279104
 $ run h --workers 1 --sum
 < put 0 -
 < put 2531 3738393a3b3c3d3e3f404142434445464748494a4b4c4d4e
@@ -355,7 +355,7 @@ $ run h --workers 1 --sum
 > held 48 1
 > held 1024 2
 $ format h 8
-> formatted 8 bytes 533312
+> formatted 8 bytes 541504
 ";
 
 #[test]
@@ -384,7 +384,7 @@ sb 2 class 6 held 0-1
 /// Runs the trace over an empty heap.
 fn runs_eight(rt: &(impl Abort + AllocGlobal), trace: &[u8]) {
     let mut images = store(rt.alloc());
-    let made = "formatted 8 bytes 533312\n";
+    let made = "formatted 8 bytes 541504\n";
     runs(rt, &mut images, "format h 8", b"", 0, made);
     let line = "run h --workers 1 --sum --map";
     runs(rt, &mut images, line, trace, 0, EIGHT_RUN);

@@ -10,7 +10,7 @@
 //! > bad trace line 3     a line that it prints
 //! >| bad tr              the same without a line feed
 //! = 10                   its status, where that isn't 0
-//! ~ 74112                how many bytes the image h has then
+//! ~ 82304                how many bytes the image h has then
 //! ```
 //!
 //! Before its first call a session may name the image h, as `images` reads it, in a line that

@@ -8,18 +8,18 @@ use std::test::Fail;
 
 const MADE: &str = "
 $ format h 1
-> formatted 1 bytes 74112
-~ 74112
+> formatted 1 bytes 82304
+~ 82304
 $ show h
 > heap 1 clean
 $ format h 2
-> formatted 2 bytes 139712
-~ 139712
+> formatted 2 bytes 147904
+~ 147904
 $ format h 004
-> formatted 4 bytes 270912
+> formatted 4 bytes 279104
 $ show h
 > heap 4 clean
-~ 270912
+~ 279104
 ";
 
 #[test]
@@ -32,11 +32,11 @@ const LENGTHS: &str = "
 1: state 1, used 0; 0 | 7 | bad header short
 1: state 1, used 0; 8511 | 7 | bad header short
 1: state 1, used 0; 8512 | 7 | bad header length
-1: state 1, used 0; 74111 | 7 | bad header length
-1: state 1, used 0; 74120 | 7 | bad header length
-1: state 0, used 2; 74112 | 7 | bad header state
-1: state 1, used 2; 74112 | 7 | bad header used
-1: state 2, used 1; 74112 | 0 | heap 1 dirty
+1: state 1, used 0; 82303 | 7 | bad header length
+1: state 1, used 0; 82312 | 7 | bad header length
+1: state 0, used 2; 82304 | 7 | bad header state
+1: state 1, used 2; 82304 | 7 | bad header used
+1: state 2, used 1; 82304 | 0 | heap 1 dirty
 ";
 
 #[test]

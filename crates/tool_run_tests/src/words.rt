@@ -8,7 +8,7 @@ const NO_FORM: &str = "''
 run h --workers 9
 format h
 format h 0
-format h 257
+format h 4097
 format h 18446744073709551617
 format h 1x
 format h 1 1
@@ -65,11 +65,11 @@ fn words_that_name_no_class_are_usage(rt: HostRuntime) {
 
 const OPTIONS: &str = "
 $ format h +1
-> formatted 1 bytes 74112
+> formatted 1 bytes 82304
 $ format -- h 01
-> formatted 1 bytes 74112
+> formatted 1 bytes 82304
 $ format '' 1
-> formatted 1 bytes 74112
+> formatted 1 bytes 82304
 $ show ''
 > heap 1 clean
 $ show -- h
@@ -136,7 +136,7 @@ $ format h 1
 >| formatted 1 bytewrite fa
 $ format h 1
 ! 3
-> formatted 1 bytes 74112
+> formatted 1 bytes 82304
 $ show h
 ! 0 1
 = 5
@@ -155,7 +155,7 @@ $ drain h 20
 ! 3
 = 5
 > class 20 size 14336 blocwrite fault
-~ 74112
+~ 82304
 ";
 
 #[test]

@@ -11,7 +11,7 @@ use Rattle.trace_text.specs.Keys.{keys_text}
 use Rattle.trace_text.specs.Report.{line_feed, classes, heap_line_of, report_of}
 
 -- the first line
-most_dirty : heap_line_of 256 false ≡ codes "heap 256 dirty" ++ line_feed
+most_dirty : heap_line_of 4096 false ≡ codes "heap 4096 dirty" ++ line_feed
 unfolding digits
 most_dirty = refl
 
