@@ -4,6 +4,7 @@ use Rattle.std.specs.Prelude.{not}
 use Rattle.std.proofs.lemmas.Bool.{and_parts, not-false, eqb-true}
 use Rattle.heap_model.specs.declared.block.Block.{Block}
 use Rattle.heap_model.specs.Image.{Image, words_from, bytes_of_words}
+use Rattle.heap_model.specs.Header.{kinds_of}
 use Rattle.heap_model.specs.Blocks.{layout_of, IsBlock}
 use Rattle.heap_model.specs.Pointers.{Leads}
 use Rattle.heap_model.specs.Reach.{ReachFrom}
@@ -13,7 +14,7 @@ use Rattle.super_block.specs.Division.{Divisions}
 use Rattle.filter_trace.proofs.StepLemmas.{block_within, image_short}
 use Rattle.root_reach.specs.declared.labels.Origins.{Origins}
 use Rattle.root_reach.specs.Reaching.{IsReachedBeside}
-use Rattle.dict_model.specs.Links.{dict_links, root_kind}
+use Rattle.dict_model.specs.Links.{dict_links}
 use Rattle.dict_model.specs.Nodes.{length_in, value_in}
 use Rattle.dict_model.specs.Shards.{Leading, LeadsOnce, LeadsAstray, LeadsAlone, but}
 use Rattle.dictionary.specs.Reading.{IsRead}
@@ -42,13 +43,13 @@ astray_more leads leads' wanted wanted' word more astray = record {
 
 module _ (image : Image) (shard word : ℕ) (b : Block) (leads : Leads image word b) where
   -- a word that leads to a block which another root reaches leads to none that it may lead to
-  pub beside_astray : (wanted : Block → Type 0) → IsReachedBeside image root_kind dict_links shard b → LeadsAstray (LeadsAlone image shard) wanted word
+  pub beside_astray : (wanted : Block → Type 0) → IsReachedBeside image (kinds_of image) dict_links shard b → LeadsAstray (LeadsAlone image shard) wanted word
   beside_astray wanted beside = record {
     not_null = λ null. let to = leads.pointer in omega arith;
-    nowhere = λ c to_c wants. to_c.1 beside.kind (subst (λ x. ReachFrom image (λ i. i ≢ shard) root_kind dict_links x beside.kind) (one_block image word b c leads to_c.0) beside.reached);
+    nowhere = λ c to_c wants. to_c.1 beside.kind (subst (λ x. ReachFrom image (λ i. i ≢ shard) (kinds_of image) dict_links x beside.kind) (one_block image word b c leads to_c.0) beside.reached);
   }
 
-  pub leads_alone : (IsReachedBeside image root_kind dict_links shard b → ⊥) → LeadsAlone image shard word b
+  pub leads_alone : (IsReachedBeside image (kinds_of image) dict_links shard b → ⊥) → LeadsAlone image shard word b
   leads_alone none = (leads, λ kind reached. none (record { kind = kind; reached = reached }))
 
 -- the words of a block lie in the image

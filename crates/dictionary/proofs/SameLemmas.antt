@@ -1,10 +1,10 @@
 -- A shard of an image in which a trace finds what it finds in another has the map, or the bad place, that it has there.
 use Rattle.std.proofs.Common.{◌≡◌, ◌≢◌, ℕ, zero, suc, ◌+◌, ◌*◌, ◌<◌, ◌≤◌, List, [], ◌∷◌, None, Some, cond, length, take, refl, sym, subst, ◌∙◌, ap, arith, inl, inr}
-use Rattle.std.specs.Prelude.{nat_eq, nat_lt, Contains, ◌/◌, ◌-◌}
+use Rattle.std.specs.Prelude.{nat_eq, Contains, ◌/◌, ◌-◌}
 use Rattle.std.proofs.Math.Nat.{mod-lt}
-use Rattle.std.proofs.lemmas.Bool.{cond-true, lt-ltb}
 use Rattle.heap_model.specs.declared.block.Block.{Block}
-use Rattle.heap_model.specs.Geometry.{root_word}
+use Rattle.heap_model.specs.Geometry.{roots, root_word, kind_word, capacity_word}
+use Rattle.heap_model.specs.Header.{kinds_of}
 use Rattle.heap_model.specs.Image.{Image, words_from, bytes_of_words}
 use Rattle.heap_model.specs.Blocks.{layout_of, IsBlock, IsIn}
 use Rattle.heap_model.specs.Pointers.{Leads, LeadsOutside}
@@ -12,12 +12,14 @@ use Rattle.heap_model.specs.Reach.{AnyRoot, words_in, Reach, by_start, by_link, 
 use Rattle.heap_model.proofs.ImageLemmas.{length-words_from, words_from-agree}
 use Rattle.heap_model.proofs.DecisionLemmas.{is_block}
 use Rattle.heap_model.proofs.ReachLemmas.{one_block, not_null, more_roots, reach_kept, nothing_more}
+use Rattle.heap_model.specs.Recovery.{in_header}
+use Rattle.root_reach.proofs.TraceLemmas.{same_kinds}
 use Rattle.heap_recover.proofs.UnchangedLemmas.{words_unchanged, roots_unchanged}
 use Rattle.dictionary.specs.Laws.{are_inside}
 use Rattle.dictionary.specs.Reading.{RecoversTo}
-use Rattle.dict_model.specs.Links.{all_to_nodes, dict_links, root_kind, shards}
+use Rattle.dict_model.specs.Links.{all_to_nodes, dict_links, table_kind, shards}
 use Rattle.dict_model.specs.Nodes.{largest_value, buckets, shard_of, bucket_of, key_in, length_in, value_in, value_words, IsNode, find}
-use Rattle.dict_model.specs.Shards.{Map, link_behind, IsPath, IsBucketChain, HasTable, HasChains, but, is_empty, has_table, at_root, at_link, LeadsAlone, MapOf, BadShard}
+use Rattle.dict_model.specs.Shards.{Map, link_behind, IsPath, IsBucketChain, HasTable, HasChains, but, IsMap, is_empty, has_table, IsBadAt, at_root, at_link, LeadsAlone, MapOf, BadShard, at_kind, in_table}
 
 -- a table links each of its words, a node its first
 all_listed : (from : ℕ) (words : List ℕ) (k : ℕ) → k < length words → Contains (all_to_nodes from words) (from + k, 2)
@@ -39,26 +41,27 @@ table_lists image table k below =
 node_lists : (image : Image) (b : Block) (count : ℕ) → b.words ≡ suc count → Contains (dict_links 2 (words_in image b)) (0, 2)
 node_lists image b count is = subst (λ n. Contains (dict_links 2 (words_from image b.first_word n)) (0, 2)) (sym is) (zero, omega arith, refl)
 
-module _ (old new : Image) (alike : TracesAlike old new AnyRoot root_kind dict_links)
-    (inside : (at : ℕ) → IsTraced old root_kind dict_links at → LeadsOutside old (old at) → ⊥)
-    (words_same : (b : Block) (kind word : ℕ) → Reach old root_kind dict_links b kind → IsIn b word → new word ≡ old word) where
+module _ (old new : Image) (alike : TracesAlike old new AnyRoot (kinds_of old) dict_links)
+    (inside : (at : ℕ) → IsTraced old (kinds_of old) dict_links at → LeadsOutside old (old at) → ⊥)
+    (words_same : (b : Block) (kind word : ℕ) → Reach old (kinds_of old) dict_links b kind → IsIn b word → new word ≡ old word)
+    (kinds_same : (root : ℕ) → root < roots → kinds_of new root ≡ kinds_of old root) where
   -- the same from some of the roots
-  any_root : (chosen : ℕ → Type 0) (at : ℕ) → IsTracedFrom old chosen root_kind dict_links at → IsTraced old root_kind dict_links at
+  any_root : (chosen : ℕ → Type 0) (at : ℕ) → IsTracedFrom old chosen (kinds_of old) dict_links at → IsTraced old (kinds_of old) dict_links at
   any_root chosen _ (is_root root at below is_chosen is) = is_root root at below tt is
   any_root chosen _ (is_linked a from position kind at reached listed is) =
-      is_linked a from position kind at (more_roots old root_kind dict_links (λ root c. tt) a from reached) listed is
+      is_linked a from position kind at (more_roots old (kinds_of old) dict_links (λ root c. tt) a from reached) listed is
 
-  chosen_alike : (chosen : ℕ → Type 0) → TracesAlike old new chosen root_kind dict_links
+  chosen_alike : (chosen : ℕ → Type 0) → TracesAlike old new chosen (kinds_of old) dict_links
   chosen_alike chosen = record {
     same_words = λ at traced. alike.same_words at (any_root chosen at traced);
-    are_blocks = λ b kind reached. alike.are_blocks b kind (more_roots old root_kind dict_links (λ root c. tt) b kind reached);
-    same_links = λ b kind reached. alike.same_links b kind (more_roots old root_kind dict_links (λ root c. tt) b kind reached);
+    are_blocks = λ b kind reached. alike.are_blocks b kind (more_roots old (kinds_of old) dict_links (λ root c. tt) b kind reached);
+    same_links = λ b kind reached. alike.same_links b kind (more_roots old (kinds_of old) dict_links (λ root c. tt) b kind reached);
   }
 
   -- a word that a trace looks at, and from which it goes on to blocks of the kind
   record IsOnWay (at kind : ℕ) : Type 0 where
-    traced : IsTraced old root_kind dict_links at
-    reaches : (b : Block) → Leads old (old at) b → Reach old root_kind dict_links b kind
+    traced : IsTraced old (kinds_of old) dict_links at
+    reaches : (b : Block) → Leads old (old at) b → Reach old (kinds_of old) dict_links b kind
 
   module _ (at kind : ℕ) (way : IsOnWay at kind) where
     to_new : (b : Block) → Leads old (old at) b → Leads new (new at) b
@@ -82,29 +85,34 @@ module _ (old new : Image) (alike : TracesAlike old new AnyRoot root_kind dict_l
     alone_new shard b leads = (
       to_new b leads.0,
       λ k reached. leads.1 k
-          (nothing_more old new (λ i. i ≢ shard) root_kind dict_links (chosen_alike (λ i. i ≢ shard)) (λ w traced. inside w (any_root (λ i. i ≢ shard) w traced)) b k reached),
+          (nothing_more old new (λ i. i ≢ shard) (kinds_of old) dict_links (chosen_alike (λ i. i ≢ shard)) (λ w traced. inside w (any_root (λ i. i ≢ shard) w traced)) b k
+          (same_kinds new (λ i. i ≢ shard) (kinds_of new) (kinds_of old) dict_links (λ i below. sym (kinds_same i below)) b k reached)),
     )
 
     alone_old : (shard : ℕ) (b : Block) → LeadsAlone new shard (new at) b → LeadsAlone old shard (old at) b
-    alone_old shard b leads = (to_old b leads.0, λ k reached. leads.1 k (reach_kept old new (λ i. i ≢ shard) root_kind dict_links (chosen_alike (λ i. i ≢ shard)) b k reached))
+    alone_old shard b leads = (
+      to_old b leads.0,
+      λ k reached. leads.1 k
+          (same_kinds new (λ i. i ≢ shard) (kinds_of old) (kinds_of new) dict_links kinds_same b k (reach_kept old new (λ i. i ≢ shard) (kinds_of old) dict_links (chosen_alike (λ i. i ≢ shard)) b k reached)),
+    )
 
     null_old : new at ≡ 0 → old at ≡ 0
     null_old null = sym (alike.same_words at way.traced) ∙ null
 
   -- a root of a shard, a word of its table and the first word of a node are on the way
-  root_way : (shard : ℕ) → shard < shards → IsOnWay (root_word shard) 1
-  root_way shard below = record {
+  root_way : (shard : ℕ) → shard < shards → kinds_of old shard ≡ table_kind → IsOnWay (root_word shard) 1
+  root_way shard below is = record {
     traced = is_root shard (root_word shard) (omega arith) tt refl;
-    reaches = λ b leads. by_start b 1 (record { root = shard; below = omega arith; is_chosen = tt; kind_is = sym (cond-true (nat_lt shard 8) 1 0 (lt-ltb shard 8 below)); leads = leads });
+    reaches = λ b leads. by_start b 1 (record { root = shard; below = omega arith; is_chosen = tt; kind_is = sym is; leads = leads });
   }
 
-  bucket_way : (table : Block) (k : ℕ) → Reach old root_kind dict_links table 1 → k < table.words → IsOnWay (table.first_word + k) 2
+  bucket_way : (table : Block) (k : ℕ) → Reach old (kinds_of old) dict_links table 1 → k < table.words → IsOnWay (table.first_word + k) 2
   bucket_way table k reached below = record {
     traced = is_linked table 1 k 2 (table.first_word + k) reached (table_lists old table k below) refl;
     reaches = λ b leads. by_link table b 1 2 reached (record { position = k; listed = table_lists old table k below; leads = leads });
   }
 
-  node_way : (b : Block) (count : ℕ) → b.words ≡ suc count → Reach old root_kind dict_links b 2 → IsOnWay b.first_word 2
+  node_way : (b : Block) (count : ℕ) → b.words ≡ suc count → Reach old (kinds_of old) dict_links b 2 → IsOnWay b.first_word 2
   node_way b count is reached =
       let here : b.first_word ≡ b.first_word + 0 = omega arith in
       record {
@@ -118,7 +126,7 @@ module _ (old new : Image) (alike : TracesAlike old new AnyRoot root_kind dict_l
     count : length_in new b ≡ length_in old b
     value : value_in new b ≡ value_in old b
 
-  same_node : (b : Block) → Reach old root_kind dict_links b 2 → 3 + value_words (length_in new b) ≤ b.words → IsSameNode b
+  same_node : (b : Block) → Reach old (kinds_of old) dict_links b 2 → 3 + value_words (length_in new b) ≤ b.words → IsSameNode b
   same_node b reached fits =
       let word : (w : ℕ) → b.first_word ≤ w → w < b.first_word + b.words → new w ≡ old w = λ w low high. words_same b 2 w reached (record { from = low; until = high }) in
       let count = word (b.first_word + 2) (omega arith) (omega arith) in
@@ -180,7 +188,7 @@ module _ (old new : Image) (alike : TracesAlike old new AnyRoot root_kind dict_l
         record { chain = record { path = path.path; ends = null_old (link_behind at bs) 2 path.way chain.ends }; same = path.same }
 
   -- where the one image has a node, so has the other
-  node_new : (shard bucket : ℕ) (b : Block) → Reach old root_kind dict_links b 2 → IsNode old shard bucket b → IsSameNode b × IsNode new shard bucket b
+  node_new : (shard bucket : ℕ) (b : Block) → Reach old (kinds_of old) dict_links b 2 → IsNode old shard bucket b → IsSameNode b × IsNode new shard bucket b
   node_new shard bucket b reached is =
       let fits = is.fits in
       let count = words_same b 2 (b.first_word + 2) reached (record { from = omega arith; until = omega arith }) in
@@ -194,12 +202,12 @@ module _ (old new : Image) (alike : TracesAlike old new AnyRoot root_kind dict_l
         },
       )
 
-  module _ (shard : ℕ) (below : shard < shards) where
+  module _ (shard : ℕ) (below : shard < shards) (is_table : kinds_of old shard ≡ table_kind) where
     table_old : (table : Block) → HasTable (LeadsAlone new shard) new shard table → HasTable (LeadsAlone old shard) old shard table
-    table_old table there = record { leads_there = alone_old (root_word shard) 1 (root_way shard below) shard table there.leads_there; size = there.size }
+    table_old table there = record { leads_there = alone_old (root_word shard) 1 (root_way shard below is_table) shard table there.leads_there; size = there.size }
 
-    table_reached : (table : Block) → HasTable (LeadsAlone new shard) new shard table → Reach old root_kind dict_links table 1
-    table_reached table there = (root_way shard below).reaches table (table_old table there).leads_there.0
+    table_reached : (table : Block) → HasTable (LeadsAlone new shard) new shard table → Reach old (kinds_of old) dict_links table 1
+    table_reached table there = (root_way shard below is_table).reaches table (table_old table there).leads_there.0
 
     chain_of : (table : Block) (nodes : ℕ → List Block) (limit k : ℕ) → HasTable (LeadsAlone new shard) new shard table → limit ≤ buckets
         → HasChains (LeadsAlone new shard) new shard table limit nodes → k < limit → IsSameChain shard k table (table.first_word + k) (nodes k)
@@ -208,8 +216,8 @@ module _ (old new : Image) (alike : TracesAlike old new AnyRoot root_kind dict_l
         same_chain shard k table (table.first_word + k) (nodes k) (bucket_way table k (table_reached table there) (omega arith)) (chains k low)
 
     -- the map of the shard
-    pub map_old : (map : Map) → MapOf new shard map → MapOf old shard map
-    map_old map (is_empty null none) = is_empty (null_old (root_word shard) 1 (root_way shard below) null) none
+    pub map_old : (map : Map) → IsMap (LeadsAlone new shard) new shard map → IsMap (LeadsAlone old shard) old shard map
+    map_old map (is_empty null none) = is_empty (null_old (root_word shard) 1 (root_way shard below is_table) null) none
     map_old map (has_table table nodes there chains means) = has_table table nodes (table_old table there)
         (λ k low. (chain_of table nodes buckets k there (omega arith) chains low).chain)
         (λ key. let low : bucket_of key < buckets = mod-lt (key / 8) (omega arith) in
@@ -217,10 +225,10 @@ module _ (old new : Image) (alike : TracesAlike old new AnyRoot root_kind dict_l
         (find_same key (nodes (bucket_of key)) (chain_of table nodes buckets (bucket_of key) there (omega arith) chains low).same))
 
     -- and its first bad place
-    pub bad_old : (at : ℕ) → BadShard new shard at → BadShard old shard at
+    pub bad_old : (at : ℕ) → IsBadAt (LeadsAlone new shard) new shard at → IsBadAt (LeadsAlone old shard) old shard at
     bad_old _ (at_root astray) = at_root (record {
-      not_null = λ null. astray.not_null (alike.same_words (root_word shard) (root_way shard below).traced ∙ null);
-      nowhere = λ b leads size. astray.nowhere b (alone_new (root_word shard) 1 (root_way shard below) shard b leads) size;
+      not_null = λ null. astray.not_null (alike.same_words (root_word shard) (root_way shard below is_table).traced ∙ null);
+      nowhere = λ b leads size. astray.nowhere b (alone_new (root_word shard) 1 (root_way shard below is_table) shard b leads) size;
     })
     bad_old _ (at_link table nodes k at before there low chains path is astray) =
         let size = there.size in
@@ -240,28 +248,38 @@ module _ (old new : Image) (alike : TracesAlike old new AnyRoot root_kind dict_l
 
 -- what recovery leaves is traced as the image before
 module _ (old new : Image) (to : RecoversTo old new) where
-  reached_words : (b : Block) (kind word : ℕ) → Reach old root_kind dict_links b kind → IsIn b word → new word ≡ old word
-  reached_words b kind word reached inside = words_unchanged old new root_kind dict_links to.recovered b word (record { kind = kind; reach = reached }) inside
+  reached_words : (b : Block) (kind word : ℕ) → Reach old (kinds_of old) dict_links b kind → IsIn b word → new word ≡ old word
+  reached_words b kind word reached inside = words_unchanged old new (kinds_of old) dict_links to.recovered b word (record { kind = kind; reach = reached }) inside
 
-  traced_words : (at : ℕ) → IsTraced old root_kind dict_links at → new at ≡ old at
-  traced_words _ (is_root root at below chosen is) = subst (λ w. new w ≡ old w) (sym is) (roots_unchanged old new root_kind dict_links to.recovered root below)
+  traced_words : (at : ℕ) → IsTraced old (kinds_of old) dict_links at → new at ≡ old at
+  traced_words _ (is_root root at below chosen is) = subst (λ w. new w ≡ old w) (sym is) (roots_unchanged old new (kinds_of old) dict_links to.recovered root below)
   traced_words _ (is_linked a from position kind at reached listed is) =
       let long = length-words_from old a.first_word a.words in
       let inside = are_inside.position from (words_in old a) position kind listed in
       subst (λ w. new w ≡ old w) (sym is) (reached_words a from (a.first_word + position) reached (record { from = omega arith; until = omega arith }))
 
-  pub traced_alike : TracesAlike old new AnyRoot root_kind dict_links
+  pub traced_alike : TracesAlike old new AnyRoot (kinds_of old) dict_links
   traced_alike = record {
     same_words = traced_words;
     are_blocks = λ b kind reached. to.blocks b (record { kind = kind; reach = reached });
     same_links = λ b kind reached. ap (λ ws. dict_links kind ws) (words_from-agree new old b.first_word b.words (λ w low high. reached_words b kind w reached (record { from = low; until = high })));
   }
 
-  pub none_outside : (at : ℕ) → IsTraced old root_kind dict_links at → LeadsOutside old (old at) → ⊥
+  pub none_outside : (at : ℕ) → IsTraced old (kinds_of old) dict_links at → LeadsOutside old (old at) → ⊥
   none_outside at traced outside = to.inside at (record { traced = traced; outside = outside })
 
+  kind_before : (shard kind : ℕ) → shard < shards → kinds_of new shard ≡ kind → kinds_of old shard ≡ kind
+  kind_before shard kind below is = sym (to.kinds shard (omega arith)) ∙ is
+
   pub map_kept : (shard : ℕ) (map : Map) → shard < shards → MapOf new shard map → MapOf old shard map
-  map_kept shard map below = map_old old new traced_alike none_outside reached_words shard below map
+  map_kept shard map below is =
+      let kind = kind_before shard table_kind below is.kind_is in
+      record { kind_is = kind; is_map = map_old old new traced_alike none_outside reached_words to.kinds shard below kind map is.is_map }
 
   pub bad_kept : (shard at : ℕ) → shard < shards → BadShard new shard at → BadShard old shard at
-  bad_kept shard at below = bad_old old new traced_alike none_outside reached_words shard below at
+  bad_kept shard _ below (at_kind other) =
+      subst (λ capacity. BadShard old shard (kind_word capacity shard)) (sym (to.recovered.same capacity_word (in_header capacity_word (inr (inr (inl refl))))))
+      (at_kind (λ is. other (to.kinds shard (omega arith) ∙ is)))
+  bad_kept shard at below (in_table _ is bad) =
+      let kind = kind_before shard table_kind below is in
+      in_table at kind (bad_old old new traced_alike none_outside reached_words to.kinds shard below kind at bad)

@@ -4,14 +4,15 @@ use Rattle.std.specs.BTreeMap.{BTreeMap, get, btree_map_len, IsOrdered}
 use Rattle.std.specs.Ordering.{nat_cmp}
 use Rattle.heap_model.specs.declared.block.Block.{Block}
 use Rattle.heap_model.specs.Image.{Image}
-use Rattle.heap_model.specs.Header.{IsWellFormed}
+use Rattle.heap_model.specs.Geometry.{roots}
+use Rattle.heap_model.specs.Header.{IsWellFormed, kinds_of}
 use Rattle.heap_model.specs.Blocks.{layout_of, IsBlock}
-use Rattle.heap_model.specs.Reach.{IsReached, IsOutside}
+use Rattle.heap_model.specs.Reach.{IsReachedIn, IsOutsideIn}
 use Rattle.heap_model.specs.Recovery.{IsRecovered}
 use Rattle.super_block.specs.Division.{Divisions, Describes}
 use Rattle.root_reach.specs.declared.labels.Origins.{Origins}
 use Rattle.root_reach.specs.Reaching.{AreOrigins}
-use Rattle.dict_model.specs.Links.{shards, dict_links, root_kind}
+use Rattle.dict_model.specs.Links.{shards, dict_links}
 use Rattle.dict_model.specs.Nodes.{key_in, value_in}
 use Rattle.dict_model.specs.Shards.{Map, Leading, LeadsAstray, HasChains, IsPath, link_behind, but, map_of, MapOf, BadShard as IsBadShard}
 use Rattle.dictionary.specs.declared.fault.MapFault.{MapFault}
@@ -19,11 +20,11 @@ use Rattle.dictionary.specs.declared.fault.MapFault.TheVariants.{BadShard, Memor
 use Rattle.dictionary.specs.declared.walk.Lead.{Lead}
 use Rattle.dictionary.specs.declared.walk.Lead.TheVariants.{Null, To, Astray}
 
--- the words are an image's, the directory and the origins are those of its blocks
+-- the words are an image's, the directory and the origins are those of its blocks, by the kinds that it stores
 pub record IsRead (words : List ℕ) (directory : Divisions) (origins : Origins) : Type 0 where
   pub formed : IsWellFormed (8 * length words) (slice_index words)
   pub described : Describes directory (layout_of (slice_index words))
-  pub origins_are : AreOrigins (slice_index words) root_kind dict_links origins
+  pub origins_are : AreOrigins (slice_index words) (kinds_of (slice_index words)) dict_links origins
 
 -- where a word leads among the blocks that it may lead to, if they are as is wanted
 abbrev pub IsLead : Leading → (Block → Type 0) → ℕ → Lead → Type 0
@@ -76,8 +77,9 @@ pub record AreMaps (image : Image) (count : ℕ) (maps : List (BTreeMap ℕ (Lis
   pub each : (i : ℕ) → i < count → (m : BTreeMap ℕ (List ℕ)) × (slice_get maps i ≡ Some m) × MapOf image i (get nat_cmp m)
       × IsOrdered nat_cmp m
 
--- recovery makes the one image of the other, in which no word that it looks at leads outside; what is reached there is a block here
+-- recovery makes the one image of the other, in which no word that it looks at leads outside; what is reached there is a block here, and each root keeps its kind
 pub record RecoversTo (old new : Image) : Type 0 where
-  pub recovered : IsRecovered old new (IsReached old root_kind dict_links)
-  pub inside : (at : ℕ) → IsOutside old root_kind dict_links at → ⊥
-  pub blocks : (b : Block) → IsReached old root_kind dict_links b → IsBlock (layout_of new) b
+  pub recovered : IsRecovered old new (IsReachedIn old dict_links)
+  pub inside : (at : ℕ) → IsOutsideIn old dict_links at → ⊥
+  pub blocks : (b : Block) → IsReachedIn old dict_links b → IsBlock (layout_of new) b
+  pub kinds : (root : ℕ) → root < roots → kinds_of new root ≡ kinds_of old root

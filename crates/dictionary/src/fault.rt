@@ -7,11 +7,13 @@ use std::alloc::AllocError;
 /// Why a shard has no map.
 #[derive(Clone, Copy, PartialEq, Eq, Debug)]
 pub enum MapFault {
-    /// The root or a link of the shard leads to what it may not.
+    /// The root of the shard has another kind than that of a table, or it or a link leads to what it
+    /// may not.
     BadShard {
         /// The shard, by the number of its root.
         shard: usize,
-        /// The index in the image of the first such word, in the order of buckets and chains.
+        /// The index in the image of the first such word: the kind, the root, and then the links in
+        /// the order of buckets and chains.
         at: u64,
     },
     /// Memory ran out.

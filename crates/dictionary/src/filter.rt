@@ -7,7 +7,8 @@ use dict_model::SHARDS;
 use filter_trace::Filter;
 use super_block::ROOTS;
 
-/// The kind of a block without links: what a root that is not the dictionary's leads to.
+/// The kind of a block without links: what a root leads to that is not the dictionary's, in an
+/// image that `format` makes.
 pub const OTHER: u32 = 0;
 
 /// The kind of a table: each of its words leads to the first node of a bucket.
@@ -16,7 +17,8 @@ pub const TABLE: u32 = 1;
 /// The kind of a node: its first word leads to the next node of its bucket.
 pub const NODE: u32 = 2;
 
-/// The kind of each root: the first eight lead to tables, and the others to blocks without links.
+/// The kinds that `recover` gives the roots of an image of the old version, which stores none: the
+/// first eight lead to tables, and the others to blocks without links.
 pub fn root_kinds() -> [u32; ROOTS as usize]
     ensures kinds { (i : ℕ) → slice_index result i ≡ root_kind i }
     ensures few { All (λ kind. kind < 3) result }

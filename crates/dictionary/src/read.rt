@@ -1,16 +1,20 @@
 //! Reading the shards of a recovered heap as maps.
-ghost use Rattle.std.specs.Prelude.{◌≡◌, ◌+◌, ◌<◌, ◌≤◌, ℕ, length, slice_index, IfOk, OnOk, IfErr};
+ghost use Rattle.std.specs.Prelude.{◌≡◌, ◌+◌, ◌*◌, ◌<◌, ◌≤◌, ℕ, length, slice_index, IfOk, OnOk, IfErr, Some};
 ghost use Rattle.std.specs.BTreeMap.{get, IsOrdered};
 ghost use Rattle.std.specs.Ordering.{nat_cmp};
 ghost use Rattle.heap_model.specs.declared.block.Block.{Block};
+ghost use Rattle.heap_model.specs.Header.{IsWellFormed, HasKindsBelow, kinds_of};
+ghost use Rattle.heap_model.specs.Blocks.{layout_of};
 ghost use Rattle.heap_model.specs.Rest.{IsReady};
-ghost use Rattle.dict_model.specs.Links.{shards};
+ghost use Rattle.super_block.specs.Division.{Describes};
+ghost use Rattle.root_reach.specs.Reaching.{AreOrigins};
+ghost use Rattle.dict_model.specs.Links.{shards, table_kind, dict_links};
 ghost use Rattle.dict_model.specs.Nodes.{buckets};
 ghost use Rattle.dict_model.specs.Shards.{HasTable, LeadsAlone, MapOf};
 ghost use Rattle.dictionary.specs.Reading.{IsRead, IsMapUpTo, TellsBad, TellsLowest, AreMaps};
 
 use crate::fault::MapFault;
-use crate::filter::{DictFilter, root_kinds};
+use crate::filter::{DictFilter, TABLE};
 use crate::walk::{Lead, Walk};
 use dict_model::{BUCKETS, SHARDS};
 use filter_trace::Scan;
@@ -18,18 +22,21 @@ use heap_model::Block;
 use heap_recover::Recovered;
 use region_header::Bytes;
 use root_reach::{Origins, trace_origins};
-use std::alloc::Global;
+use root_table::kinds;
+use std::alloc::{AllocError, Global};
 use std::collections::BTreeMap;
 use super_block::{Directory, ROOT_WORD, Ready};
 
 /// The map of shard `i` of a recovered heap, as the keys with their values. It has none where the
-/// root or a link leads to what it may not: then the first such word is told.
+/// root has another kind than that of a table, or where the root or a link leads to what it may
+/// not: then the first such word is told.
 pub fn read_map(
     alloc: Global,
     recovered: &Recovered,
     i: usize,
 ) -> Result<BTreeMap<u64, Bytes>, MapFault>
-    requires { i < 8 }
+    requires shard { i < 8 }
+    requires kinds { HasKindsBelow (Some 3) (slice_index recovered.now.heap.words) }
     ensures ok { IfOk result (λ map.
         MapOf (slice_index recovered.now.heap.words) i (get nat_cmp map)) }
     ensures ordered { IfOk result (λ map. IsOrdered nat_cmp map) }
@@ -41,7 +48,7 @@ pub fn read_map(
         words,
         directory: &directory,
     };
-    let origins = trace_origins(alloc, &scan, &root_kinds(), &DictFilter)?;
+    let origins = origins_of(alloc, &scan)?;
     read_shard(alloc, scan, &origins, i)
 }
 
@@ -51,6 +58,7 @@ pub fn read_maps(
     alloc: Global,
     recovered: &Recovered,
 ) -> Result<Vec<BTreeMap<u64, Bytes>>, MapFault>
+    requires { HasKindsBelow (Some 3) (slice_index recovered.now.heap.words) }
     ensures ok { IfOk result (λ maps.
         AreMaps (slice_index recovered.now.heap.words) shards maps.items) }
     ensures err { IfErr result (TellsLowest (slice_index recovered.now.heap.words)) }
@@ -62,6 +70,7 @@ pub fn read_maps(
 /// The maps of all eight shards of a heap at rest, in order, from one trace. Where shards have none
 /// the lowest of them is told.
 pub fn maps_of(alloc: Global, heap: &Ready) -> Result<Vec<BTreeMap<u64, Bytes>>, MapFault>
+    requires { HasKindsBelow (Some 3) (slice_index heap.now.words) }
     ensures ok { IfOk result (λ maps. AreMaps (slice_index heap.now.words) shards maps.items) }
     ensures err { IfErr result (TellsLowest (slice_index heap.now.words)) }
     ensures ready { IsReady heap.now.words heap.now.held }
@@ -72,7 +81,7 @@ pub fn maps_of(alloc: Global, heap: &Ready) -> Result<Vec<BTreeMap<u64, Bytes>>,
         words,
         directory: &directory,
     };
-    let origins = trace_origins(alloc, &scan, &root_kinds(), &DictFilter)?;
+    let origins = origins_of(alloc, &scan)?;
     let mut maps = Vec::with_capacity(alloc, SHARDS as usize)?;
     for shard in 0..SHARDS as usize {
         match maps.push(read_shard(alloc, scan, &origins, shard)?) {
@@ -81,6 +90,19 @@ pub fn maps_of(alloc: Global, heap: &Ready) -> Result<Vec<BTreeMap<u64, Bytes>>,
         }
     }
     Ok(maps)
+}
+
+/// Which roots reach each block of an image, by the kinds that it stores for them.
+fn origins_of(alloc: Global, scan: &Scan) -> Result<Origins, AllocError>
+    requires formed { IsWellFormed (8 * length scan.now.words.now)
+        (slice_index scan.now.words.now) }
+    requires described { Describes scan.now.directory.now
+        (layout_of (slice_index scan.now.words.now)) }
+    requires kinds { HasKindsBelow (Some 3) (slice_index scan.now.words.now) }
+    ensures { IfOk result (AreOrigins (slice_index scan.now.words.now)
+        (kinds_of (slice_index scan.now.words.now)) dict_links) }
+{
+    trace_origins(alloc, scan, &kinds(scan.words), &DictFilter)
 }
 
 /// The map of a shard of an image.
@@ -102,6 +124,10 @@ fn read_shard(
         origins,
         shard: shard as u16,
     };
+    let kind = walk.kind_place();
+    if walk.scan.words[kind as usize] != TABLE as u64 {
+        return Err(walk.fault(kind));
+    }
     let mut map = BTreeMap::new(alloc);
     let root = ROOT_WORD as usize + shard;
     match walk.table(walk.scan.words[root]) {
@@ -127,6 +153,7 @@ fn read_chain(
     requires read { IsRead walk.now.scan.words.now walk.now.scan.directory.now
         walk.now.origins.now }
     requires shard { walk.now.shard < 8 }
+    requires kind { kinds_of (slice_index walk.now.scan.words.now) walk.now.shard ≡ table_kind }
     requires table { HasTable (LeadsAlone (slice_index walk.now.scan.words.now) walk.now.shard)
         (slice_index walk.now.scan.words.now) walk.now.shard table }
     requires bucket { bucket < buckets }

@@ -3,6 +3,8 @@ ghost use Rattle.std.specs.Prelude.{◌≡◌, ◌≢◌, ◌+◌, ◌*◌, ◌<
 ghost use Rattle.std.specs.BTreeMap.{get, IsOrdered};
 ghost use Rattle.std.specs.Ordering.{nat_cmp};
 ghost use Rattle.heap_model.specs.declared.block.Block.{Block};
+ghost use Rattle.heap_model.specs.Geometry.{kind_word};
+ghost use Rattle.heap_model.specs.Header.{capacity_of};
 ghost use Rattle.heap_model.specs.Blocks.{layout_of, IsBlock};
 ghost use Rattle.dict_model.specs.Nodes.{buckets, value_words, key_in, length_in, value_in, IsNode};
 ghost use Rattle.dict_model.specs.Shards.{LeadsAlone, but};
@@ -16,6 +18,7 @@ use region_header::{Bytes, words_to_bytes};
 use root_reach::Origins;
 use std::alloc::{AllocError, Global};
 use std::collections::BTreeMap;
+use super_block::{CAPACITY_WORD, Geometry};
 
 /// The words of a node before its value: next, key and length.
 const NODE_WORDS: u64 = 3;
@@ -48,6 +51,17 @@ impl Walk<'_> {
             shard: self.shard as usize,
             at,
         }
+    }
+
+    /// The word that has the kind of the shard's root.
+    pub fn kind_place(&self) -> u64
+        requires read { IsRead self.now.scan.words.now self.now.scan.directory.now self.now.origins.now }
+        requires shard { self.now.shard < 8 }
+        ensures is { result
+            ≡ kind_word (capacity_of (slice_index self.now.scan.words.now)) self.now.shard }
+        ensures inside { result < length self.now.scan.words.now }
+    {
+        Geometry::new(self.scan.words[CAPACITY_WORD as usize]).kind(self.shard as u64)
     }
 
     /// Where the word leads among the blocks that no other root reaches.

@@ -1,8 +1,7 @@
 use Rattle.std.proofs.Common.{◌≡◌, ◌*◌, ℕ, List, length, slice_index, sym, subst, arith}
 use Rattle.std.proofs.lemmas.Result.{err_from_is_err_and}
 use Rattle.heap_model.specs.Header.{IsWellFormed}
-use Rattle.dict_model.specs.Links.{shards, dict_links, root_kind}
-use Rattle.root_reach.proofs.TraceLemmas.{origins_same}
+use Rattle.dict_model.specs.Links.{shards}
 use Rattle.dictionary.specs.Reading.{AreMaps}
 use Rattle.dictionary.proofs.WalkLemmas.{maps_begin, maps_push, tells_lowest}
 use Rattle.dictionary.proofs.read.maps_of.Goals as goal
@@ -14,8 +13,7 @@ pub read_shard-requires-clause-read : goal.read_shard-requires-clause-read
 read_shard-requires-clause-read c = record {
   formed = subst (λ (ws : List ℕ). IsWellFormed (8 * length ws) (slice_index ws)) (sym c.words-words.ensures.words) c.words-words.ensures.ready.formed;
   described = c.in_ok-directory.ensures.ok;
-  origins_are = origins_same (slice_index c.words-words.result.now) (slice_index c.root_kinds.result) root_kind dict_links c.in_ok-origins.origins
-      (λ i below. sym (c.root_kinds.ensures.kinds i)) c.in_ok-origins.ensures.ok;
+  origins_are = c.in_ok-origins.ensures;
 }
 
 pub loop-shard-preserved : goal.loop-shard-preserved

@@ -1,7 +1,7 @@
 use Rattle.std.proofs.Common.{refl, arith, slice_index}
 use Rattle.std.specs.BTreeMap.{get}
 use Rattle.std.specs.Ordering.{nat_cmp}
-use Rattle.dict_model.specs.Shards.{LeadsAlone}
+use Rattle.dict_model.specs.Shards.{LeadsAlone, in_table}
 use Rattle.dict_model.proofs.ShardLemmas.{alone_once}
 use Rattle.dictionary.proofs.LeadLemmas.{lies_in}
 use Rattle.dictionary.proofs.WalkLemmas.{chain_begins, chain_step, bad_link, bad_key}
@@ -21,17 +21,17 @@ loop-node-init c =
 pub returns-in-Astray-clause-err : goal.returns-in-Astray-clause-err
 returns-in-Astray-clause-err c = rw (c.fault.ensures) (
   refl,
-  bad_link (LeadsAlone (slice_index c.args.walk.now.scan.words.now) c.args.walk.now.shard) (slice_index c.args.walk.now.scan.words.now) c.args.walk.now.shard c.args.table c.args.bucket
-      c.loop-node.at (get nat_cmp c.loop-node.map) c.requires.table c.requires.bucket c.loop-node.invariant.before c.in-Astray.ensures,
+  in_table c.loop-node.at c.requires.kind (bad_link (LeadsAlone (slice_index c.args.walk.now.scan.words.now) c.args.walk.now.shard) (slice_index c.args.walk.now.scan.words.now) c.args.walk.now.shard c.args.table c.args.bucket
+      c.loop-node.at (get nat_cmp c.loop-node.map) c.requires.table c.requires.bucket c.loop-node.invariant.before c.in-Astray.ensures),
 )
 
 pub returns-then-not-branch-clause-err : goal.returns-then-not-branch-clause-err
 returns-then-not-branch-clause-err c = rw (c.fault-then-not-branch.ensures) (
   refl,
-  bad_key (LeadsAlone (slice_index c.args.walk.now.scan.words.now) c.args.walk.now.shard) (slice_index c.args.walk.now.scan.words.now) c.args.walk.now.shard c.args.table c.args.bucket
+  in_table c.loop-node.at c.requires.kind (bad_key (LeadsAlone (slice_index c.args.walk.now.scan.words.now) c.args.walk.now.shard) (slice_index c.args.walk.now.scan.words.now) c.args.walk.now.shard c.args.table c.args.bucket
       (alone_once (slice_index c.args.walk.now.scan.words.now) c.args.walk.now.shard)
       c.loop-node.at (get nat_cmp c.loop-node.map) c.in-To.node c.requires.table c.requires.bucket c.loop-node.invariant.before c.in-To.ensures.0 c.in-To.ensures.1
-      (c.in_ok-add.ensures.known c.if-not-branch.true),
+      (c.in_ok-add.ensures.known c.if-not-branch.true)),
 )
 
 pub loop-node-preserved : goal.loop-node-preserved
