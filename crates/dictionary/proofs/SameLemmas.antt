@@ -4,17 +4,17 @@ use Rattle.std.specs.Prelude.{nat_eq, Contains, ◌/◌, ◌-◌}
 use Rattle.std.proofs.Math.Nat.{mod-lt}
 use Rattle.heap_model.specs.declared.block.Block.{Block}
 use Rattle.heap_model.specs.Geometry.{roots, root_word, kind_word, capacity_word}
-use Rattle.heap_model.specs.Header.{kinds_of}
+use Rattle.heap_model.specs.Header.{capacity_of, used_of, kinds_of}
 use Rattle.heap_model.specs.Image.{Image, words_from, bytes_of_words}
 use Rattle.heap_model.specs.Blocks.{layout_of, IsBlock, IsIn}
 use Rattle.heap_model.specs.Pointers.{Leads, LeadsOutside}
-use Rattle.heap_model.specs.Reach.{AnyRoot, words_in, Reach, by_start, by_link, IsTracedFrom, is_root, is_linked, IsTraced, TracesAlike}
+use Rattle.heap_model.specs.Reach.{AnyRoot, words_in, Reach, by_start, by_link, IsTracedFrom, is_root, is_linked, IsTraced, TracesAlike, IsReachedIn, IsOutsideIn}
 use Rattle.heap_model.proofs.ImageLemmas.{length-words_from, words_from-agree}
 use Rattle.heap_model.proofs.DecisionLemmas.{is_block}
 use Rattle.heap_model.proofs.ReachLemmas.{one_block, not_null, more_roots, reach_kept, nothing_more}
-use Rattle.heap_model.specs.Recovery.{in_header}
+use Rattle.heap_model.specs.Recovery.{IsRecovered, in_header}
 use Rattle.root_reach.proofs.TraceLemmas.{same_kinds}
-use Rattle.heap_recover.proofs.UnchangedLemmas.{words_unchanged, roots_unchanged}
+use Rattle.heap_recover.proofs.UnchangedLemmas.{words_unchanged, roots_unchanged, kinds_unchanged}
 use Rattle.dictionary.specs.Laws.{are_inside}
 use Rattle.dictionary.specs.Reading.{RecoversTo}
 use Rattle.dict_model.specs.Links.{all_to_nodes, dict_links, table_kind, shards}
@@ -245,6 +245,17 @@ module _ (old new : Image) (alike : TracesAlike old new AnyRoot (kinds_of old) d
                 new = find_same (key_in new b) before same.same ∙ subst (λ key. find old key before ≡ None) (sym node.0.key) next.new;
               });
         })
+
+-- what recovery makes of an image whose taken superblocks it has, and in which nothing is outside
+pub recovers_to : (old new : Image) → used_of old ≤ capacity_of old → IsRecovered old new (IsReachedIn old dict_links) → ((at : ℕ) → IsOutsideIn old dict_links at → ⊥)
+    → ((b : Block) → IsReachedIn old dict_links b → IsBlock (layout_of new) b) → RecoversTo old new
+recovers_to old new used recovered inside blocks = record {
+  recovered = recovered;
+  inside = inside;
+  blocks = blocks;
+  kinds = λ root below. ap (λ capacity. new (kind_word capacity root)) (recovered.same capacity_word (in_header capacity_word (inr (inr (inl refl)))))
+      ∙ kinds_unchanged old new (IsReachedIn old dict_links) recovered used root below;
+}
 
 -- what recovery leaves is traced as the image before
 module _ (old new : Image) (to : RecoversTo old new) where
