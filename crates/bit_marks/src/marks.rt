@@ -39,6 +39,13 @@ impl BitMarks {
         })
     }
 
+    /// The length.
+    pub fn len(&self) -> u64
+        ensures { result ≡ length self.now }
+    {
+        self.below
+    }
+
     /// Whether the number is marked.
     pub fn get(&self, n: u64) -> bool
         requires { n < length self.now }
