@@ -1,8 +1,7 @@
 -- The list of lines with a mark: a line that isn't listed has room, and each listed line is there once at most.
-use Rattle.std.proofs.Common.{◌≡◌, ◌≢◌, ℕ, ◌+◌, ◌*◌, ◌/◌, ◌<◌, ◌≤◌, ◌⊎◌, Bool, true, false, List, [], ◌∷◌, ◌++◌, length, get_or, set, refl, sym, ◌∙◌, subst, arith, length-set, length-append, get_or-set_other, get_or-set_same, Contains, inl, inr, suc, zero, ap}
+use Rattle.std.proofs.Common.{◌≡◌, ◌≢◌, ℕ, ◌+◌, ◌*◌, ◌/◌, ◌<◌, ◌≤◌, ◌⊎◌, Bool, true, false, List, [], ◌∷◌, ◌++◌, length, get_or, set, refl, sym, ◌∙◌, subst, arith, length-set, length-append, get_or-set_other, get_or-set_same, Contains, inl, inr, suc, zero}
 use Rattle.std.proofs.lemmas.List.Elements.{Contains-append_left, Contains-push, Contains-push_cases}
 use Rattle.std.proofs.lemmas.Bool.{cases_eq, cases_Bool}
-use Rattle.std.proofs.lemmas.List.{get_or_default}
 use Rattle.std.proofs.lemmas.Grind.{elements, get_or-set_at}
 use Rattle.line_memory.specs.Marks.{ListsLines, IsMarked, mark_count}
 use Rattle.line_memory.specs.Marked.{is_marked_within}
@@ -142,28 +141,17 @@ no_marks words lines capacity h k =
       | inr e ↦ e
     ]
 
--- what a read gave is there, whatever the default
-pub read_is : (xs : List Bool) (i : ℕ) (read value : Bool) → i < length xs → read ≡ get_or xs i read → read ≡ value → get_or xs i false ≡ value
-read_is xs i read value l e r = get_or_default xs i false read l ∙ sym e ∙ r
-
--- the marks of a line that was listed are set
-pub marked_again : (words slice new lines : List Bool) (list : List ℕ) (capacity line : ℕ) → ListsLines words lines list capacity → slice ≡ words → length new ≡ length slice → ((k : ℕ) → k / 8 ≢ line → get_or new k false ≡ get_or slice k false) → IsMarked lines line → ListsLines new lines list capacity
-marked_again words slice new lines list capacity line h s len same on =
-    remark words new lines list capacity line h (len ∙ ap length s) on
-    (λ k ne. same k ne ∙ ap (λ (x : List Bool). get_or x k false) s)
-
 -- the marks of a line that wasn't listed are set, and the line is listed
-pub marked_first : (words slice new lines : List Bool) (list pushed : List ℕ) (capacity room line : ℕ) → ListsLines words lines list capacity → slice ≡ words → length new ≡ length slice → ((k : ℕ) → k / 8 ≢ line → get_or new k false ≡ get_or slice k false) → get_or lines line false ≡ false → 8 * line < length words → capacity ≤ room → pushed ≡ list ++ line ∷ [] → ListsLines new (set lines line true) pushed room
-marked_first words slice new lines list pushed capacity room line h s len same off l more p =
+pub marked_first : (words new lines : List Bool) (list pushed : List ℕ) (capacity room line : ℕ) → ListsLines words lines list capacity → length new ≡ length words → ((k : ℕ) → k / 8 ≢ line → get_or new k false ≡ get_or words k false) → get_or lines line false ≡ false → 8 * line < length words → capacity ≤ room → pushed ≡ list ++ line ∷ [] → ListsLines new (set lines line true) pushed room
+marked_first words new lines list pushed capacity room line h len same off l more p =
     let within = line_within words lines list capacity line h l in
     let there = list_line words lines list capacity room line h more l off in
     subst (λ (x : List ℕ). ListsLines new (set lines line true) x room) (sym p)
-    (marked_again words slice new (set lines line true) (list ++ line ∷ []) room line there s len same (get_or-set_same lines line true false within))
+    (remark words new (set lines line true) (list ++ line ∷ []) room line there len (get_or-set_same lines line true false within) same)
 
 -- the last line of the list is completed
-pub completed_last : (words slice new lines : List Bool) (list all : List ℕ) (capacity room line : ℕ) → ListsLines words lines all capacity → all ≡ list ++ line ∷ [] → room ≡ capacity → slice ≡ words → length new ≡ length slice → ((k : ℕ) → k / 8 ≡ line → get_or new k false ≡ false) → ((k : ℕ) → k / 8 ≢ line → get_or new k false ≡ get_or slice k false) → ListsLines new (set lines line false) list room
-completed_last words slice new lines list all capacity room line h p r s len clear same =
+pub completed_last : (words new lines : List Bool) (list all : List ℕ) (capacity room line : ℕ) → ListsLines words lines all capacity → all ≡ list ++ line ∷ [] → room ≡ capacity → length new ≡ length words → ((k : ℕ) → k / 8 ≡ line → get_or new k false ≡ false) → ((k : ℕ) → k / 8 ≢ line → get_or new k false ≡ get_or words k false) → ListsLines new (set lines line false) list room
+completed_last words new lines list all capacity room line h p r len clear same =
     let there = subst (λ (x : List ℕ). ListsLines words lines x capacity) p h in
     let more = subst (λ (x : ℕ). ListsLines words lines (list ++ line ∷ []) x) (sym r) there in
-    unlist_line words new lines list room line more (len ∙ ap length s) clear
-    (λ k ne. same k ne ∙ ap (λ (x : List Bool). get_or x k false) s)
+    unlist_line words new lines list room line more len clear same

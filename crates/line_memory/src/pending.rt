@@ -2,19 +2,17 @@
 ghost use Rattle.std.specs.Prelude.{◌≡◌, ◌≢◌, ℕ, ◌+◌, ◌*◌, ◌/◌, ◌<◌, ◌≤◌, false, true, length, replicate, slice_index, slice_index_or, slice_set, IfOk, IfSome, IsNone, vec_len};
 ghost use Rattle.line_memory.specs.Marks.{completed_at, mark_at, IsMarked};
 
-use crate::memory;
+use crate::memory::LINE;
+use bit_marks::BitMarks;
 use std::alloc::{AllocError, Global};
 use std::marker::Model;
 
-/// How many words a line has.
-const LINE: usize = memory::LINE as usize;
-
-/// A mark for each word. Since a line is listed once at most, the list never outgrows its room,
-/// and a fence goes over the lines that were written back, and not over the whole memory.
+/// A mark for each word, one bit. Since a line is listed once at most, the list never outgrows its
+/// room, and a fence goes over the lines that were written back, and not over the whole memory.
 #[derive(Drop)]
 pub struct Pending {
-    marks: Vec<bool>,
-    listed: Vec<bool>,
+    marks: BitMarks,
+    listed: BitMarks,
     lines: Vec<u64>,
 }
 
@@ -25,20 +23,19 @@ impl Model for Pending {
 
     ghost Value = { List Bool };
 
-    ghost view = { λ p. p.marks.items };
+    ghost view = { λ p. p.marks };
 
-    ghost invariant = { λ p.
-        ListsLines p.marks.items p.listed.items p.lines.items (vec_capacity p.lines) };
+    ghost invariant = { λ p. ListsLines p.marks p.listed p.lines.items (vec_capacity p.lines) };
 }
 
 impl Pending {
     pub fn new(alloc: Global, words: usize) -> Result<Pending, AllocError>
         ensures { IfOk result (λ p. p ≡ replicate words false) }
     {
-        let lines = words.div_ceil(LINE);
+        let lines = words.div_ceil(LINE as usize);
         Ok(Pending {
-            marks: vec![in alloc; false; words]?,
-            listed: vec![in alloc; false; lines]?,
+            marks: BitMarks::new(alloc, words as u64)?,
+            listed: BitMarks::new(alloc, lines as u64)?,
             lines: Vec::with_capacity(alloc, lines)?,
         })
     }
@@ -50,10 +47,9 @@ impl Pending {
         ensures in_line { (k : ℕ) → k < length self.old → k / 8 ≡ line → IsMarked self.new k }
         ensures others { (k : ℕ) → k / 8 ≢ line → mark_at self.new k ≡ mark_at self.old k }
     {
-        let at = line as usize;
-        mark_words(&mut self.marks, at);
-        if !self.listed[at] {
-            self.listed[at] = true;
+        mark_words(&mut self.marks, line);
+        if !self.listed.get(line) {
+            self.listed.set(line);
             self.lines.push_reserved(line);
         }
     }
@@ -63,7 +59,7 @@ impl Pending {
         requires { word < length self.old }
         ensures { self.new ≡ slice_set self.old word false }
     {
-        self.marks[word] = false;
+        self.marks.clear(word as u64);
     }
 
     /// Takes back the mark of one marked word, if there is one, and tells the word.
@@ -74,13 +70,12 @@ impl Pending {
             → ((word : ℕ) → mark_at self.old word ≡ false) × (self.new ≡ self.old) }
     {
         while let Some(line) = self.lines.pop() {
-            let at = line as usize;
-            if let Some(word) = first_marked(&self.marks, at) {
+            if let Some(word) = first_marked(&self.marks, line) {
                 self.lines.push_reserved(line);
-                self.marks[word] = false;
-                return Some(word as u64);
+                self.marks.clear(word);
+                return Some(word);
             }
-            self.listed[at] = false;
+            self.listed.clear(line);
         }
         None
     }
@@ -95,36 +90,38 @@ impl Pending {
             ≡ completed_at self.old volatile.now durable.old k }
     {
         while let Some(line) = self.lines.pop() {
-            let at = line as usize;
-            self.listed[at] = false;
-            complete_line(&mut self.marks, volatile, durable, at);
+            self.listed.clear(line);
+            complete_line(&mut self.marks, volatile, durable, line);
         }
     }
 }
 
 /// Marks the words of the line.
-fn mark_words(marks: &mut [bool], line: usize)
+fn mark_words(marks: &mut BitMarks, line: u64)
     requires { 8 * line < length marks.old }
+    ensures len { length marks.new ≡ length marks.old }
     ensures in_line { (k : ℕ) → k < length marks.old → k / 8 ≡ line → IsMarked marks.new k }
     ensures others { (k : ℕ) → k / 8 ≢ line → mark_at marks.new k ≡ mark_at marks.old k }
 {
+    let length = marks.len();
     let first = LINE * line;
-    let count = LINE.min(marks.len() - first);
+    let count = LINE.min(length - first);
     for word in first..first + count {
-        marks[word] = true;
+        marks.set(word);
     }
 }
 
 /// The first marked word of the line.
-fn first_marked(marks: &[bool], line: usize) -> Option<usize>
+fn first_marked(marks: &BitMarks, line: u64) -> Option<u64>
     requires { 8 * line < length marks.now }
     ensures some { IfSome result (λ word. IsMarked marks.now word × (word / 8 ≡ line)) }
     ensures none { IsNone result → (k : ℕ) → k / 8 ≡ line → mark_at marks.now k ≡ false }
 {
+    let length = marks.len();
     let first = LINE * line;
-    let count = LINE.min(marks.len() - first);
+    let count = LINE.min(length - first);
     for word in first..first + count {
-        let marked = marks[word];
+        let marked = marks.get(word);
         if marked {
             return Some(word);
         }
@@ -133,21 +130,23 @@ fn first_marked(marks: &[bool], line: usize) -> Option<usize>
 }
 
 /// Makes the marked words of the line durable, and takes back their marks.
-fn complete_line(marks: &mut [bool], volatile: &[u64], durable: &mut [u64], line: usize)
+fn complete_line(marks: &mut BitMarks, volatile: &[u64], durable: &mut [u64], line: u64)
     requires in_memory { 8 * line < length marks.old }
     requires marks { length marks.old ≡ length volatile.now }
     requires lengths { length durable.old ≡ length volatile.now }
+    ensures len { length marks.new ≡ length marks.old }
     ensures clear { (k : ℕ) → k / 8 ≡ line → mark_at marks.new k ≡ false }
     ensures others { (k : ℕ) → k / 8 ≢ line → mark_at marks.new k ≡ mark_at marks.old k }
     ensures completed { (k : ℕ) → completed_at marks.new volatile.now durable.new k
         ≡ completed_at marks.old volatile.now durable.old k }
 {
+    let length = marks.len();
     let first = LINE * line;
-    let count = LINE.min(marks.len() - first);
+    let count = LINE.min(length - first);
     for word in first..first + count {
-        if marks[word] {
-            durable[word] = volatile[word];
-            marks[word] = false;
+        if marks.get(word) {
+            durable[word as usize] = volatile[word as usize];
+            marks.clear(word);
         }
     }
 }

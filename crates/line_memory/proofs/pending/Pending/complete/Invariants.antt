@@ -6,10 +6,10 @@ use Rattle.line_memory.proofs.pending.Pending.complete.Given as goal
 abbrev pub invariant-loop-line : goal.invariant-loop-line
 invariant-loop-line l =
     record {
-      listed : ListsLines l.self-inside.marks.items l.self-inside.listed.items l.self-inside.lines.items (vec_capacity l.self-inside.lines);
-      marks : length l.self-inside.marks.items ≡ length l.volatile;
+      listed : ListsLines l.self-inside.marks l.self-inside.listed l.self-inside.lines.items (vec_capacity l.self-inside.lines);
+      marks : length l.self-inside.marks ≡ length l.volatile;
       lengths : length l.durable ≡ length l.volatile;
-      completed : (k : ℕ) → completed_at l.self-inside.marks.items l.volatile l.durable k ≡ completed_at l.initial.self-inside.marks.items l.volatile l.initial.durable k;
+      completed : (k : ℕ) → completed_at l.self-inside.marks l.volatile l.durable k ≡ completed_at l.initial.self-inside.marks l.volatile l.initial.durable k;
     }
 
 abbrev pub decreases-loop-line : goal.decreases-loop-line

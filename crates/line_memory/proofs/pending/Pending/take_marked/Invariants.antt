@@ -6,8 +6,8 @@ use Rattle.line_memory.proofs.pending.Pending.take_marked.Given as goal
 abbrev pub invariant-loop-line : goal.invariant-loop-line
 invariant-loop-line l =
     record {
-      listed : ListsLines l.self-inside.marks.items l.self-inside.listed.items l.self-inside.lines.items (vec_capacity l.self-inside.lines);
-      marks : l.self-inside.marks.items ≡ l.initial.self-inside.marks.items;
+      listed : ListsLines l.self-inside.marks l.self-inside.listed l.self-inside.lines.items (vec_capacity l.self-inside.lines);
+      marks : l.self-inside.marks ≡ l.initial.self-inside.marks;
     }
 
 abbrev pub decreases-loop-line : goal.decreases-loop-line
