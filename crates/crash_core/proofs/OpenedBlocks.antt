@@ -11,7 +11,7 @@ use Rattle.heap_model.proofs.CountingLemmas.{one_if_true, one_if_false}
 use Rattle.heap_model.proofs.MemberLemmas.{in_none, head_or_rest}
 use Rattle.heap_model.proofs.SizeLemmas.{two_words}
 use Rattle.core_model.specs.Cells.{superblock_at}
-use Rattle.core_model.specs.Opening.{picked, is_small, small_blocks, AreOwners}
+use Rattle.core_model.specs.Opening.{picked, is_small, small_blocks, tabulate, AreOwners}
 use Rattle.core_model.proofs.BlockLemmas.{inside_of}
 use Rattle.core_model.proofs.PlaceLemmas.{pick, skip, not-eq, and_both, and_is}
 use Rattle.core_model.proofs.OpenLemmas.{picked_in, tabulate_sum, small_at, small_sum}
@@ -83,7 +83,7 @@ module _ (words : List ℕ) (held : List Block) (owners : List ℕ) (ready : IsR
   within p there small = let s = small_of p there small in let at = inside_of c s.class s.d p.first_word s.is_class s.is in let u = ready.formed.used in let t = s.taken in
       let two = two_words s.class s.is_class in omega (arith, at.0, at.1)
 
-  module _ (i : ℕ) (p : Block) (o : ℕ) (blocks : List BlockOwner) (before : HaveSeats held owners i (image_words c) blocks) (below : i < length held) (at : get_or held i p ≡ p) (at_o : get_or owners i o ≡ o) where
+  module _ (i : ℕ) (p : Block) (o : ℕ) (below : i < length held) (at : get_or held i p ≡ p) (at_o : get_or owners i o ≡ o) where
     there : Contains held p
     there = block_there held i p below at
 
@@ -94,61 +94,74 @@ module _ (words : List ℕ) (held : List Block) (owners : List ℕ) (ready : IsR
     more_mine : (b : ℕ) → held_so_far held owners (suc i) o b ≡ held_so_far held owners i o b + small_at b p
     more_mine b = let m = more o b in let e = ap (total (small_at b)) (pick (nat_eq o o) (p ∷ []) [] (eq-eqb o o refl)) in omega arith
 
-    more_theirs : (j b : ℕ) → j ≢ o → held_so_far held owners (suc i) j b ≡ held_so_far held owners i j b
+    pub more_theirs : (j b : ℕ) → j ≢ o → held_so_far held owners (suc i) j b ≡ held_so_far held owners i j b
     more_theirs j b other = let m = more j b in let e = ap (total (small_at b)) (skip (nat_eq o j) (p ∷ []) [] (not-eq o j (λ e. other (sym e)))) in omega arith
 
     -- a large block leaves all as it is
-    pub large_seated : is_small p ≡ false → HaveSeats held owners (i + 1) (image_words c) blocks
-    large_seated large = subst (λ n. HaveSeats held owners n (image_words c) blocks) (sym (add-one i)) (record {
-      long = before.long;
-      each = λ j b. subst (λ n. IsHeldOnly n (place_for j (get_or blocks b no_block))) (sym (same j b)) (before.each j b);
-    }) where
+    pub large_more : is_small p ≡ false → (j b : ℕ) → held_so_far held owners (suc i) j b ≡ held_so_far held owners i j b
+    large_more large j b = elim (cases_eq j o) [
+      | inl mine ↦ subst (λ n. held_so_far held owners (suc i) n b ≡ held_so_far held owners i n b) (sym mine) (let m = more_mine b in let z = none b in omega arith)
+      | inr other ↦ more_theirs j b other
+    ] where
       none : (b : ℕ) → small_at b p ≡ 0
       none b = ap (λ t. one_if (t && nat_eq p.first_word b)) large
 
-      same : (j b : ℕ) → held_so_far held owners (suc i) j b ≡ held_so_far held owners i j b
-      same j b = elim (cases_eq j o) [
-        | inl mine ↦ subst (λ n. held_so_far held owners (suc i) n b ≡ held_so_far held owners i n b) (sym mine) (let m = more_mine b in let z = none b in omega arith)
-        | inr other ↦ more_theirs j b other
-      ]
-
     -- a small block is its seat's, and was nobody's
-    pub small_seated : is_small p ≡ true → HaveSeats held owners (i + 1) (image_words c) (set blocks p.first_word (record { seat = o; place = place.Held }))
-    small_seated small = subst (λ n. HaveSeats held owners n (image_words c) (set blocks p.first_word (record { seat = o; place = place.Held }))) (sym (add-one i)) (record {
-      long = length-set blocks p.first_word (record { seat = o; place = place.Held }) ∙ before.long;
-      each = λ j b. elim (cases_eq j o) as (λ _. IsHeldOnly (held_so_far held owners (suc i) j b) (place_for j (get_or (set blocks p.first_word (record { seat = o; place = place.Held })) b no_block))) [
-        | inl mine ↦ subst (λ n. IsHeldOnly (held_so_far held owners (suc i) n b) (place_for n (get_or (set blocks p.first_word (record { seat = o; place = place.Held })) b no_block))) (sym mine)
-            (places_mine blocks o p.first_word place.Held (λ e x. IsHeldOnly (held_so_far held owners (suc i) o e) x) less
-            (record { held = (let m = more_mine p.first_word in let z = none o in let y = once in omega arith); cached = refl; batched = refl })
-            (λ e apart. subst (λ n. IsHeldOnly n (place_for o (get_or blocks e no_block))) (let m = more_mine e in let z = elsewhere e apart in omega arith) (before.each o e)) b)
-        | inr other ↦ places_theirs blocks o j p.first_word place.Held (λ e x. IsHeldOnly (held_so_far held owners (suc i) j e) x) less other
-            (held_nowhere (held_so_far held owners i j p.first_word) (place_for j (get_or blocks p.first_word no_block)) (before.each j p.first_word) (none j))
-            (λ e. subst (λ n. IsHeldOnly n (place_for j (get_or blocks e no_block))) (sym (more_theirs j e other)) (before.each j e)) b
-      ];
-    }) where
-      less : p.first_word < length blocks
-      less = let w = within p there small in let l = before.long in omega arith
-
+    module _ (small : is_small p ≡ true) where
       once : small_at p.first_word p ≡ 1
       once = one_if_true (is_small p && nat_eq p.first_word p.first_word) (and_is (is_small p) (nat_eq p.first_word p.first_word) small (eq-eqb p.first_word p.first_word refl))
+
+      elsewhere : (b : ℕ) → b ≢ p.first_word → small_at b p ≡ 0
+      elsewhere b apart = one_if_false (is_small p && nat_eq p.first_word b) (λ t. apart (sym (eqb-true p.first_word b (and_both (is_small p) (nat_eq p.first_word b) t).1)))
 
       none : (j : ℕ) → held_so_far held owners i j p.first_word ≡ 0
       none j = none_before (small_at p.first_word) j held (take i owners) i p below at (let s = small_once held p ready.ascending there small in omega arith) once
 
-      elsewhere : (b : ℕ) → b ≢ p.first_word → small_at b p ≡ 0
-      elsewhere b apart = one_if_false (is_small p && nat_eq p.first_word b) (λ t. apart (sym (eqb-true p.first_word b (and_both (is_small p) (nat_eq p.first_word b) t).1)))
+      pub mine_here : held_so_far held owners (suc i) o p.first_word ≡ 1
+      mine_here = let m = more_mine p.first_word in let z = none o in let y = once in omega arith
+
+      pub mine_elsewhere : (b : ℕ) → b ≢ p.first_word → held_so_far held owners (suc i) o b ≡ held_so_far held owners i o b
+      mine_elsewhere b apart = let m = more_mine b in let z = elsewhere b apart in omega arith
+
+    module _ (blocks : List BlockOwner) (before : HaveSeats held owners i (image_words c) blocks) where
+      pub large_seated : is_small p ≡ false → HaveSeats held owners (i + 1) (image_words c) blocks
+      large_seated large = subst (λ n. HaveSeats held owners n (image_words c) blocks) (sym (add-one i)) (record {
+        long = before.long;
+        each = λ j b. subst (λ n. IsHeldOnly n (place_for j (get_or blocks b no_block))) (sym (large_more large j b)) (before.each j b);
+      })
+
+      pub small_seated : is_small p ≡ true → HaveSeats held owners (i + 1) (image_words c) (set blocks p.first_word (record { seat = o; place = place.Held }))
+      small_seated small = subst (λ n. HaveSeats held owners n (image_words c) (set blocks p.first_word (record { seat = o; place = place.Held }))) (sym (add-one i)) (record {
+        long = length-set blocks p.first_word (record { seat = o; place = place.Held }) ∙ before.long;
+        each = λ j b. elim (cases_eq j o) as (λ _. IsHeldOnly (held_so_far held owners (suc i) j b) (place_for j (get_or (set blocks p.first_word (record { seat = o; place = place.Held })) b no_block))) [
+          | inl mine ↦ subst (λ n. IsHeldOnly (held_so_far held owners (suc i) n b) (place_for n (get_or (set blocks p.first_word (record { seat = o; place = place.Held })) b no_block))) (sym mine)
+              (places_mine blocks o p.first_word place.Held (λ e x. IsHeldOnly (held_so_far held owners (suc i) o e) x) less
+              (record { held = mine_here small; cached = refl; batched = refl })
+              (λ e apart. subst (λ n. IsHeldOnly n (place_for o (get_or blocks e no_block))) (sym (mine_elsewhere small e apart)) (before.each o e)) b)
+          | inr other ↦ places_theirs blocks o j p.first_word place.Held (λ e x. IsHeldOnly (held_so_far held owners (suc i) j e) x) less other
+              (held_nowhere (held_so_far held owners i j p.first_word) (place_for j (get_or blocks p.first_word no_block)) (before.each j p.first_word) (none small j))
+              (λ e. subst (λ n. IsHeldOnly n (place_for j (get_or blocks e no_block))) (sym (more_theirs j e other)) (before.each j e)) b
+        ];
+      }) where
+        less : p.first_word < length blocks
+        less = let w = within p there small in let l = before.long in omega arith
+
+  -- all of a seat's small blocks, in the list of their class
+  pub all_held : (i : ℕ) → length held ≤ i → (j b : ℕ)
+      → total (times b) (tabulate (λ class. small_blocks c (λ d. slice_index words (info_word d)) class (picked j held owners)) 0 lists) ≡ held_so_far held owners i j b
+  all_held i past j b = tabulate_sum (times b) (λ class. small_blocks c (λ d. slice_index words (info_word d)) class (picked j held owners)) 0 lists
+      ∙ small_sum c (λ d. slice_index words (info_word d)) b (picked j held owners) (λ p m small. is_class j p m small)
+      ∙ sym (ap₂ (λ ps os. total (small_at b) (picked j ps os)) (take_all i held past) (take_all i owners (omega arith))) where
+        is_class : (j : ℕ) (p : Block) → Contains (picked j held owners) p → is_small p ≡ true → slice_index words (info_word (superblock_at c p.first_word)) < lists
+        is_class j p m small = let s = small_of p (picked_in j held owners p m) small in let e = ap (λ d. slice_index words (info_word d)) s.here in let f = s.info_at in let l = s.is_class.last in omega arith
 
   -- all have their seats
   pub all_seated : (i : ℕ) (blocks : List BlockOwner) → HaveSeats held owners i (image_words c) blocks → length held ≤ i → AreBlockOwners words held owners blocks
   all_seated i blocks seated past = record {
     long = seated.long;
     each = λ j b. let s = seated.each j b in record {
-      held = tabulate_sum (times b) (λ class. small_blocks c (λ d. slice_index words (info_word d)) class (picked j held owners)) 0 lists
-          ∙ small_sum c (λ d. slice_index words (info_word d)) b (picked j held owners) (λ p m small. is_class j p m small)
-          ∙ sym (ap₂ (λ ps os. total (small_at b) (picked j ps os)) (take_all i held past) (take_all i owners (omega arith))) ∙ s.held;
+      held = all_held i past j b ∙ s.held;
       cached = none_cached lists b ∙ s.cached;
       batched = s.batched;
     };
-  } where
-    is_class : (j : ℕ) (p : Block) → Contains (picked j held owners) p → is_small p ≡ true → slice_index words (info_word (superblock_at c p.first_word)) < lists
-    is_class j p m small = let s = small_of p (picked_in j held owners p m) small in let e = ap (λ d. slice_index words (info_word d)) s.here in let f = s.info_at in let l = s.is_class.last in omega arith
+  }

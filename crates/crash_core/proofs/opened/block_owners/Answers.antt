@@ -20,9 +20,9 @@ loop-i-preserved c =
     let at_o = entry_of c.args.owners.now _ c.loop-i.i 0 refl (omega arith) in
     elim c.if-block-lt-SUPERBLOCK_WORDS.branch [
       | then-block-lt-SUPERBLOCK_WORDS w ↦ subst (λ bs. HaveSeats c.args.heap.now.held c.args.owners.now (c.loop-i.i + 1) (image_words (slice_index c.args.heap.now.words capacity_word)) bs.items) (sym w.blocks-is)
-          (small_seated c.args.heap.now.words c.args.heap.now.held c.args.owners.now c.held-block-items.ensures.ready c.requires c.loop-i.i _ _ c.loop-i.blocks.items c.loop-i.invariant (omega arith) at at_o (lt-ltb _ 8192 w.if-block-lt-SUPERBLOCK_WORDS.true))
+          (small_seated c.args.heap.now.words c.args.heap.now.held c.args.owners.now c.held-block-items.ensures.ready c.requires c.loop-i.i _ _ (omega arith) at at_o c.loop-i.blocks.items c.loop-i.invariant (lt-ltb _ 8192 w.if-block-lt-SUPERBLOCK_WORDS.true))
       | else-block-lt-SUPERBLOCK_WORDS w ↦ subst (λ bs. HaveSeats c.args.heap.now.held c.args.owners.now (c.loop-i.i + 1) (image_words (slice_index c.args.heap.now.words capacity_word)) bs.items) (sym w.blocks-is)
-          (large_seated c.args.heap.now.words c.args.heap.now.held c.args.owners.now c.held-block-items.ensures.ready c.requires c.loop-i.i _ _ c.loop-i.blocks.items c.loop-i.invariant (omega arith) at at_o (not-lt _ 8192 w.if-block-lt-SUPERBLOCK_WORDS.false))
+          (large_seated c.args.heap.now.words c.args.heap.now.held c.args.owners.now c.held-block-items.ensures.ready c.requires c.loop-i.i _ _ (omega arith) at at_o c.loop-i.blocks.items c.loop-i.invariant (not-lt _ 8192 w.if-block-lt-SUPERBLOCK_WORDS.false))
     ]
 
 pub returns : goal.returns
