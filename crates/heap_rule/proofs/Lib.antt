@@ -28,6 +28,7 @@ pub mod OwnedShifts
 pub mod CacheMarks
 pub mod ChangeLemmas
 pub mod OwnedReads
+pub mod HeldMarks
 pub mod OwnedOpening
 pub mod FenceLemmas
 pub mod DrawLemmas

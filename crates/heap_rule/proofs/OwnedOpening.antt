@@ -3,9 +3,9 @@ use Rattle.std.specs.Vec.{vec_capacity}
 use Rattle.std.proofs.Common.{◌≡◌, ℕ, zero, suc, ◌+◌, ◌<◌, ◌≤◌, inl, inr, false, nat_eq, List, [], ◌∷◌, ◌++◌, get_or, set, length, slice_index, refl, ap, sym, subst, ◌∙◌, arith}
 use Rattle.std.proofs.lemmas.Bool.{cases_eq, cases_lt}
 use Rattle.std.proofs.lemmas.List.{get_or-set_same, get_or-set_other, get_or_append_left}
-use Rattle.heap_model.specs.Geometry.{lists, roots, capacity_word, info_word}
+use Rattle.heap_model.specs.Geometry.{lists, roots, capacity_word, info_word, image_words}
 use Rattle.heap_model.specs.Rest.{IsReady}
-use Rattle.heap_model.specs.Counting.{times, one_if}
+use Rattle.heap_model.specs.Counting.{times, total, one_if}
 use Rattle.super_block.specs.Contents.{Contents}
 use Rattle.core_model.specs.Cells.{superblock_at}
 use Rattle.core_model.specs.Opening.{AreOwners, setup_of, opened_view, opened_state, picked, tabulate, small_blocks}
@@ -14,13 +14,12 @@ use Rattle.core_model.proofs.OpenLemmas.{length_tabulate, tabulate_at, small_mem
 use Rattle.core_model.proofs.OpenCountLemmas.{beyond, empty_at}
 use Rattle.core_model.proofs.OpenedLemmas.{opened}
 use Rattle.core_model.proofs.OwnerLemmas.{in_lists_total}
-use Rattle.crash_core.specs.declared.owners.BlockOwner.{BlockOwner}
 use Rattle.crash_core.specs.declared.owners.SuperblockOwner.{SuperblockOwner}
 use Rattle.crash_core.specs.declared.owners.Share.{Share}
 use Rattle.crash_core.specs.declared.owners.Share.TheVariants as share
 use Rattle.crash_core.specs.OwnerLists.{OwnerLists}
-use Rattle.crash_core.specs.OpenedOwners.{AreBlockOwners, AreSuperblockOwners}
-use Rattle.crash_core.specs.Standing.{place_for, share_for, held_in, no_block, no_superblock, IsShare}
+use Rattle.crash_core.specs.OpenedOwners.{AreSuperblockOwners}
+use Rattle.crash_core.specs.Standing.{share_for, no_superblock, IsShare}
 use Rattle.crash_core.proofs.OpenedBlocks.{none_cached}
 use Rattle.crash_core.proofs.OwnDecision.{one_true}
 use Rattle.crash_core.proofs.PickedLemmas.{roots_of}
@@ -61,9 +60,9 @@ stake_of_share d (share.Classed class) p is = record { unclassed = (let a = is.i
 stake_of_share d (share.Large count) p is = record { unclassed = (let a = is.is_raw in let b = is.is_split in let c = is.is_cutting in omega arith); is_classed = is.is_classed; class = is.class; is_large = is.is_large; count = is.count }
 
 -- what was gathered of a seat
-pub record IsGathered (heap : Contents) (owners : OwnerLists) (seat : ℕ) (blocks : List BlockOwner) (superblocks : List SuperblockOwner) (o : Owned) : Type 0 where
-  pub words_long : length o.blocks.items ≡ length blocks
-  pub blocks_are : (n : ℕ) → one_if (get_or o.blocks.items n false) ≡ held_in (place_for seat (get_or blocks n no_block))
+pub record IsGathered (heap : Contents) (owners : OwnerLists) (seat : ℕ) (superblocks : List SuperblockOwner) (o : Owned) : Type 0 where
+  pub words_long : length o.blocks ≡ image_words (slice_index heap.words capacity_word)
+  pub blocks_are : (n : ℕ) → one_if (get_or o.blocks n false) ≡ total (times n) (opened_parts heap owners seat).small
   pub classes_long : length o.classes.items ≡ slice_index heap.words capacity_word
   pub classes_are : (d : ℕ) → d < length o.classes.items → get_or o.classes.items d 0 ≡ slice_index heap.words (info_word d)
   pub stakes_long : length o.stakes.items ≡ length superblocks
@@ -74,14 +73,14 @@ pub record IsGathered (heap : Contents) (owners : OwnerLists) (seat : ℕ) (bloc
   pub room : most_blocks ≤ vec_capacity o.batch
   pub stacks : (caches : List (List ℕ)) → AreStacks o.stacks.items caches
 
-pub gathered : (heap : Contents) (owners : OwnerLists) (seats seat : ℕ) (blocks : List BlockOwner) (superblocks : List SuperblockOwner) (o : Owned) → IsReady heap.words heap.held → AreOwners heap.held seats owners.held owners.roots → seat < seats
-    → AreBlockOwners heap.words heap.held owners.held blocks → AreSuperblockOwners heap.words heap.held owners.held superblocks → IsGathered heap owners seat blocks superblocks o → HasOwned o (opened_parts heap owners seat)
-gathered heap owners seats seat blocks superblocks o ready are less are_blocks are_superblocks g = record {
-  words_long = g.words_long ∙ are_blocks.long;
+pub gathered : (heap : Contents) (owners : OwnerLists) (seats seat : ℕ) (superblocks : List SuperblockOwner) (o : Owned) → IsReady heap.words heap.held → AreOwners heap.held seats owners.held owners.roots → seat < seats
+    → AreSuperblockOwners heap.words heap.held owners.held superblocks → IsGathered heap owners seat superblocks o → HasOwned o (opened_parts heap owners seat)
+gathered heap owners seats seat superblocks o ready are less are_superblocks g = record {
+  words_long = g.words_long;
   classes_long = g.classes_long;
   stakes_long = g.stakes_long ∙ are_superblocks.long;
   roots_long = g.roots_long ∙ are.roots_all;
-  blocks = λ n. one_true (get_or o.blocks.items n false) (times_had n p) (g.blocks_are n ∙ (let h = are_blocks.each seat n in let e = h.held in let z = none_cached lists n in omega arith));
+  blocks = λ n. one_true (get_or o.blocks n false) (times_had n p) (g.blocks_are n ∙ (let z = none_cached lists n in omega arith));
   classes = record {
     held = λ class b there. elim (cases_lt class lists) [
       | inl some ↦ class_at class b some there

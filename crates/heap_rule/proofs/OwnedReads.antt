@@ -139,13 +139,11 @@ module _ (v : View) (s : HasSoundState v) (o : Owned) (own : HasOwned o (parts_o
           ]
         ]
 
-        pub data_own : (b : Bool) → b ≡ get_or o.blocks.items block b → (b ≡ true) ↔ IsOwn v (data_cell word)
+        pub data_own : (b : Bool) → b ≡ get_or o.blocks block false → (b ≡ true) ↔ IsOwn v (data_cell word)
         data_own b b_is = (
-          λ e. let w = has_word ((own.blocks block).0 (sym (b_at) ∙ e)) in omega arith,
-          λ own_word. let h = block_has own_word in b_at ∙ (own.blocks block).1 (subst (λ n. 0 < times_block n v) (same_step (start_word v.setup.capacity d) h.2.index ((word - start_word v.setup.capacity d) / words) h.0 (h.2.at ∙ ap (λ n. start_word v.setup.capacity d + h.2.index * n) (sym words_are)) block_is h.3 (subst (λ n. word < h.0 + n) (sym words_are) h.4)) h.1),
-        ) where
-          b_at : b ≡ get_or o.blocks.items block false
-          b_at = b_is ∙ entry_is o.blocks.items block b false (let l = own.words_long in let i = block_inside in omega arith)
+          λ e. let w = has_word ((own.blocks block).0 (sym b_is ∙ e)) in omega arith,
+          λ own_word. let h = block_has own_word in b_is ∙ (own.blocks block).1 (subst (λ n. 0 < times_block n v) (same_step (start_word v.setup.capacity d) h.2.index ((word - start_word v.setup.capacity d) / words) h.0 (h.2.at ∙ ap (λ n. start_word v.setup.capacity d + h.2.index * n) (sym words_are)) block_is h.3 (subst (λ n. word < h.0 + n) (sym words_are) h.4)) h.1),
+        )
 
   -- a held small block
   pub small_held : (class b d : ℕ) (x : Stake) → 0 < times b (of_class v.small class) → d ≡ superblock_at v.setup.capacity b → x ≡ get_or o.stakes.items d x → (d < v.setup.capacity) × IsClass class × (count_in x ≡ 0) × (get_or o.classes.items d 0 ≡ class)

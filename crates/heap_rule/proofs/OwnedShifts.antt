@@ -39,7 +39,7 @@ moved o batch stacks p small caches blocks class own same classes batch_is room 
   classes_long = own.classes_long;
   stakes_long = own.stakes_long;
   roots_long = own.roots_long;
-  blocks = marked_alike o.blocks.items (λ b. times_had b p) (λ b. times_had b (record p { small = small; caches = caches; batch = blocks; batch_class = class })) same own.blocks;
+  blocks = marked_alike o.blocks (λ b. times_had b p) (λ b. times_had b (record p { small = small; caches = caches; batch = blocks; batch_class = class })) same own.blocks;
   classes = classes;
   stakes = λ e. let b = own.stakes e in record { unclassed = b.unclassed; is_classed = b.is_classed; class = b.class; is_large = b.is_large; count = b.count };
   roots_are = own.roots_are;
@@ -93,8 +93,8 @@ module _ (v : View) (s : HasSoundState v) (o : Owned) (own : HasOwned o (parts_o
         same some = let h = good.blocks s.seat v s.below s.at in let q = h.batched (first_of v.batch.blocks) (first_there v.batch.blocks some) in
             sym q.1 ∙ ap (info m) (can.same some) ∙ h.cached class (first_of (of_class v.caches class)) (first_there (of_class v.caches class) can.cached)
 
-  pub cut_owned : (d class : ℕ) (blocks : Vec Bool Global) (classes : Vec ℕ Global) (stakes : Vec Stake Global) (stacks : Vec Stack Global) (can : CanCut v d) → class ≡ can.class
-      → IsMarking o.blocks.items blocks.items (class_blocks v.setup.capacity class d) true → classes.items ≡ set o.classes.items d class → stakes.items ≡ set o.stakes.items d stake.Nothing
+  pub cut_owned : (d class : ℕ) (blocks : List Bool) (classes : Vec ℕ Global) (stakes : Vec Stake Global) (stacks : Vec Stack Global) (can : CanCut v d) → class ≡ can.class
+      → IsMarking o.blocks blocks (class_blocks v.setup.capacity class d) true → classes.items ≡ set o.classes.items d class → stakes.items ≡ set o.stakes.items d stake.Nothing
       → IsRestacked o.stacks.items stacks.items class (λ cache. class_blocks v.setup.capacity class d) → HasOwned (record o { blocks = blocks; classes = classes; stakes = stakes; stacks = stacks }) (parts_of (shifted m (drew v found) (Some (Cut d))))
   cut_owned d class blocks classes stakes stacks can class_is marking classes_are stakes_are r =
       subst (λ n. HasOwned (record o { blocks = blocks; classes = classes; stakes = stakes; stacks = stacks }) (record (parts_of v) { caches = set v.caches n (class_blocks v.setup.capacity n d); cutting = without d v.cutting })) info_is (record {
@@ -102,7 +102,7 @@ module _ (v : View) (s : HasSoundState v) (o : Owned) (own : HasOwned o (parts_o
         classes_long = ap length classes_are ∙ length-set o.classes.items d class ∙ own.classes_long;
         stakes_long = ap length stakes_are ∙ length-set o.stakes.items d stake.Nothing ∙ own.stakes_long;
         roots_long = own.roots_long;
-        blocks = marked_more o.blocks.items blocks.items (λ b. times_had b (parts_of v)) _ cs marking (cached_times (parts_of v) class d cs caches empty) own.blocks;
+        blocks = marked_more o.blocks blocks (λ b. times_had b (parts_of v)) _ cs marking (cached_times (parts_of v) class d cs caches empty) own.blocks;
         classes = (let a = cached_classes (parts_of v) class d cs caches empty o.classes.items (let l = own.classes_long in let t = less in omega arith) of_d none own.classes in
             subst (λ l. AreClasses l (record (parts_of v) { caches = set v.caches class cs; cutting = without d v.cutting })) (sym classes_are) (record { held = a.held; cached = a.cached; batched = a.batched }));
         stakes = (let a = cut_stakes o.stakes.items (parts_of v) d (let l = own.stakes_long in let t = less in omega arith) can.cutting own.stakes in

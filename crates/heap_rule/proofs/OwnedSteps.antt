@@ -306,7 +306,7 @@ module _ (v w : View) (d found : ℕ) (event : IsEvent (TakeAll d) v found w) (s
     once : (b : ℕ) → IsCutBlock v.setup.capacity class d b → times b taken_blocks ≤ 1
     once b is = subst (λ l. times b l ≤ 1) (sym blocks_are) (let o = good0.shaped.chained.owned d b cut_d (subst (λ n. IsCutBlock v.setup.capacity n d b) (sym claim.1) is) in omega arith)
 
-  pub taken_owned : (o : Owned) (blocks : Vec Bool Global) (classes : Vec ℕ Global) (stakes : Vec Stake Global) (stacks : Vec Stack Global) → HasOwned o (parts_of v) → IsMarking o.blocks.items blocks.items taken_blocks true
+  pub taken_owned : (o : Owned) (blocks : List Bool) (classes : Vec ℕ Global) (stakes : Vec Stake Global) (stacks : Vec Stack Global) → HasOwned o (parts_of v) → IsMarking o.blocks blocks taken_blocks true
       → classes.items ≡ set o.classes.items d class → stakes.items ≡ set o.stakes.items d stake.Nothing → IsRestacked o.stacks.items stacks.items class (λ cache. taken_blocks)
       → HasOwned (record o { blocks = blocks; classes = classes; stakes = stakes; stacks = stacks }) (parts_of w)
   taken_owned o blocks classes stakes stacks own marking classes_are stakes_are r = subst (HasOwned (record o { blocks = blocks; classes = classes; stakes = stakes; stacks = stacks })) (sym (ap parts_of took)) (record {
@@ -314,7 +314,7 @@ module _ (v w : View) (d found : ℕ) (event : IsEvent (TakeAll d) v found w) (s
     classes_long = ap length classes_are ∙ length-set o.classes.items d class ∙ own.classes_long;
     stakes_long = ap length stakes_are ∙ length-set o.stakes.items d stake.Nothing ∙ own.stakes_long;
     roots_long = own.roots_long;
-    blocks = marked_more o.blocks.items blocks.items (λ b. times_had b (parts_of v)) _ taken_blocks marking (cached_times (parts_of v) class d taken_blocks less event.may.ready.uncached) own.blocks;
+    blocks = marked_more o.blocks blocks (λ b. times_had b (parts_of v)) _ taken_blocks marking (cached_times (parts_of v) class d taken_blocks less event.may.ready.uncached) own.blocks;
     classes = (let a = cached_classes (parts_of v) class d taken_blocks less event.may.ready.uncached o.classes.items (let l = own.classes_long in let t = take_below in omega arith) taken_of same_class own.classes in
         subst (λ l. AreClasses l (record (parts_of v) { caches = set v.caches class taken_blocks; classed = without_claim d v.classed })) (sym classes_are) (record { held = a.held; cached = a.cached; batched = a.batched }));
     stakes = (let a = classed_stakes o.stakes.items (parts_of v) d (let l = own.stakes_long in let t = take_below in omega arith) event.may.ready.claimed own.stakes in
@@ -342,14 +342,14 @@ module _ (v w : View) (d found : ℕ) (event : IsEvent (Give d) v found w) (same
   gave : w ≡ given v d
   gave = event.after ∙ hit found (seen_word v.seen_anchor) (given v d) _ same
 
-  base_owned : (o : Owned) (blocks : Vec Bool Global) (batch : Vec ℕ Global) → HasOwned o (parts_of v) → IsMarking o.blocks.items blocks.items v.batch.blocks false → batch.items ≡ [] → vec_capacity batch ≡ vec_capacity o.batch
+  base_owned : (o : Owned) (blocks : List Bool) (batch : Vec ℕ Global) → HasOwned o (parts_of v) → IsMarking o.blocks blocks v.batch.blocks false → batch.items ≡ [] → vec_capacity batch ≡ vec_capacity o.batch
       → HasOwned (record o { blocks = blocks; batch = batch }) (parts_of base)
   base_owned o blocks batch own marking none room = record {
     words_long = marking.long ∙ own.words_long;
     classes_long = own.classes_long;
     stakes_long = own.stakes_long;
     roots_long = own.roots_long;
-    blocks = marked_less o.blocks.items blocks.items (λ b. times_had b (parts_of v)) (λ b. times_had b (parts_of base)) v.batch.blocks marking (λ b. omega arith) (block_once v event.before) own.blocks;
+    blocks = marked_less o.blocks blocks (λ b. times_had b (parts_of v)) (λ b. times_had b (parts_of base)) v.batch.blocks marking (λ b. omega arith) (block_once v event.before) own.blocks;
     classes = record { held = own.classes.held; cached = own.classes.cached; batched = λ b some. absurd (omega arith) };
     stakes = λ e. let b = own.stakes e in record { unclassed = b.unclassed; is_classed = b.is_classed; class = b.class; is_large = b.is_large; count = b.count };
     roots_are = own.roots_are;
@@ -359,13 +359,13 @@ module _ (v w : View) (d found : ℕ) (event : IsEvent (Give d) v found w) (same
   }
 
   -- its superblock keeps its place, where it had free blocks
-  pub give_kept : (o : Owned) (blocks : Vec Bool Global) (batch : Vec ℕ Global) → HasOwned o (parts_of v) → IsMarking o.blocks.items blocks.items v.batch.blocks false → batch.items ≡ [] → vec_capacity batch ≡ vec_capacity o.batch
+  pub give_kept : (o : Owned) (blocks : List Bool) (batch : Vec ℕ Global) → HasOwned o (parts_of v) → IsMarking o.blocks blocks v.batch.blocks false → batch.items ≡ [] → vec_capacity batch ≡ vec_capacity o.batch
       → found ≢ full_anchor → HasOwned (record o { blocks = blocks; batch = batch }) (parts_of w)
   give_kept o blocks batch own marking none room part = subst (HasOwned (record o { blocks = blocks; batch = batch })) (sym (ap parts_of (gave ∙ ap trimmed (missed (seen_word v.seen_anchor) full_anchor (claimed base d v.batch.class) base (λ e. part (same ∙ e))))))
       (base_owned o blocks batch own marking none room)
 
   -- one that was full comes into the hand
-  pub give_full : (o : Owned) (blocks : Vec Bool Global) (batch : Vec ℕ Global) (stakes : Vec Stake Global) (x : Stake) → HasOwned o (parts_of v) → IsMarking o.blocks.items blocks.items v.batch.blocks false → batch.items ≡ [] → vec_capacity batch ≡ vec_capacity o.batch
+  pub give_full : (o : Owned) (blocks : List Bool) (batch : Vec ℕ Global) (stakes : Vec Stake Global) (x : Stake) → HasOwned o (parts_of v) → IsMarking o.blocks blocks v.batch.blocks false → batch.items ≡ [] → vec_capacity batch ≡ vec_capacity o.batch
       → found ≡ full_anchor → x ≡ listed v.batch.class → stakes.items ≡ set o.stakes.items d x → HasOwned (record o { blocks = blocks; batch = batch; stakes = stakes }) (parts_of w)
   give_full o blocks batch stakes x own marking none room full x_is items = subst (HasOwned (record o { blocks = blocks; batch = batch; stakes = stakes }))
       (sym (ap parts_of (gave ∙ ap trimmed (hit (seen_word v.seen_anchor) full_anchor (claimed base d v.batch.class) base (sym same ∙ full))) ∙ claimed_parts base d v.batch.class))

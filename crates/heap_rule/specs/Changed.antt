@@ -20,9 +20,9 @@ pub record CanCutIn (o : Owned) (capacity d class : ℕ) : Type 0 where
   pub below : d < capacity
   pub classes : d < length o.classes.items
   pub stakes : d < length o.stakes.items
-  pub blocks : (b : ℕ) → 0 < times b (class_blocks capacity class d) → b < length o.blocks.items
+  pub blocks : (b : ℕ) → 0 < times b (class_blocks capacity class d) → b < length o.blocks
   pub stack : HasStack o.stacks.items class
-  pub fits : length o.blocks.items < 2147483648
+  pub fits : length o.blocks < 2147483648
 
 abbrev pub CanChange : Change → ℕ → Owned → Type 0
 CanChange change.Nothing capacity o = ⊤
@@ -46,7 +46,7 @@ pub record IsLifted (o o' : Owned) (class block : ℕ) : Type 0 where
 
 pub record IsCutIn (o o' : Owned) (capacity d class : ℕ) : Type 0 where
   pub others : o' ≡ record o { blocks = o'.blocks; classes = o'.classes; stakes = o'.stakes; stacks = o'.stacks }
-  pub blocks : IsMarking o.blocks.items o'.blocks.items (class_blocks capacity class d) true
+  pub blocks : IsMarking o.blocks o'.blocks (class_blocks capacity class d) true
   pub classes : o'.classes.items ≡ set o.classes.items d class
   pub stakes : o'.stakes.items ≡ set o.stakes.items d stake.Nothing
   pub stacks : IsRestacked o.stacks.items o'.stacks.items class (λ cache. class_blocks capacity class d)

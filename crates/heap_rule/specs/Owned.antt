@@ -98,11 +98,11 @@ abbrev pub most_blocks : ℕ
 most_blocks = superblock_words / 2
 
 pub record HasOwned (o : Owned) (p : OwnedParts) : Type 0 where
-  pub words_long : length o.blocks.items ≡ image_words p.capacity
+  pub words_long : length o.blocks ≡ image_words p.capacity
   pub classes_long : length o.classes.items ≡ p.capacity
   pub stakes_long : length o.stakes.items ≡ p.capacity
   pub roots_long : length o.roots.items ≡ roots
-  pub blocks : AreMarked o.blocks.items (λ b. times_had b p)
+  pub blocks : AreMarked o.blocks (λ b. times_had b p)
   pub classes : AreClasses o.classes.items p
   pub stakes : (d : ℕ) → IsStake d (get_or o.stakes.items d stake.Nothing) p
   pub roots_are : AreMarked o.roots.items (λ i. times i p.roots)

@@ -51,7 +51,7 @@ impl Seat {
         let words = block_words(SizeClass::new(class as u8));
         let start = self.geometry.start(d);
         let block = start + (word - start) / words * words;
-        self.owned.blocks[block as usize]
+        self.owned.blocks.get(block)
     }
 
     /// The held block that begins at a byte offset; asked of a seat that has stopped too.

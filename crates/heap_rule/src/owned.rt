@@ -1,6 +1,6 @@
 //! What tells in constant time which words are a seat's own.
 
-ghost use Rattle.std.specs.Prelude.{◌≡◌, ◌<◌, ◌≤◌, ◌+◌, ℕ, [], ◌∷◌, length};
+ghost use Rattle.std.specs.Prelude.{◌≡◌, ◌<◌, ◌≤◌, ◌+◌, ℕ, [], ◌∷◌, length, slice_set};
 ghost use Rattle.std.specs.Vec.{vec_len, vec_capacity};
 ghost use Rattle.heap_model.specs.Counting.{times, one_if};
 ghost use Rattle.heap_rule.specs.Owned.{IsMarking, IsStaking, unclassed_in, classed_in, class_in, large_in, count_in, listed};
@@ -10,6 +10,7 @@ ghost use Rattle.heap_rule.specs.Changed.{CanChange, IsChanged, IsRecached};
 ghost use Rattle.heap_rule.specs.declared.owned.Change.TheVariants as change;
 
 use crate::stacks::Stack;
+use bit_marks::BitMarks;
 use size_table::SizeClass;
 use super_block::{Geometry, SUPERBLOCK_WORDS, block_words};
 
@@ -33,7 +34,7 @@ pub enum Stake {
 #[derive(Drop)]
 pub struct Owned {
     /// By word: whether a small block of the seat's begins there, held, cached or in its batch.
-    pub blocks: Vec<bool>,
+    pub blocks: BitMarks,
     /// By superblock: the class of the seat's small blocks there.
     pub classes: Vec<u64>,
     /// By superblock: the seat's stake in it.
@@ -187,12 +188,24 @@ impl Owned {
 }
 
 /// Gives or takes back the marks of some blocks.
-pub(crate) fn mark_all(blocks: &mut Vec<bool>, list: &[u64], mark: bool)
-    requires { (b : ℕ) → 0 < times b list.now → b < length blocks.old.items }
-    ensures { IsMarking blocks.old.items blocks.new.items list.now mark }
+pub(crate) fn mark_all(blocks: &mut BitMarks, list: &[u64], mark: bool)
+    requires { (b : ℕ) → 0 < times b list.now → b < length blocks.old }
+    ensures { IsMarking blocks.old blocks.new list.now mark }
 {
     for block in list {
-        blocks[*block as usize] = mark;
+        mark_one(blocks, *block, mark);
+    }
+}
+
+/// Gives or takes back the mark of a block.
+fn mark_one(blocks: &mut BitMarks, block: u64, mark: bool)
+    requires { block < length blocks.old }
+    ensures { blocks.new ≡ slice_set blocks.old block mark }
+{
+    if mark {
+        blocks.set(block);
+    } else {
+        blocks.clear(block);
     }
 }
 

@@ -1,13 +1,13 @@
 //! What seats keep to tell their own words, as a heap at rest is opened for them.
 
-ghost use Rattle.std.specs.Prelude.{◌≡◌, ◌<◌, ◌+◌, ℕ, List, get_or, false, length, nat_eq, slice_index, IfOk};
-ghost use Rattle.heap_model.specs.Counting.{one_if};
-ghost use Rattle.heap_model.specs.Geometry.{lists, info_word, capacity_word};
+ghost use Rattle.std.specs.Prelude.{◌≡◌, ◌<◌, ◌+◌, ℕ, List, get_or, false, length, nat_eq, ◌&&◌, slice_index, IfOk};
+ghost use Rattle.heap_model.specs.Counting.{one_if, times, total};
+ghost use Rattle.heap_model.specs.Geometry.{lists, info_word, capacity_word, image_words};
 ghost use Rattle.heap_model.specs.Sizes.{IsClass, blocks_of};
 ghost use Rattle.heap_model.specs.Rest.{IsReady};
-ghost use Rattle.core_model.specs.Opening.{AreOwners};
-ghost use Rattle.crash_core.specs.OpenedOwners.{AreBlockOwners, AreSuperblockOwners};
-ghost use Rattle.crash_core.specs.Standing.{place_for, held_in, share_for, no_block, no_superblock};
+ghost use Rattle.core_model.specs.Opening.{AreOwners, is_small};
+ghost use Rattle.crash_core.specs.OpenedOwners.{AreSuperblockOwners};
+ghost use Rattle.crash_core.specs.Standing.{share_for, no_superblock};
 ghost use Rattle.heap_rule.specs.Owned.{HasOwned, stake_for, opened_parts};
 ghost use Rattle.heap_rule.specs.declared.owned.Stake.TheVariants.{Nothing};
 ghost use Rattle.heap_rule.specs.Rooms.{IsOpenedRoom};
@@ -16,12 +16,13 @@ ghost use Rattle.heap_rule.specs.declared.owned_opening.Room.{Room};
 
 use crate::owned::{MOST_BLOCKS, Owned, Stake};
 use crate::stacks::Stack;
-use crash_core::{BlockOwner, Owners, Share, SuperblockOwner, block_owners, superblock_owners};
+use bit_marks::BitMarks;
+use crash_core::{Owners, Share, SuperblockOwner, superblock_owners};
 use line_memory::{Pending, RecentStores};
 use size_table::blocks_of;
 use std::alloc::{AllocError, Global};
 use std::collections::VecDeque;
-use super_block::{LISTS, Ready};
+use super_block::{Block, LISTS, Ready, SUPERBLOCK_WORDS};
 
 /// What a seat takes room for.
 #[derive(Drop)]
@@ -44,14 +45,13 @@ pub(crate) fn opened_rooms(
         → get_or list.items i room ≡ room
         → IsOpenedRoom room (opened_parts heap.now owners.now i)) }
 {
-    let blocks = block_owners(alloc, heap, owners.held())?;
     let superblocks = superblock_owners(alloc, heap, owners.held())?;
     let geometry = heap.geometry();
     let length = geometry.length();
     let mut list = VecDeque::with_capacity(alloc, seats)?;
     for seat in 0..seats {
         let room = Room {
-            owned: owned_by(alloc, heap, owners, &blocks, &superblocks, seat)?,
+            owned: owned_by(alloc, heap, owners, &superblocks, seat)?,
             recent: RecentStores::new(alloc)?,
             pending: Pending::new(alloc, length as usize)?,
         };
@@ -65,20 +65,17 @@ fn owned_by(
     alloc: Global,
     heap: &Ready,
     owners: &Owners,
-    blocks: &[BlockOwner],
     superblocks: &[SuperblockOwner],
     seat: usize,
 ) -> Result<Owned, AllocError>
     requires owners { (seats : ℕ) × AreOwners heap.now.held seats owners.now.held owners.now.roots
         × (seat < seats) }
-    requires ready { IsReady heap.now.words heap.now.held }
-    requires blocks { AreBlockOwners heap.now.words heap.now.held owners.now.held blocks.now }
     requires superblocks { AreSuperblockOwners heap.now.words heap.now.held owners.now.held
         superblocks.now }
     ensures { IfOk result (λ o. HasOwned o (opened_parts heap.now owners.now seat)) }
 {
     Ok(Owned {
-        blocks: held_by(alloc, blocks, seat)?,
+        blocks: held_by(alloc, heap, owners, seat)?,
         classes: infos(alloc, heap)?,
         stakes: stakes_of(alloc, superblocks, seat)?,
         roots: roots_of(alloc, owners.roots(), seat)?,
@@ -110,27 +107,35 @@ fn most_cached(class: u8) -> usize
     blocks_of(class) as usize
 }
 
-/// Which blocks the seat holds.
-fn held_by(alloc: Global, owners: &[BlockOwner], seat: usize) -> Result<Vec<bool>, AllocError>
-    ensures long { IfOk result (λ v. length v.items ≡ length owners.now) }
-    ensures each { IfOk result (λ v. (n : ℕ) → one_if (get_or v.items n false)
-        ≡ held_in (place_for seat (get_or owners.now n no_block))) }
+/// Which small blocks the seat holds, by their first words.
+fn held_by(
+    alloc: Global,
+    heap: &Ready,
+    owners: &Owners,
+    seat: usize,
+) -> Result<BitMarks, AllocError>
+    requires { length owners.now.held ≡ length heap.now.held }
+    ensures long { IfOk result (λ marks. length marks
+        ≡ image_words (slice_index heap.now.words capacity_word)) }
+    ensures each { IfOk result (λ marks. (n : ℕ) → one_if (get_or marks n false)
+        ≡ total (times n) (opened_parts heap.now owners.now seat).small) }
+    ensures ready { IfOk result (λ marks. IsReady heap.now.words heap.now.held) }
 {
-    let mut blocks = vec![in alloc; false; owners.len()]?;
-    for (i, owner) in owners.iter().enumerate() {
-        blocks[i] = holds(*owner, seat);
+    let seats = owners.held();
+    let mut marks = BitMarks::new(alloc, heap.geometry().length())?;
+    for (i, block) in heap.held().iter().enumerate() {
+        if is_small_of(*block, seats[i], seat) {
+            marks.set(block.first_word);
+        }
     }
-    Ok(blocks)
+    Ok(marks)
 }
 
-/// Whether the seat holds the block.
-fn holds(owner: BlockOwner, seat: usize) -> bool
-    ensures { one_if result ≡ held_in (place_for seat owner) }
+/// Whether the block is small, and its owner is the seat.
+fn is_small_of(block: Block, owner: u32, seat: usize) -> bool
+    ensures { result ≡ is_small block && nat_eq owner seat }
 {
-    if owner.seat != seat {
-        return false;
-    }
-    owner.place.is_held()
+    block.words < SUPERBLOCK_WORDS && owner as usize == seat
 }
 
 /// The seat's stakes in the superblocks.

@@ -1,10 +1,10 @@
-use Rattle.std.proofs.Common.{◌≡◌, ℕ, ◌<◌, get_or, length, false, vec_len}
-use Rattle.heap_model.specs.Counting.{one_if}
-use Rattle.crash_core.specs.Standing.{place_for, held_in, no_block}
+use Rattle.std.proofs.Common.{◌≡◌, ℕ, length, slice_index}
+use Rattle.heap_model.specs.Geometry.{capacity_word, image_words}
+use Rattle.heap_rule.proofs.HeldMarks.{MarksFirst}
 use Rattle.heap_rule.proofs.owned_opening.held_by.Given as goal
 
 abbrev pub invariant-loop-i : goal.invariant-loop-i
 invariant-loop-i l = record {
-  long : vec_len l.blocks ≡ length l.owners;
-  each : (n : ℕ) → n < l.i → one_if (get_or l.blocks.items n false) ≡ held_in (place_for l.seat (get_or l.owners n no_block));
+  long : length l.marks ≡ image_words (slice_index l.heap.words capacity_word);
+  each : MarksFirst l.heap.held l.owners.held l.i l.seat l.marks;
 }

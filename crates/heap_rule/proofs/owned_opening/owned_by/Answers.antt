@@ -4,7 +4,7 @@ use Rattle.heap_rule.proofs.OwnedOpening.{gathered}
 use Rattle.heap_rule.proofs.owned_opening.owned_by.Goals as goal
 
 pub returns : goal.returns
-returns c = gathered c.args.heap.now c.args.owners.now c.requires.owners.0 c.args.seat c.args.blocks.now c.args.superblocks.now _ c.requires.ready c.requires.owners.1 c.requires.owners.2 c.requires.blocks c.requires.superblocks (record {
+returns c = gathered c.args.heap.now c.args.owners.now c.requires.owners.0 c.args.seat c.args.superblocks.now _ c.in_ok-held_by.ensures.ready c.requires.owners.1 c.requires.owners.2 c.requires.superblocks (record {
   words_long = c.in_ok-held_by.ensures.long;
   blocks_are = c.in_ok-held_by.ensures.each;
   classes_long = c.in_ok-infos.ensures.long;

@@ -25,7 +25,7 @@ returns c =
     let cut = c.index.ensures ∙ get_or-set_same c.args.self.now.stacks.items c.args.class.number c.fill.new.self c.index.result.now c.requires.stack.below in
     record {
       others = refl;
-      blocks = subst (λ l. IsMarking c.args.self.now.blocks.items c.mark_all.new.blocks.items l true) (c.cached.ensures ∙ ap (λ (s : Stack). drop s.top s.blocks.items) cut ∙ top_is) c.mark_all.ensures;
+      blocks = subst (λ l. IsMarking c.args.self.now.blocks c.mark_all.new.blocks l true) (c.cached.ensures ∙ ap (λ (s : Stack). drop s.top s.blocks.items) cut ∙ top_is) c.mark_all.ensures;
       classes = refl;
       stakes = refl;
       stacks = filled_stack c.args.self.now.stacks.items c.args.class.number c.args.class.number c.index_mut.result.now c.fill.new.self (class_blocks c.args.geometry.capacity c.args.class.number c.args.d) refl c.requires.stack.below (sym c.index_mut.ensures.value)

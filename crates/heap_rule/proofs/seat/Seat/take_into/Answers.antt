@@ -74,7 +74,7 @@ invariant_of-self-2 c =
           (c.first_free-first.ensures ∙ ap (λ n. start_word n c.args.d + anchor_first c.in-Some.anchor.word * words_of_class c.args.class.number) c.self.invariant.seat.capacity_is) c.anchor_count-count.ensures);
       marks_long = c.self.invariant.marks_long;
       own = taken_owned (view_in c.self.inside.bare.me.0) (view_in c.exchange-found.new.seat.me.0) c.args.d c.exchange-found.result c.exchange-found.ensures.event (c.if-found-anchor.false ∙ sym is) c.self.inside.owned c.mark_all.new.blocks _ _ _ c.self.invariant.own
-          (subst (λ l. IsMarking c.self.inside.owned.blocks.items c.mark_all.new.blocks.items l true) (c.cached.ensures ∙ loaded) c.mark_all.ensures) (ap (set c.self.inside.owned.classes.items c.args.d) class_is) refl
+          (subst (λ l. IsMarking c.self.inside.owned.blocks c.mark_all.new.blocks l true) (c.cached.ensures ∙ loaded) c.mark_all.ensures) (ap (set c.self.inside.owned.classes.items c.args.d) class_is) refl
           (filled_stack c.self.inside.owned.stacks.items _ c.args.class.number c.index_mut-stack.result.now c.load_cache.new.stack _ class_is (has_stack c.self.inside.owned.stacks.items _ c.args.class.number c.self.invariant.own.stacks c.args.class.is).below
           (sym c.index_mut-stack.ensures.value) c.load_cache.ensures.room c.load_cache.ensures.inside loaded);
     })

@@ -82,7 +82,7 @@ invariant_of-self-then-anchor-anchor_after_take_all c =
           (batch_given c.self.inside.notes (view_in c.self.inside.bare.me.0) (view_in c.exchange-found.new.seat.me.0) c.args.d c.exchange-found.result c.in-Some.anchor.word c.self.invariant.seat.kept c.exchange-found.ensures.event c.exchange-found.ensures.at.has is c.if-found-anchor.false);
       marks_long = c.self.invariant.marks_long;
       own = give_kept (view_in c.self.inside.bare.me.0) (view_in c.exchange-found.new.seat.me.0) c.args.d c.exchange-found.result c.exchange-found.ensures.event (c.if-found-anchor.false ∙ sym is) c.self.inside.owned c.mark_all.new.blocks c.clear.new.self c.self.invariant.own
-          (subst (λ l. IsMarking c.self.inside.owned.blocks.items c.mark_all.new.blocks.items l false) (c.deref.ensures.value ∙ c.self.invariant.own.batch) c.mark_all.ensures) c.clear.ensures.items c.clear.ensures.capacity
+          (subst (λ l. IsMarking c.self.inside.owned.blocks c.mark_all.new.blocks l false) (c.deref.ensures.value ∙ c.self.invariant.own.batch) c.mark_all.ensures) c.clear.ensures.items c.clear.ensures.capacity
           (λ e. c.if-anchor-anchor_after_take_all.true (sym c.if-found-anchor.false ∙ e ∙ sym c.anchor_after_take_all.ensures));
     }
 
@@ -99,6 +99,6 @@ invariant_of-self-2 c =
           (batch_given c.self.inside.notes (view_in c.self.inside.bare.me.0) (view_in c.exchange-found.new.seat.me.0) c.args.d c.exchange-found.result c.in-Some.anchor.word c.self.invariant.seat.kept c.exchange-found.ensures.event c.exchange-found.ensures.at.has is c.if-found-anchor.false);
       marks_long = c.self.invariant.marks_long;
       own = give_full (view_in c.self.inside.bare.me.0) (view_in c.exchange-found.new.seat.me.0) c.args.d c.exchange-found.result c.exchange-found.ensures.event (c.if-found-anchor.false ∙ sym is) c.self.inside.owned c.mark_all.new.blocks c.clear.new.self _ c.listed.result c.self.invariant.own
-          (subst (λ l. IsMarking c.self.inside.owned.blocks.items c.mark_all.new.blocks.items l false) (c.deref.ensures.value ∙ c.self.invariant.own.batch) c.mark_all.ensures) c.clear.ensures.items c.clear.ensures.capacity
+          (subst (λ l. IsMarking c.self.inside.owned.blocks c.mark_all.new.blocks l false) (c.deref.ensures.value ∙ c.self.invariant.own.batch) c.mark_all.ensures) c.clear.ensures.items c.clear.ensures.capacity
           (c.if-found-anchor.false ∙ c.if-anchor-anchor_after_take_all.false ∙ c.anchor_after_take_all.ensures) (c.listed.ensures ∙ ap listed (c.new-class.ensures ∙ sym c.self.invariant.seat.kept.batch.class)) refl;
     }
