@@ -51,3 +51,12 @@ returns-clause-none g c =
     let len = c.loop-next.found.pairs.ok.0 in
     work_inside (slice_index c.args.words.now) (slice_index c.args.kinds.now) (g.F.Filter.links_of c.args.filter.now) g.F.Filter.KINDS c.loop-next.next
     c.loop-next.found.pairs.items c.loop-next.found.marks c.loop-next.invariant.work (omega arith)
+
+pub invariant_of-result : goal.invariant_of-result
+invariant_of-result g c = record {
+  image = slice_index c.args.words.now;
+  words = length c.args.words.now;
+  formed = c.requires.formed;
+  described = c.in_ok-directory.ensures.ok;
+  marked = rw (c.loop-next.invariant.same) c.loop-next.invariant.work.found.marked;
+}
