@@ -158,6 +158,20 @@ module _ (old new : Image) (links : Links) (bytes limit : ℕ) (held : List Bloc
         reach = by_link a b from kind before (record { position = position; listed = there; leads = subst (λ x. Leads old (old x) b) same leads });
       }) out
 
+  -- the kinds that the image stores
+  kinds_same : (root : ℕ) → root < roots → kinds_of image root ≡ kinds root
+  kinds_same root below =
+      let kind = kind_word (capacity_of old) root in
+      ap (λ c. image (kind_word c root)) capacity_same
+      ∙ same_as_old kind (λ e. omega (arith, e)) (stays (capacity_of old) kind (inr (inr (inr (omega arith)))))
+      (kinds_unchanged old new (IsReachedIn old links) recovered formed.used root below)
+
+  to_stored : (b : Block) (kind : ℕ) → Reach image kinds links b kind → ReachIn image links b kind
+  to_stored = reach_by_kinds image kinds (kinds_of image) links (λ root below. sym (kinds_same root below))
+
+  from_stored : (b : Block) (kind : ℕ) → ReachIn image links b kind → Reach image kinds links b kind
+  from_stored = reach_by_kinds image (kinds_of image) kinds links kinds_same
+
   -- a superblock without a part of a reached block
   free_same : (d : ℕ) → IsFreeSuperblock (layout_of old) (IsReached old kinds links) d → IsFreeSuperblock (layout_of image) (IsReachedIn image links) d
   free_same d free = record {
@@ -172,20 +186,6 @@ module _ (old new : Image) (links : Links) (bytes limit : ℕ) (held : List Bloc
     empty = λ b reached part. free.empty b (record { kind = reached.kind; reach = to_stored b reached.kind (to_image b reached.kind reached.reach) })
         (subst (λ c. HasPartIn c b d) (sym capacity_same) part);
   }
-
-  -- the kinds that the image stores
-  kinds_same : (root : ℕ) → root < roots → kinds_of image root ≡ kinds root
-  kinds_same root below =
-      let kind = kind_word (capacity_of old) root in
-      ap (λ c. image (kind_word c root)) capacity_same
-      ∙ same_as_old kind (λ e. omega (arith, e)) (stays (capacity_of old) kind (inr (inr (inr (omega arith)))))
-      (kinds_unchanged old new (IsReachedIn old links) recovered formed.used root below)
-
-  to_stored : (b : Block) (kind : ℕ) → Reach image kinds links b kind → ReachIn image links b kind
-  to_stored = reach_by_kinds image kinds (kinds_of image) links (λ root below. sym (kinds_same root below))
-
-  from_stored : (b : Block) (kind : ℕ) → ReachIn image links b kind → Reach image kinds links b kind
-  from_stored = reach_by_kinds image (kinds_of image) kinds links kinds_same
 
   pub recovers_alike : RecoversAlike bytes old image links
   recovers_alike = record {

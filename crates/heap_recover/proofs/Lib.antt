@@ -9,5 +9,6 @@ pub mod RoleLemmas
 pub mod RebuildLemmas
 pub mod KeptLemmas
 pub mod UnchangedLemmas
+mod CurrentLemmas
 mod InPlaceLemmas
 pub mod AlikeLemmas

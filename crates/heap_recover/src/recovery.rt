@@ -1,5 +1,5 @@
 //! The call that recovers an image.
-ghost use Rattle.std.specs.Prelude.{◌≡◌, ◌↔◌, ◌<◌, ◌*◌, ℕ, All, None, Some, Err, length, slice_index, IfOk, OnOk, IfErr, IsTrue};
+ghost use Rattle.std.specs.Prelude.{◌≡◌, ◌↔◌, ◌<◌, ◌*◌, ◌^◌, ℕ, All, None, Some, Err, length, slice_index, IfOk, OnOk, IfErr, IsTrue};
 ghost use Rattle.heap_model.specs.declared.block.Block.{Block};
 ghost use Rattle.heap_model.specs.declared.header.BadHeader.{BadHeader};
 ghost use Rattle.heap_model.specs.Geometry.{roots, clean, version_word};
@@ -156,9 +156,12 @@ fn recover_current<F: Filter>(
 ) -> Result<Recovered, RecoverFault>
     requires formed { IsWellFormed (8 * length words.items) (slice_index words.items) }
     requires below { HasKindsBelow (Some F.KINDS) (slice_index words.items) }
+    requires few { F.KINDS < 2 ^ 32 }
     requires closed { IsTrue closed ↔ (state_of (slice_index words.items) ≡ clean) }
     ensures ok { IfOk result (IsMadeOf words.items
         (IsReachedIn (slice_index words.items) (F.links_of filter.now))) }
+    ensures kinds { IfOk result (λ answer.
+        HasKindsBelow (Some F.KINDS) (slice_index answer.heap.words)) }
     ensures none { OnOk result ((at : ℕ) → IsOutsideIn (slice_index words.items)
         (F.links_of filter.now) at → ⊥) }
     ensures cause { IfErr result

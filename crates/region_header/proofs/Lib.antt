@@ -1,5 +1,5 @@
 mod FormatLemmas
-mod KindLemmas
+pub mod KindLemmas
 pub mod MigrationLemmas
 pub mod SameHeader
 mod StoredLemmas

@@ -1,19 +1,24 @@
-use Rattle.std.proofs.Common.{slice_index, List, ℕ, subst}
-use Rattle.filter_trace.specs.Reached.{AreReached}
-use Rattle.heap_recover.proofs.KeptLemmas.{made_of_reached, marked_blocks}
+use Rattle.std.proofs.Common.{◌*◌, ℕ, Some, length, slice_index, List, subst, sym, arith}
+use Rattle.std.proofs.lemmas.Grind.{common_steps}
+use Rattle.heap_model.specs.Header.{IsWellFormed, HasGoodHeader, HasKindsBelow}
+use Rattle.region_header.proofs.MigrationLemmas.{current_formed, current_below}
 use Rattle.heap_recover.proofs.recovery.recover_owned.Goals as goal
 
-pub keep_marked-requires-clause-keeps : goal.keep_marked-requires-clause-keeps
-keep_marked-requires-clause-keeps g c =
-    let kinds = slice_index c.args.kinds.now in
-    let links = g.F.Filter.links_of c.args.filter.now in
-    marked_blocks (slice_index c.args.words.items) kinds links c.in_ok-marks.marks.pairs
-    (subst (λ (l : List ℕ). AreReached (slice_index l) kinds links c.in_ok-marks.marks.pairs) c.deref-2.ensures.value c.in_ok-marks.ensures.ok)
+pub recover_current-requires-clause-formed : goal.recover_current-requires-clause-formed
+recover_current-requires-clause-formed g c = subst (λ (l : List ℕ). IsWellFormed (8 * length l) (slice_index l)) (sym c.in_ok-current.ensures.ok)
+    (current_formed (Some g.F.Filter.KINDS) c.args.words.items c.args.kinds.now c.requires.roots
+    (subst (λ (l : List ℕ). HasGoodHeader (Some g.F.Filter.KINDS) (8 * length l) (slice_index l)) c.deref.ensures.value
+    (subst (λ k. HasGoodHeader (Some k) (8 * length c.deref.result.now) (slice_index c.deref.result.now)) c.KINDS.ensures c.in_ok-header.ensures.good)))
 
-pub returns-clause-ok : goal.returns-clause-ok
-returns-clause-ok g c =
-    let kinds = slice_index c.args.kinds.now in
-    let links = g.F.Filter.links_of c.args.filter.now in
-    made_of_reached c.args.words.items kinds links c.in_ok-marks.marks.pairs c.in_ok-recovered.recovered
-    (subst (λ (l : List ℕ). AreReached (slice_index l) kinds links c.in_ok-marks.marks.pairs) c.deref-2.ensures.value c.in_ok-marks.ensures.ok)
-    c.in_ok-recovered.ensures.ok
+pub recover_current-requires-clause-below : goal.recover_current-requires-clause-below
+recover_current-requires-clause-below g c = subst (λ (l : List ℕ). HasKindsBelow (Some g.F.Filter.KINDS) (slice_index l)) (sym c.in_ok-current.ensures.ok)
+    (current_below (Some g.F.Filter.KINDS) c.args.words.items c.args.kinds.now c.requires.roots
+    (subst (λ (l : List ℕ). HasGoodHeader (Some g.F.Filter.KINDS) (8 * length l) (slice_index l)) c.deref.ensures.value
+    (subst (λ k. HasGoodHeader (Some k) (8 * length c.deref.result.now) (slice_index c.deref.result.now)) c.KINDS.ensures c.in_ok-header.ensures.good)) c.requires.kinds)
+
+pub returns-clause-formed : goal.returns-clause-formed
+returns-clause-formed g c =
+    let formed = current_formed (Some g.F.Filter.KINDS) c.args.words.items c.args.kinds.now c.requires.roots
+    (subst (λ (l : List ℕ). HasGoodHeader (Some g.F.Filter.KINDS) (8 * length l) (slice_index l)) c.deref.ensures.value
+    (subst (λ k. HasGoodHeader (Some k) (8 * length c.deref.result.now) (slice_index c.deref.result.now)) c.KINDS.ensures c.in_ok-header.ensures.good)) in
+    grind (arith, common_steps, formed)
