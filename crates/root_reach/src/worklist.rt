@@ -55,7 +55,7 @@ fn words_of_taken(words: &[u64]) -> usize
     let capacity = words[CAPACITY_WORD as usize];
     let used = words[USED_WORD as usize];
     if used == capacity {
-        return words.len();
+        return Geometry::new(capacity).old_length() as usize;
     }
     Geometry::new(capacity).start(used) as usize
 }
