@@ -8,7 +8,7 @@ ghost use Rattle.heap_model.specs.Blocks.{layout_of};
 ghost use Rattle.heap_model.specs.Rest.{IsReady};
 ghost use Rattle.super_block.specs.Division.{Describes};
 ghost use Rattle.root_reach.specs.Reaching.{AreOrigins};
-ghost use Rattle.dict_model.specs.Links.{shards, table_kind, dict_links};
+ghost use Rattle.dict_model.specs.Links.{shards, kind_count, table_kind, dict_links};
 ghost use Rattle.dict_model.specs.Nodes.{buckets};
 ghost use Rattle.dict_model.specs.Shards.{HasTable, LeadsAlone, MapOf};
 ghost use Rattle.dictionary.specs.Reading.{IsRead, IsMapUpTo, TellsBad, TellsLowest, AreMaps};
@@ -36,7 +36,7 @@ pub fn read_map(
     i: usize,
 ) -> Result<BTreeMap<u64, Bytes>, MapFault>
     requires shard { i < 8 }
-    requires kinds { HasKindsBelow (Some 3) (slice_index recovered.now.heap.words) }
+    requires kinds { HasKindsBelow (Some kind_count) (slice_index recovered.now.heap.words) }
     ensures ok { IfOk result (λ map.
         MapOf (slice_index recovered.now.heap.words) i (get nat_cmp map)) }
     ensures ordered { IfOk result (λ map. IsOrdered nat_cmp map) }
@@ -58,7 +58,7 @@ pub fn read_maps(
     alloc: Global,
     recovered: &Recovered,
 ) -> Result<Vec<BTreeMap<u64, Bytes>>, MapFault>
-    requires { HasKindsBelow (Some 3) (slice_index recovered.now.heap.words) }
+    requires { HasKindsBelow (Some kind_count) (slice_index recovered.now.heap.words) }
     ensures ok { IfOk result (λ maps.
         AreMaps (slice_index recovered.now.heap.words) shards maps.items) }
     ensures err { IfErr result (TellsLowest (slice_index recovered.now.heap.words)) }
@@ -70,7 +70,7 @@ pub fn read_maps(
 /// The maps of all eight shards of a heap at rest, in order, from one trace. Where shards have none
 /// the lowest of them is told.
 pub fn maps_of(alloc: Global, heap: &Ready) -> Result<Vec<BTreeMap<u64, Bytes>>, MapFault>
-    requires { HasKindsBelow (Some 3) (slice_index heap.now.words) }
+    requires { HasKindsBelow (Some kind_count) (slice_index heap.now.words) }
     ensures ok { IfOk result (λ maps. AreMaps (slice_index heap.now.words) shards maps.items) }
     ensures err { IfErr result (TellsLowest (slice_index heap.now.words)) }
     ensures ready { IsReady heap.now.words heap.now.held }
@@ -98,7 +98,7 @@ fn origins_of(alloc: Global, scan: &Scan) -> Result<Origins, AllocError>
         (slice_index scan.now.words.now) }
     requires described { Describes scan.now.directory.now
         (layout_of (slice_index scan.now.words.now)) }
-    requires kinds { HasKindsBelow (Some 3) (slice_index scan.now.words.now) }
+    requires kinds { HasKindsBelow (Some kind_count) (slice_index scan.now.words.now) }
     ensures { IfOk result (AreOrigins (slice_index scan.now.words.now)
         (kinds_of (slice_index scan.now.words.now)) dict_links) }
 {
