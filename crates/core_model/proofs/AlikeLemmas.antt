@@ -1,15 +1,15 @@
 -- Whatever a crash leaves of the same durable words reaches the same: no trace looks at what it leaves at random.
 use Rattle.std.proofs.Common.{◌≡◌, ◌≢◌, ℕ, ◌+◌, ◌<◌, ◌≤◌, ◌⊎◌, inl, inr, List, Contains, refl, ap, sym, subst, ◌∙◌, arith}
 use Rattle.heap_model.specs.declared.block.Block.{Block}
-use Rattle.heap_model.specs.Geometry.{capacity_word, used_word, state_word, info_word, root_word, start_word, roots, lists, head_word}
+use Rattle.heap_model.specs.Geometry.{capacity_word, used_word, state_word, info_word, root_word, start_word, kind_word, roots, lists, head_word}
 use Rattle.heap_model.specs.Image.{Image}
-use Rattle.heap_model.specs.Header.{capacity_of, used_of}
+use Rattle.heap_model.specs.Header.{capacity_of, used_of, kinds_of}
 use Rattle.heap_model.specs.Blocks.{Layout, IsBlock, layout_of}
-use Rattle.heap_model.specs.Reach.{Links, AnyRoot, Reach, IsTraced, is_root, is_linked, IsOutside, TracesAlike}
+use Rattle.heap_model.specs.Reach.{Links, AnyRoot, Reach, ReachIn, IsTraced, is_root, is_linked, IsOutside, IsOutsideIn, TracesAlike}
 use Rattle.heap_model.specs.Durability.{IsCrashImage, IsTransient, is_head, is_anchor, is_link}
 use Rattle.heap_model.proofs.BlockLemmas.{block_inside}
 use Rattle.heap_model.proofs.ImageLemmas.{words_from-agree}
-use Rattle.heap_model.proofs.ReachLemmas.{reached_block, reach_kept}
+use Rattle.heap_model.proofs.ReachLemmas.{reached_block, reach_kept, reach_by_kinds, traced_by_kinds}
 use Rattle.heap_model.proofs.HeaderLemmas.{header_lasts}
 
 -- where a crash leaves words at random: in the line of the heads, or behind the info of a descriptor
@@ -100,3 +100,23 @@ module _ (durable image other : Image) (crash : IsCrashImage durable image) (cra
       },
       same_traced at out.traced,
     )
+
+  -- each root has the same kind, so the same is reached with the kinds that each image stores
+  pub same_kinds : (root : ℕ) → root < roots → kinds_of other root ≡ kinds_of image root
+  same_kinds root below =
+      ap (λ capacity. other (kind_word capacity root)) same_capacity ∙ same_inside (kind_word (capacity_of image) root) (omega arith)
+
+  pub same_reach_in : (links : Links) (b : Block) (kind : ℕ) → ReachIn image links b kind → ReachIn other links b kind
+  same_reach_in links b kind reached =
+      reach_by_kinds other (kinds_of image) (kinds_of other) links (λ root below. sym (same_kinds root below)) b kind
+      (same_reach (kinds_of image) links b kind reached)
+
+  pub same_outside_in : (links : Links) (at : ℕ) → IsOutsideIn image links at → IsOutsideIn other links at × (other at ≡ image at)
+  same_outside_in links at out =
+      let there = same_outside (kinds_of image) links at out in (
+        record {
+          traced = traced_by_kinds other (kinds_of image) (kinds_of other) links (λ root below. sym (same_kinds root below)) at there.0.traced;
+          outside = there.0.outside;
+        },
+        there.1,
+      )

@@ -17,11 +17,11 @@ ghost use Rattle.core_model.specs.Steps.{Keeps, TableState, IsSoundState, Runs, 
 ghost use Rattle.core_model.specs.Splitting.{Choice, remaining, given_off};
 ghost use Rattle.core_model.specs.Opening.{AreOwners, HasDoneNothing, IsOwnerOf, setup_of, opened_view, opened_state};
 ghost use Rattle.core_model.specs.Held.{AreHeldOnce, IsHeld, IsHeldBy, IsFirm, volatile_image, durable_image};
-ghost use Rattle.heap_model.specs.Header.{IsWellFormed, HasKindsBelow, header_fault};
+ghost use Rattle.heap_model.specs.Header.{IsWellFormed, HasKindsBelow, header_fault, kinds_of};
 ghost use Rattle.heap_model.specs.Image.{Image};
 ghost use Rattle.heap_model.specs.Blocks.{Names, layout_of};
 ghost use Rattle.heap_model.specs.Durability.{IsCrashImage, IsClosedImage};
-ghost use Rattle.heap_model.specs.Reach.{Links, Reach, IsOutside};
+ghost use Rattle.heap_model.specs.Reach.{Links, ReachIn, IsOutsideIn};
 ghost use Rattle.core_model.specs.Effects.{place_of};
 
 /// Each kind of step that a seat may take keeps memory and seats fitting together, whether an
@@ -134,19 +134,21 @@ pub fn a_crash_leaves_a_good_header()
         → header_fault limit (8 * image_words (slice_index words capacity_word)) image ≡ None }
 {}
 
-/// Whatever a crash leaves of the same durable words, it is laid out the same, it reaches the same
-/// blocks, as the same kinds, and the same words of it point outside, with the same values: no
+/// Whatever a crash leaves of the same durable words, it is laid out the same, it stores the same
+/// kinds of roots, it reaches the same blocks, as the same kinds, and the same words of it point outside, with the same values: no
 /// trace looks at a word that a crash leaves at random.
 pub fn whatever_a_crash_leaves_reaches_the_same()
     ensures layout { (durable image other : Image) → IsCrashImage durable image
         → IsCrashImage durable other → layout_of other ≡ layout_of image }
     ensures reach { (durable image other : Image) → IsCrashImage durable image
-        → IsCrashImage durable other → (kinds : ℕ → ℕ) (links : Links) (b : Block) (kind : ℕ)
-        → Reach image kinds links b kind → Reach other kinds links b kind }
+        → IsCrashImage durable other → (links : Links) (b : Block) (kind : ℕ)
+        → ReachIn image links b kind → ReachIn other links b kind }
     ensures outside { (durable image other : Image) → IsCrashImage durable image
-        → IsCrashImage durable other → (kinds : ℕ → ℕ) (links : Links) (at : ℕ)
-        → IsOutside image kinds links at
-        → IsOutside other kinds links at × (other at ≡ image at) }
+        → IsCrashImage durable other → (links : Links) (at : ℕ) → IsOutsideIn image links at
+        → IsOutsideIn other links at × (other at ≡ image at) }
+    ensures kinds { (durable image other : Image) → IsCrashImage durable image
+        → IsCrashImage durable other
+        → (root : ℕ) → root < roots → kinds_of other root ≡ kinds_of image root }
 {}
 
 /// No block is held twice: each stands once in the lists of one seat, blocks of two seats have no

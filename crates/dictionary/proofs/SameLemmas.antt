@@ -11,9 +11,8 @@ use Rattle.heap_model.specs.Pointers.{Leads, LeadsOutside}
 use Rattle.heap_model.specs.Reach.{AnyRoot, words_in, Reach, by_start, by_link, IsTracedFrom, is_root, is_linked, IsTraced, TracesAlike, IsReachedIn, IsOutsideIn}
 use Rattle.heap_model.proofs.ImageLemmas.{length-words_from, words_from-agree}
 use Rattle.heap_model.proofs.DecisionLemmas.{is_block}
-use Rattle.heap_model.proofs.ReachLemmas.{one_block, not_null, more_roots, reach_kept, nothing_more}
+use Rattle.heap_model.proofs.ReachLemmas.{one_block, not_null, more_roots, reach_kept, nothing_more, reach_by_kinds}
 use Rattle.heap_model.specs.Recovery.{IsRecovered, in_header}
-use Rattle.root_reach.proofs.TraceLemmas.{same_kinds}
 use Rattle.heap_recover.proofs.UnchangedLemmas.{words_unchanged, roots_unchanged, kinds_unchanged}
 use Rattle.dictionary.specs.Laws.{are_inside}
 use Rattle.dictionary.specs.Reading.{RecoversTo}
@@ -86,14 +85,14 @@ module _ (old new : Image) (alike : TracesAlike old new AnyRoot (kinds_of old) d
       to_new b leads.0,
       λ k reached. leads.1 k
           (nothing_more old new (λ i. i ≢ shard) (kinds_of old) dict_links (chosen_alike (λ i. i ≢ shard)) (λ w traced. inside w (any_root (λ i. i ≢ shard) w traced)) b k
-          (same_kinds new (λ i. i ≢ shard) (kinds_of new) (kinds_of old) dict_links (λ i below. sym (kinds_same i below)) b k reached)),
+          (reach_by_kinds {chosen = λ i. i ≢ shard} new (kinds_of new) (kinds_of old) dict_links kinds_same b k reached)),
     )
 
     alone_old : (shard : ℕ) (b : Block) → LeadsAlone new shard (new at) b → LeadsAlone old shard (old at) b
     alone_old shard b leads = (
       to_old b leads.0,
       λ k reached. leads.1 k
-          (same_kinds new (λ i. i ≢ shard) (kinds_of old) (kinds_of new) dict_links kinds_same b k (reach_kept old new (λ i. i ≢ shard) (kinds_of old) dict_links (chosen_alike (λ i. i ≢ shard)) b k reached)),
+          (reach_by_kinds {chosen = λ i. i ≢ shard} new (kinds_of old) (kinds_of new) dict_links (λ i below. sym (kinds_same i below)) b k (reach_kept old new (λ i. i ≢ shard) (kinds_of old) dict_links (chosen_alike (λ i. i ≢ shard)) b k reached)),
     )
 
     null_old : new at ≡ 0 → old at ≡ 0
@@ -246,19 +245,18 @@ module _ (old new : Image) (alike : TracesAlike old new AnyRoot (kinds_of old) d
               });
         })
 
--- what recovery makes of an image whose taken superblocks it has, and in which nothing is outside
-pub recovers_to : (old new : Image) → used_of old ≤ capacity_of old → IsRecovered old new (IsReachedIn old dict_links) → ((at : ℕ) → IsOutsideIn old dict_links at → ⊥)
+-- what recovery makes of an image in which nothing is outside
+pub recovers_to : (old new : Image) → IsRecovered old new (IsReachedIn old dict_links) → ((at : ℕ) → IsOutsideIn old dict_links at → ⊥)
     → ((b : Block) → IsReachedIn old dict_links b → IsBlock (layout_of new) b) → RecoversTo old new
-recovers_to old new used recovered inside blocks = record {
-  recovered = recovered;
-  inside = inside;
-  blocks = blocks;
-  kinds = λ root below. ap (λ capacity. new (kind_word capacity root)) (recovered.same capacity_word (in_header capacity_word (inr (inr (inl refl)))))
-      ∙ kinds_unchanged old new (IsReachedIn old dict_links) recovered used root below;
-}
+recovers_to old new recovered inside blocks = record { recovered = recovered; inside = inside; blocks = blocks }
 
 -- what recovery leaves is traced as the image before
 module _ (old new : Image) (to : RecoversTo old new) where
+  pub kinds_kept : (root : ℕ) → root < roots → kinds_of new root ≡ kinds_of old root
+  kinds_kept root below =
+      ap (λ capacity. new (kind_word capacity root)) (to.recovered.same capacity_word (in_header capacity_word (inr (inr (inl refl)))))
+      ∙ kinds_unchanged old new (IsReachedIn old dict_links) to.recovered root below
+
   reached_words : (b : Block) (kind word : ℕ) → Reach old (kinds_of old) dict_links b kind → IsIn b word → new word ≡ old word
   reached_words b kind word reached inside = words_unchanged old new (kinds_of old) dict_links to.recovered b word (record { kind = kind; reach = reached }) inside
 
@@ -280,17 +278,17 @@ module _ (old new : Image) (to : RecoversTo old new) where
   none_outside at traced outside = to.inside at (record { traced = traced; outside = outside })
 
   kind_before : (shard kind : ℕ) → shard < shards → kinds_of new shard ≡ kind → kinds_of old shard ≡ kind
-  kind_before shard kind below is = sym (to.kinds shard (omega arith)) ∙ is
+  kind_before shard kind below is = sym (kinds_kept shard (omega arith)) ∙ is
 
   pub map_kept : (shard : ℕ) (map : Map) → shard < shards → MapOf new shard map → MapOf old shard map
   map_kept shard map below is =
       let kind = kind_before shard table_kind below is.kind_is in
-      record { kind_is = kind; is_map = map_old old new traced_alike none_outside reached_words to.kinds shard below kind map is.is_map }
+      record { kind_is = kind; is_map = map_old old new traced_alike none_outside reached_words kinds_kept shard below kind map is.is_map }
 
   pub bad_kept : (shard at : ℕ) → shard < shards → BadShard new shard at → BadShard old shard at
   bad_kept shard _ below (at_kind other) =
       subst (λ capacity. BadShard old shard (kind_word capacity shard)) (sym (to.recovered.same capacity_word (in_header capacity_word (inr (inr (inl refl))))))
-      (at_kind (λ is. other (to.kinds shard (omega arith) ∙ is)))
+      (at_kind (λ is. other (kinds_kept shard (omega arith) ∙ is)))
   bad_kept shard at below (in_table _ is bad) =
       let kind = kind_before shard table_kind below is in
-      in_table at kind (bad_old old new traced_alike none_outside reached_words to.kinds shard below kind at bad)
+      in_table at kind (bad_old old new traced_alike none_outside reached_words kinds_kept shard below kind at bad)

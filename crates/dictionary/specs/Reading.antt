@@ -82,4 +82,3 @@ pub record RecoversTo (old new : Image) : Type 0 where
   pub recovered : IsRecovered old new (IsReachedIn old dict_links)
   pub inside : (at : ℕ) → IsOutsideIn old dict_links at → ⊥
   pub blocks : (b : Block) → IsReachedIn old dict_links b → IsBlock (layout_of new) b
-  pub kinds : (root : ℕ) → root < roots → kinds_of new root ≡ kinds_of old root

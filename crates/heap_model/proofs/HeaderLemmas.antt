@@ -9,7 +9,7 @@ use Rattle.heap_model.specs.declared.header.BadHeader.{BadHeader}
 use Rattle.heap_model.specs.declared.header.BadHeader.TheVariants.{Short, Magic, Version, Capacity, Length, State, Used, Kind}
 use Rattle.heap_model.specs.Geometry.{magic, version, old_version, largest_capacity, largest_old_capacity, roots, kind_word, clean, dirty, image_words, old_image_words}
 use Rattle.heap_model.specs.Image.{Image}
-use Rattle.heap_model.specs.Header.{HasHeader, IsWellFormed, IsOldWellFormed, HasGoodHeader, HasKindsBelow, is_old, most_superblocks, whole_words, kinds_of, has_kind_above, has_fault, header_fault}
+use Rattle.heap_model.specs.Header.{HasHeader, IsWellFormed, IsOldWellFormed, HasGoodHeader, HasKindsBelow, is_old, most_superblocks, whole_words, kinds_of, has_bad_kind, has_fault, header_fault}
 use Rattle.heap_model.specs.Durability.{IsTransient, is_head, is_anchor, is_link}
 
 -- where a choice between something and the rest is nothing, the test is false and the rest is nothing
@@ -66,7 +66,7 @@ passes the_version most words bytes image good =
     }
 
 -- no kind is at or above the limit exactly where all are below
-kinds_below : (limit : Option ℕ) (image : Image) → has_kind_above limit image ≡ false → HasKindsBelow limit image
+kinds_below : (limit : Option ℕ) (image : Image) → has_bad_kind limit image ≡ false → HasKindsBelow limit image
 kinds_below None image none = tt
 kinds_below (Some most) image none = λ i below. elim (cases_lt (kinds_of image i) most) as (λ _. kinds_of image i < most) [
   | inl less ↦ less
@@ -78,7 +78,7 @@ kinds_below (Some most) image none = λ i below. elim (cases_lt (kinds_of image 
       absurd (cc)
 ]
 
-none_above : (limit : Option ℕ) (image : Image) → HasKindsBelow limit image → has_kind_above limit image ≡ false
+none_above : (limit : Option ℕ) (image : Image) → HasKindsBelow limit image → has_bad_kind limit image ≡ false
 none_above None image below = refl
 none_above (Some most) image below = list_any_none (λ i. nat_le most (kinds_of image i)) (range_with_len 0 roots)
     (All-from_get_or (λ i. nat_le most (kinds_of image i) ≡ false) (range_with_len 0 roots) 0 (λ i inside.
@@ -97,7 +97,7 @@ good_header limit bytes image none =
     let length_is = none_parts (not (nat_eq bytes (8 * whole_words image))) Length _ capacity.1 in
     let state = none_parts (not (nat_eq (image 3) clean || nat_eq (image 3) dirty)) State _ length_is.1 in
     let used = none_parts (nat_lt (image 2) (image 8)) Used _ state.1 in
-    let kind = none_parts (not (is_old image) && has_kind_above limit image) Kind _ used.1 in
+    let kind = none_parts (not (is_old image) && has_bad_kind limit image) Kind _ used.1 in
     elim (or_cases (is_old image) (nat_eq (image 1) version) (not-false _ version_is.0)) as (λ _. HasGoodHeader limit bytes image) [
       | inl old ↦ inl (has_header old_version largest_old_capacity (old_image_words (image 2)) bytes image (record {
         magic_is = magic_is.0;
@@ -119,14 +119,14 @@ good_header limit bytes image none =
               state = state.0;
               used = used.0;
             }),
-            kinds_below limit image (subst (λ test. (not test && has_kind_above limit image) ≡ false) not_old kind.0),
+            kinds_below limit image (subst (λ test. (not test && has_bad_kind limit image) ≡ false) not_old kind.0),
           )
     ]
 
 -- a header that passes the tests of its version has no cause but a kind
 last_cause : (limit : Option ℕ) (the_version most words bytes : ℕ) (image : Image) → Passes the_version most words bytes image
     → most_superblocks image ≡ most → whole_words image ≡ words → (is_old image || nat_eq (image 1) version) ≡ true
-    → 8512 ≤ bytes → header_fault limit bytes image ≡ cond (not (is_old image) && has_kind_above limit image) (Some Kind) None
+    → 8512 ≤ bytes → header_fault limit bytes image ≡ cond (not (is_old image) && has_bad_kind limit image) (Some Kind) None
 unfolding header_fault has_fault
 last_cause limit the_version most words bytes image tests most_is words_are known long =
     let long_enough : nat_lt bytes 8512 ≡ false = le-ltb bytes 8512 long in
@@ -142,7 +142,7 @@ old_cause limit bytes image good =
     (rw (old) refl) (rw (old) refl) (or_left _ _ old) (omega arith)
     ∙ (rw (old) refl)
 
-new_cause : (limit : Option ℕ) (bytes : ℕ) (image : Image) → IsWellFormed bytes image → header_fault limit bytes image ≡ cond (has_kind_above limit image) (Some Kind) None
+new_cause : (limit : Option ℕ) (bytes : ℕ) (image : Image) → IsWellFormed bytes image → header_fault limit bytes image ≡ cond (has_bad_kind limit image) (Some Kind) None
 new_cause limit bytes image good =
     let two = good.version_is in
     let not_old : is_old image ≡ false = ne_eqb (image 1) old_version (λ one. omega arith) in
@@ -158,7 +158,7 @@ no_fault limit bytes image (inr (good, below)) = new_cause limit bytes image goo
 
 -- a kind at or above the limit is the cause where the header is good but for it
 pub kind_fault : (limit : Option ℕ) (bytes : ℕ) (image : Image) → IsWellFormed bytes image → (HasKindsBelow limit image → ⊥) → header_fault limit bytes image ≡ Some Kind
-kind_fault limit bytes image good above = new_cause limit bytes image good ∙ told (has_kind_above limit image) (λ none. above (kinds_below limit image none)) where
+kind_fault limit bytes image good above = new_cause limit bytes image good ∙ told (has_bad_kind limit image) (λ none. above (kinds_below limit image none)) where
   told : (test : Bool) → (test ≡ false → ⊥) → cond test (Some Kind) None ≡ Some Kind
   told true some = refl
   told false some = absurd (some refl)
@@ -181,7 +181,7 @@ told_with_limit limit bytes image cause told =
     (told_too (not (nat_eq (image 3) clean || nat_eq (image 3) dirty)) State cause _ _
     (told_too (nat_lt (image 2) (image 8)) Used cause _ _
     (no_kind (not (is_old image))))))))) told where
-      no_kind : (test : Bool) → cond (test && false) (Some Kind) None ≡ Some cause → cond (test && has_kind_above limit image) (Some Kind) None ≡ Some cause
+      no_kind : (test : Bool) → cond (test && false) (Some Kind) None ≡ Some cause → cond (test && has_bad_kind limit image) (Some Kind) None ≡ Some cause
       no_kind true none = absurd (cc)
       no_kind false none = absurd (cc)
 

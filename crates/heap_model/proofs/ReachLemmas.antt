@@ -73,19 +73,6 @@ more_roots image kinds links more = closure_included
     (λ b kind start. record { root = start.root; below = start.below; is_chosen = more start.root start.is_chosen; kind_is = start.kind_is; leads = start.leads })
     (λ a b from kind reached link. link)
 
--- what kinds the roots have matters below their number alone
-pub other_kinds : {chosen : ℕ → Type 0} (image : Image) (kinds others : ℕ → ℕ) (links : Links) → ((root : ℕ) → root < roots → kinds root ≡ others root)
-    → (b : Block) (kind : ℕ) → ReachFrom image chosen kinds links b kind → ReachFrom image chosen others links b kind
-other_kinds image kinds others links same = closure_included
-    (λ b kind start. record {
-      root = start.root;
-      below = start.below;
-      is_chosen = start.is_chosen;
-      kind_is = start.kind_is ∙ same start.root start.below;
-      leads = start.leads;
-    })
-    (λ a b from kind reached link. link)
-
 -- a word that leads to a block leads there in an image that has it as a block and the same word
 leads_there : (image other : Image) (w v : ℕ) (b : Block) → v ≡ w → IsBlock (layout_of other) b → Leads image w b → Leads other v b
 leads_there image other w v b same is leads = record {
@@ -150,12 +137,17 @@ module _ (image other : Image) (chosen : ℕ → Type 0) (kinds : ℕ → ℕ) (
         reaches b (leads_here (a.first_word + link.position) kind b traced reaches link.leads)
 
 -- what is reached, and what a trace looks at, depends only on the kinds of the roots that there are
-pub reach_by_kinds : (image : Image) (kinds other : ℕ → ℕ) (links : Links) → ((i : ℕ) → i < roots → kinds i ≡ other i)
-    → (b : Block) (kind : ℕ) → Reach image kinds links b kind → Reach image other links b kind
-reach_by_kinds image kinds other links same _ _ (by_start b kind starts) =
-    by_start b kind (record { root = starts.root; below = starts.below; is_chosen = starts.is_chosen; kind_is = starts.kind_is ∙ same starts.root starts.below; leads = starts.leads })
-reach_by_kinds image kinds other links same _ _ (by_link a b from kind reached leads) =
-    by_link a b from kind (reach_by_kinds image kinds other links same a from reached) leads
+pub reach_by_kinds : {chosen : ℕ → Type 0} (image : Image) (kinds other : ℕ → ℕ) (links : Links) → ((i : ℕ) → i < roots → kinds i ≡ other i)
+    → (b : Block) (kind : ℕ) → ReachFrom image chosen kinds links b kind → ReachFrom image chosen other links b kind
+reach_by_kinds image kinds other links same = closure_included
+    (λ b kind start. record {
+      root = start.root;
+      below = start.below;
+      is_chosen = start.is_chosen;
+      kind_is = start.kind_is ∙ same start.root start.below;
+      leads = start.leads;
+    })
+    (λ a b from kind reached link. link)
 
 pub traced_by_kinds : (image : Image) (kinds other : ℕ → ℕ) (links : Links) → ((i : ℕ) → i < roots → kinds i ≡ other i)
     → (at : ℕ) → IsTraced image kinds links at → IsTraced image other links at

@@ -2,7 +2,7 @@
 use Rattle.std.specs.Prelude.{◌≡◌, ℕ, List, [], ◌∷◌, take, refl, Some, None}
 use Rattle.std.proofs.Common.{arith, inl, inr}
 use Rattle.heap_model.specs.declared.header.BadHeader.TheVariants.{Short, Version, Capacity, Length, State, Used, Kind}
-use Rattle.heap_model.specs.Geometry.{magic, version, old_version, largest_capacity, clean, IsReserved, in_header, in_descriptor}
+use Rattle.heap_model.specs.Geometry.{magic, version, old_version, largest_capacity, clean, image_words, IsReserved, in_header, in_descriptor}
 use Rattle.heap_model.specs.Counting.{put, times, total, without, below}
 use Rattle.heap_model.specs.Image.{Image, image_of_bytes, bytes_of_words}
 use Rattle.heap_model.specs.Header.{header_fault, has_fault, kinds_of, first_kinds}
@@ -16,7 +16,7 @@ abbrev pub image_with : List (ℕ × ℕ) → Image
 image_with [] = λ _. 0
 image_with (w ∷ ws) = put (image_with ws) w.0 w.1
 
--- an empty image, with these words changed
+-- an empty image whose roots all have kind 0, with these words changed
 abbrev pub formatted : ℕ → List (ℕ × ℕ) → Image
 formatted capacity words = put (put (put (put (image_with words) 3 clean) 2 capacity) 1 version) 0 magic
 
@@ -51,6 +51,11 @@ good_old_length = refl
 with_kinds : header_fault None 82304 (of_old_version 1 []) ≡ Some Length
 unfolding header_fault has_fault largest_capacity
 with_kinds = refl
+
+-- the words of the longest image
+most_words : image_words largest_capacity ≡ 33589288
+unfolding largest_capacity
+most_words = refl
 
 -- 257 superblocks are too many for the old version alone, and 4,097 for both
 too_many_of_old : header_fault None 16875904 (of_old_version 257 []) ≡ Some Capacity

@@ -31,9 +31,9 @@ abbrev pub kinds_of : Image → ℕ → ℕ
 kinds_of image i = image (kind_word (capacity_of image) i)
 
 -- where there is a limit, the stored kind of some root is at or above it
-abbrev pub has_kind_above : Option ℕ → Image → Bool
-has_kind_above None image = false
-has_kind_above (Some limit) image = list_any (λ i. nat_le limit (kinds_of image i)) (range_with_len 0 roots)
+abbrev pub has_bad_kind : Option ℕ → Image → Bool
+has_bad_kind None image = false
+has_bad_kind (Some limit) image = list_any (λ i. nat_le limit (kinds_of image i)) (range_with_len 0 roots)
 
 -- whether a cause holds of an image of so many bytes, each cause by itself; with no limit any kind is good
 unfoldable pub has_fault : Option ℕ → ℕ → Image → BadHeader → Bool
@@ -44,7 +44,7 @@ has_fault limit bytes image Capacity = nat_eq (capacity_of image) 0 || nat_lt (m
 has_fault limit bytes image Length = not (nat_eq bytes (8 * whole_words image))
 has_fault limit bytes image State = not (nat_eq (state_of image) clean || nat_eq (state_of image) dirty)
 has_fault limit bytes image Used = nat_lt (capacity_of image) (used_of image)
-has_fault limit bytes image Kind = not (is_old image) && has_kind_above limit image
+has_fault limit bytes image Kind = not (is_old image) && has_bad_kind limit image
 
 -- the order in which causes are told
 abbrev pub causes : List BadHeader
@@ -64,7 +64,7 @@ pub record HasHeader (the_version most words bytes : ℕ) (image : Image) : Type
   pub state : (state_of image ≡ clean) ⊎ (state_of image ≡ dirty)
   pub used : used_of image ≤ capacity_of image
 
--- an image of so many bytes with a good header
+-- an image of so many bytes of this version, whose header is good whatever the kinds of its roots
 abbrev pub IsWellFormed : ℕ → Image → Type 0
 IsWellFormed bytes image = HasHeader version largest_capacity (image_words (capacity_of image)) bytes image
 

@@ -1,7 +1,7 @@
 -- What recovery makes of an image: every word of it, from the image and the kept blocks.
 use Rattle.std.specs.Prelude.{◌≡◌, ℕ, zero, suc, ◌+◌, ◌*◌, ◌<◌, ◌≤◌, ◌⊎◌, List, [], ◌∷◌, length, Contains}
 use Rattle.heap_model.specs.declared.block.Block.{Block}
-use Rattle.heap_model.specs.Geometry.{lists, roots, head_word, info_word, anchor_word, link_word, root_word, start_word, state_word, dirty, magic_word, version_word, capacity_word, used_word, IsReserved}
+use Rattle.heap_model.specs.Geometry.{lists, roots, head_word, info_word, anchor_word, link_word, root_word, kind_word, start_word, state_word, dirty, magic_word, version_word, capacity_word, used_word, IsReserved}
 use Rattle.heap_model.specs.Image.{Image}
 use Rattle.heap_model.specs.Header.{capacity_of}
 use Rattle.heap_model.specs.Sizes.{IsClass, words_of_class}
@@ -59,11 +59,12 @@ but_last [] = []
 but_last (x ∷ []) = []
 but_last (x ∷ y ∷ ys) = x ∷ but_last (y ∷ ys)
 
--- the words that recovery leaves alone outside superblocks: the header's but the state, the roots, and those without a meaning
+-- the words that recovery leaves alone outside superblocks: the header's but the state, the roots, their kinds, and those without a meaning
 pub data IsKeptWord (capacity : ℕ) : ℕ → Type 0 where
   in_header : (word : ℕ) → (word ≡ magic_word) ⊎ ((word ≡ version_word) ⊎ ((word ≡ capacity_word) ⊎ (word ≡ used_word)))
       → IsKeptWord capacity word
   is_root : (i word : ℕ) → i < roots → word ≡ root_word i → IsKeptWord capacity word
+  is_kind : (i word : ℕ) → i < roots → word ≡ kind_word capacity i → IsKeptWord capacity word
   is_reserved : (word : ℕ) → IsReserved capacity word → IsKeptWord capacity word
 
 -- the info and the anchor of a superblock

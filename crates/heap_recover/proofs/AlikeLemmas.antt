@@ -1,8 +1,8 @@
 -- An image between one and what recovery makes of it is recovered to the same: each word has the one value or the other, but the state and those that a crash leaves with any value.
-use Rattle.std.proofs.Common.{◌≡◌, ◌≢◌, ℕ, zero, suc, ◌+◌, ◌*◌, ◌<◌, ◌≤◌, ◌⊎◌, inl, inr, List, ◌∷◌, length, slice_index, Contains, refl, sym, ap, subst, ◌∙◌, arith}
+use Rattle.std.proofs.Common.{◌≡◌, ◌≢◌, ℕ, zero, suc, ◌+◌, ◌*◌, ◌<◌, ◌≤◌, ◌⊎◌, inl, inr, List, ◌∷◌, length, slice_index, Contains, Option, None, Some, refl, sym, ap, subst, ◌∙◌, arith}
 use Rattle.heap_model.specs.declared.block.Block.{Block}
 use Rattle.heap_model.specs.Geometry.{magic_word, version_word, capacity_word, used_word, state_word, clean, dirty, info_word, root_word, start_word, kind_word, roots}
-use Rattle.heap_model.specs.Header.{IsWellFormed, capacity_of, used_of, kinds_of}
+use Rattle.heap_model.specs.Header.{IsWellFormed, HasKindsBelow, capacity_of, used_of, kinds_of}
 use Rattle.heap_model.specs.Image.{Image, words_from}
 use Rattle.heap_model.specs.Blocks.{IsBlock, IsIn, layout_of}
 use Rattle.heap_model.specs.Pointers.{Leads, LeadsOutside}
@@ -36,8 +36,8 @@ stays capacity _ (inr (inr (inr inside))) (is_head list word below e) = omega ar
 stays capacity _ (inr (inr (inr inside))) (is_anchor d word below e) = omega arith
 stays capacity _ (inr (inr (inr inside))) (is_link d word below e) = omega arith
 
-module _ (old new : Image) (links : Links) (bytes limit : ℕ) (held : List Block)
-    (formed : IsWellFormed bytes old) (none : (at : ℕ) → IsOutsideIn old links at → ⊥) (within : AreInside limit links)
+module _ (old new : Image) (links : Links) (bytes limit : ℕ) (kind_limit : Option ℕ) (held : List Block)
+    (formed : IsWellFormed bytes old) (kinds_below : HasKindsBelow kind_limit old) (none : (at : ℕ) → IsOutsideIn old links at → ⊥) (within : AreInside limit links)
     (held_are : AreAscending (λ (b : Block). b.first_word) (IsReachedIn old links) held)
     (recovered : IsRecovered old new (IsReachedIn old links)) (image : Image) (partly : IsPartlyRecovered old new image) where
   abbrev kinds : ℕ → ℕ
@@ -164,7 +164,7 @@ module _ (old new : Image) (links : Links) (bytes limit : ℕ) (held : List Bloc
       let kind = kind_word (capacity_of old) root in
       ap (λ c. image (kind_word c root)) capacity_same
       ∙ same_as_old kind (λ e. omega (arith, e)) (stays (capacity_of old) kind (inr (inr (inr (omega arith)))))
-      (kinds_unchanged old new (IsReachedIn old links) recovered formed.used root below)
+      (kinds_unchanged old new (IsReachedIn old links) recovered root below)
 
   to_stored : (b : Block) (kind : ℕ) → Reach image kinds links b kind → ReachIn image links b kind
   to_stored = reach_by_kinds image kinds (kinds_of image) links (λ root below. sym (kinds_same root below))
@@ -187,9 +187,14 @@ module _ (old new : Image) (links : Links) (bytes limit : ℕ) (held : List Bloc
         (subst (λ c. HasPartIn c b d) (sym capacity_same) part);
   }
 
-  pub recovers_alike : RecoversAlike bytes old image links
+  below_same : (most : Option ℕ) → HasKindsBelow most old → HasKindsBelow most image
+  below_same None below = tt
+  below_same (Some most) below = λ root less. let same = kinds_same root less in let few = below root less in omega arith
+
+  pub recovers_alike : RecoversAlike kind_limit bytes old image links
   recovers_alike = record {
     formed = formed_same;
+    below = below_same kind_limit kinds_below;
     none_outside = λ at out. none_there at (traced_by_kinds image (kinds_of image) kinds links kinds_same at out.traced) out.outside;
     reach = λ b kind. (λ reached. to_stored b kind (to_image b kind reached), λ reached. from_image b kind (from_stored b kind reached));
     words = words_same;
@@ -230,13 +235,13 @@ module _ (old new : List ℕ) (links : Links) (recovered : IsRecovered (slice_in
     ]
 
 -- so recovery of what is left keeps the same
-module _ (old new : List ℕ) (links : Links) (held : List Block) (limit : ℕ) (within : AreInside limit links)
-    (is : IsRecoveryOf old links new held) (v : View) (between : IsBetween old new v) where
-  alike_by : (image : Image) → IsPartlyRecovered (slice_index old) (slice_index new) image → RecoversAlike (8 * length old) (slice_index old) image links
-  alike_by = recovers_alike (slice_index old) (slice_index new) links (8 * length old) limit held is.formed is.none_outside within is.held_are is.words_are
+module _ (old new : List ℕ) (links : Links) (held : List Block) (limit : ℕ) (kind_limit : Option ℕ) (within : AreInside limit links)
+    (is : IsRecoveryOf kind_limit old links new held) (v : View) (between : IsBetween old new v) where
+  alike_by : (image : Image) → IsPartlyRecovered (slice_index old) (slice_index new) image → RecoversAlike kind_limit (8 * length old) (slice_index old) image links
+  alike_by = recovers_alike (slice_index old) (slice_index new) links (8 * length old) limit kind_limit held is.formed is.below is.none_outside within is.held_are is.words_are
 
-  pub crash_alike : (image : Image) → IsCrashImage (slice_index v.durable) image → RecoversAlike (8 * length old) (slice_index old) image links
+  pub crash_alike : (image : Image) → IsCrashImage (slice_index v.durable) image → RecoversAlike kind_limit (8 * length old) (slice_index old) image links
   crash_alike image crash = alike_by image (crash_partly old new links is.words_are is.formed v between image crash)
 
-  pub mixed_alike : (image : Image) → Mixes (slice_index v.volatile) (slice_index v.durable) image → RecoversAlike (8 * length old) (slice_index old) image links
+  pub mixed_alike : (image : Image) → Mixes (slice_index v.volatile) (slice_index v.durable) image → RecoversAlike kind_limit (8 * length old) (slice_index old) image links
   mixed_alike image mixes = alike_by image (mixed_partly old new links is.words_are is.formed v between image mixes)

@@ -4,13 +4,13 @@ use Rattle.std.proofs.Math.ListN.{get_or-append}
 use Rattle.std.proofs.Math.Seq.{get_or-append_seam}
 use Rattle.std.proofs.lemmas.Bool.{cases_lt}
 use Rattle.heap_model.specs.declared.block.Block.{Block}
-use Rattle.heap_model.specs.Geometry.{info_word, anchor_word, link_word, head_word, start_word, state_word, capacity_word, in_header, in_descriptor, lists}
+use Rattle.heap_model.specs.Geometry.{info_word, anchor_word, link_word, head_word, start_word, superblocks_end, state_word, capacity_word, in_header, in_descriptor, lists}
 use Rattle.heap_model.specs.Header.{capacity_of}
 use Rattle.heap_model.specs.Image.{Image}
 use Rattle.heap_model.specs.Sizes.{words_of_class}
 use Rattle.heap_model.specs.Blocks.{Layout, layout_of}
 use Rattle.heap_model.specs.Recovered.{AreAscending}
-use Rattle.heap_model.specs.Recovery.{HasInfoAndAnchor, IsKeptWord, in_header as header_kept, is_root, is_reserved}
+use Rattle.heap_model.specs.Recovery.{HasInfoAndAnchor, IsKeptWord, in_header as header_kept, is_root, is_kind, is_reserved}
 use Rattle.heap_model.specs.Chains.{Walks}
 use Rattle.heap_model.proofs.BlockLemmas.{block_inside}
 use Rattle.heap_recover.specs.declared.roles.Role.{Role}
@@ -55,14 +55,16 @@ one_owner capacity d e word in_d in_e (is_inside _ from until) (is_anchor _ is')
 one_owner capacity d e word in_d in_e (is_inside _ from until) (is_link _ is') = absurd (omega arith)
 one_owner capacity d e word in_d in_e (is_inside _ from until) (is_inside _ from' until') = omega arith
 
--- where a kept word stands: before the descriptors, or behind the words of a descriptor that have a meaning
-pub kept_where : (capacity word : ℕ) → IsKeptWord capacity word → (word < 1064) ⊎ ((e : ℕ) × (at : ℕ) × (e < capacity) × (3 ≤ at) × (at < 8) × (word ≡ info_word e + at))
-kept_where capacity _ (header_kept word is) = inl (elim is as (λ _. word < 1064) [
+-- where a kept word stands: before the descriptors, behind the last superblock, or behind the words of a descriptor that have a meaning
+pub kept_where : (capacity word : ℕ) → IsKeptWord capacity word
+    → ((word < 1064) ⊎ (superblocks_end capacity ≤ word)) ⊎ ((e : ℕ) × (at : ℕ) × (e < capacity) × (3 ≤ at) × (at < 8) × (word ≡ info_word e + at))
+kept_where capacity _ (header_kept word is) = inl (inl (elim is as (λ _. word < 1064) [
   | inl magic ↦ omega arith
   | inr rest ↦ elim rest as (λ _. word < 1064) [ inl version ↦ omega arith | inr last ↦ elim last as (λ _. word < 1064) [ inl capacity_is ↦ omega arith | inr used ↦ omega arith ] ]
-])
-kept_where capacity _ (is_root i word below is) = inl (omega arith)
-kept_where capacity _ (is_reserved word (in_header _ low high used_not lists_not)) = inl (omega arith)
+]))
+kept_where capacity _ (is_root i word below is) = inl (inl (omega arith))
+kept_where capacity _ (is_kind i word below is) = inl (inr (omega arith))
+kept_where capacity _ (is_reserved word (in_header _ low high used_not lists_not)) = inl (inl (omega arith))
 kept_where capacity _ (is_reserved word (in_descriptor d at _ below low high is)) = inr (d, at, below, low, high, is)
 
 -- a kept word is not the state
@@ -72,6 +74,7 @@ kept_no_state capacity _ (header_kept word is) same = elim is as (λ _. ⊥) [
   | inr rest ↦ elim rest as (λ _. ⊥) [ inl version ↦ omega arith | inr last ↦ elim last as (λ _. ⊥) [ inl capacity_is ↦ omega arith | inr used ↦ omega arith ] ]
 ]
 kept_no_state capacity _ (is_root i word below is) same = omega arith
+kept_no_state capacity _ (is_kind i word below is) same = omega arith
 kept_no_state capacity _ (is_reserved word (in_header _ low high used_not lists_not)) same = omega arith
 kept_no_state capacity _ (is_reserved word (in_descriptor d at _ below low high is)) same = omega arith
 
@@ -82,6 +85,7 @@ kept_no_head capacity _ (header_kept word is) j few same = elim is as (λ _. ⊥
   | inr rest ↦ elim rest as (λ _. ⊥) [ inl version ↦ omega arith | inr last ↦ elim last as (λ _. ⊥) [ inl capacity_is ↦ omega arith | inr used ↦ omega arith ] ]
 ]
 kept_no_head capacity _ (is_root i word below is) j few same = omega arith
+kept_no_head capacity _ (is_kind i word below is) j few same = omega arith
 kept_no_head capacity _ (is_reserved word (in_header _ low high used_not lists_not)) j few same = elim lists_not as (λ _. ⊥) [ inl before ↦ omega arith | inr behind ↦ omega arith ]
 kept_no_head capacity _ (is_reserved word (in_descriptor d at _ below low high is)) j few same = omega arith
 
@@ -95,7 +99,7 @@ no_lower capacity d e word less below from (is_inside _ from' until) = omega ari
 -- a kept word belongs to no superblock
 pub kept_apart : (capacity d word : ℕ) → d < capacity → IsKeptWord capacity word → IsOf capacity d word → ⊥
 kept_apart capacity d word below kept owned = elim (kept_where capacity word kept) as (λ _. ⊥) [
-  | inl header ↦ header_apart header owned
+  | inl apart ↦ elim apart as (λ _. ⊥) [ inl header ↦ header_apart header owned | inr behind ↦ behind_apart behind owned ]
   | inr descriptor ↦ descriptor_apart descriptor.0 descriptor.1 (descriptor.2, descriptor.3, descriptor.4, descriptor.5) owned
 ] where
   header_apart : word < 1064 → IsOf capacity d word → ⊥
@@ -103,6 +107,12 @@ kept_apart capacity d word below kept owned = elim (kept_where capacity word kep
   header_apart low (is_anchor _ is) = omega arith
   header_apart low (is_link _ is) = omega arith
   header_apart low (is_inside _ from until) = omega arith
+
+  behind_apart : superblocks_end capacity ≤ word → IsOf capacity d word → ⊥
+  behind_apart past (is_info _ is) = omega arith
+  behind_apart past (is_anchor _ is) = omega arith
+  behind_apart past (is_link _ is) = omega arith
+  behind_apart past (is_inside _ from until) = omega arith
 
   descriptor_apart : (e at : ℕ) → (e < capacity) × (3 ≤ at) × (at < 8) × (word ≡ info_word e + at) → IsOf capacity d word → ⊥
   descriptor_apart e at where_ (is_info _ is) = let same = where_.3 in let low = where_.1 in let high = where_.2 in omega arith

@@ -1,13 +1,13 @@
 -- Recovery changes no word of a kept block, no root, and no kind of a root.
-use Rattle.std.proofs.Common.{◌≡◌, ℕ, ◌<◌, ◌≤◌, inl, inr, refl, subst, arith}
+use Rattle.std.proofs.Common.{◌≡◌, ℕ, ◌<◌, inl, inr, refl, subst, arith}
 use Rattle.heap_model.specs.declared.block.Block.{Block}
 use Rattle.heap_model.specs.Geometry.{roots, root_word, kind_word}
-use Rattle.heap_model.specs.Header.{capacity_of, used_of}
+use Rattle.heap_model.specs.Header.{capacity_of}
 use Rattle.heap_model.specs.Image.{Image}
 use Rattle.heap_model.specs.Sizes.{IsClass, words_of_class, blocks_of}
 use Rattle.heap_model.specs.Blocks.{layout_of, of_class, IsBlock, IsIn}
 use Rattle.heap_model.specs.Reach.{Links, IsReached}
-use Rattle.heap_model.specs.Recovery.{IsPartial, IsSpare, IsRecovered, is_root}
+use Rattle.heap_model.specs.Recovery.{IsPartial, IsSpare, IsRecovered, is_root, is_kind}
 use Rattle.heap_model.proofs.BlockLemmas.{never_overlap, block_inside, block_words}
 use Rattle.heap_model.proofs.ReachLemmas.{reached_block}
 use Rattle.heap_recover.proofs.SuperblockLemmas.{but_last_in}
@@ -46,12 +46,6 @@ words_unchanged old new kinds links recovered b word reached inside =
 pub roots_unchanged : (old new : Image) (kinds : ℕ → ℕ) (links : Links) → IsRecovered old new (IsReached old kinds links) → (i : ℕ) → i < roots → new (root_word i) ≡ old (root_word i)
 roots_unchanged old new kinds links recovered i below = recovered.same (root_word i) (is_root i (root_word i) below refl)
 
-pub kinds_unchanged : (old new : Image) (kept : Block → Type 0) → IsRecovered old new kept → used_of old ≤ capacity_of old → (i : ℕ) → i < roots
+pub kinds_unchanged : (old new : Image) (kept : Block → Type 0) → IsRecovered old new kept → (i : ℕ) → i < roots
     → new (kind_word (capacity_of old) i) ≡ old (kind_word (capacity_of old) i)
-kinds_unchanged old new kept recovered used i below = recovered.inside (kind_word (capacity_of old) i) (omega arith) (λ class d is partial linked.
-    let spare = (recovered.chained class d is partial).sound (kind_word (capacity_of old) i) (but_last_in (recovered.chains d) (kind_word (capacity_of old) i) linked) in
-    let is_spare = spare_block old kept class d (kind_word (capacity_of old) i) is partial spare in
-    let lies = block_inside (layout_of old) spare.block is_spare in
-    let some = block_words (layout_of old) spare.block is_spare in
-    let first = spare.first in
-    omega (arith, lies.1))
+kinds_unchanged old new kept recovered i below = recovered.same (kind_word (capacity_of old) i) (is_kind i (kind_word (capacity_of old) i) below refl)

@@ -13,7 +13,7 @@ abbrev pub of_trace : TraceFault → RecoverFault
 of_trace (OutsideTraced at value) = Outside at value
 of_trace MemoryTraced = Memory
 
--- A word of an image of the version that is outside, and its value. Of want of memory nothing is said, and a header is not told.
+-- A word of an image of this version that is outside, and its value. Of want of memory nothing is said, and a header is not told.
 abbrev pub TellsOutsideIn : Image → Links → RecoverFault → Type 0
 TellsOutsideIn image links (Header cause) = ⊥
 TellsOutsideIn image links (Outside at value) = IsOutsideIn image links at × (value ≡ image at)

@@ -1,8 +1,8 @@
 -- Recovery made in place, word by word: what it asks for, and what stands of the image wherever it ends.
-use Rattle.std.specs.Prelude.{◌≡◌, ◌≢◌, ◌↔◌, ◌⊎◌, ℕ, zero, suc, ◌+◌, ◌*◌, ◌<◌, ◌≤◌, cond, nat_eq, List, length, slice_index, Some}
+use Rattle.std.specs.Prelude.{◌≡◌, ◌≢◌, ◌↔◌, ◌⊎◌, ℕ, zero, suc, ◌+◌, ◌*◌, ◌<◌, ◌≤◌, cond, nat_eq, List, length, slice_index, Option, Some}
 use Rattle.heap_model.specs.declared.block.Block.{Block}
 use Rattle.heap_model.specs.Geometry.{roots, root_word, state_word, clean, dirty}
-use Rattle.heap_model.specs.Header.{IsWellFormed, capacity_of, kinds_of}
+use Rattle.heap_model.specs.Header.{IsWellFormed, HasKindsBelow, capacity_of, kinds_of}
 use Rattle.heap_model.specs.Durability.{IsTransient}
 use Rattle.heap_model.specs.Image.{Image}
 use Rattle.heap_model.specs.Blocks.{IsIn, layout_of}
@@ -16,9 +16,10 @@ abbrev pub differences : Image → Image → ℕ → ℕ
 differences old new zero = 0
 differences old new (suc n) = differences old new n + cond (nat_eq (old n) (new n)) 0 1
 
--- the heap of these words and held blocks is what recovery makes of the image
-pub record IsRecoveryOf (old : List ℕ) (links : Links) (new : List ℕ) (held : List Block) : Type 0 where
+-- the heap of these words and held blocks is what recovery makes of the image, whose kinds of roots are below the limit
+pub record IsRecoveryOf (limit : Option ℕ) (old : List ℕ) (links : Links) (new : List ℕ) (held : List Block) : Type 0 where
   pub formed : IsWellFormed (8 * length old) (slice_index old)
+  pub below : HasKindsBelow limit (slice_index old)
   pub none_outside : (at : ℕ) → IsOutsideIn (slice_index old) links at → ⊥
   pub held_are : AreAscending (λ (b : Block). b.first_word) (IsReachedIn (slice_index old) links) held
   pub long : length new ≡ length old
@@ -29,10 +30,11 @@ pub record HoldsDurably (words : List ℕ) (v : View) : Type 0 where
   pub volatile : v.volatile ≡ words
   pub durable : v.durable ≡ words
 
--- Recovery of the other image keeps the same as that of the one: its header is good, nothing in it is outside, the same blocks are
+-- Recovery of the other image keeps the same as that of the one: its header is good, with kinds below the limit, nothing in it is outside, the same blocks are
 -- reached as the same kinds, with the same words, from the same roots of the same kinds, and the same superblocks are free.
-pub record RecoversAlike (bytes : ℕ) (image other : Image) (links : Links) : Type 0 where
+pub record RecoversAlike (limit : Option ℕ) (bytes : ℕ) (image other : Image) (links : Links) : Type 0 where
   pub formed : IsWellFormed bytes other
+  pub below : HasKindsBelow limit other
   pub none_outside : (at : ℕ) → IsOutsideIn other links at → ⊥
   pub reach : (b : Block) (kind : ℕ) → ReachIn image links b kind ↔ ReachIn other links b kind
   pub words : (b : Block) (word : ℕ) → IsReachedIn image links b → IsIn b word → other word ≡ image word

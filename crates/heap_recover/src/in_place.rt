@@ -103,7 +103,7 @@ pub fn rebuild<M: LineMemory, F: Filter>(
     to: &Ready,
 ) -> Result<(), Stopped>
     requires memory { HoldsDurably x.now (M.view memory.old) }
-    requires recovered { IsRecoveryOf x.now (F.links_of filter.now) to.now.words
+    requires recovered { IsRecoveryOf (Some F.KINDS) x.now (F.links_of filter.now) to.now.words
         to.now.held }
     ensures ok { OnOk result (HoldsDurably to.now.words (M.view memory.new)) }
     ensures stopped { IfErr result (λ e. IsStoppedAt (1 + 2 * differences (slice_index x.now)
@@ -116,10 +116,12 @@ pub fn rebuild<M: LineMemory, F: Filter>(
     ensures between { IsBetween x.now to.now.words (M.view memory.new) }
     ensures crash { (image : Image)
         → IsCrashImage (slice_index (M.view memory.new).durable) image
-        → RecoversAlike (8 * length x.now) (slice_index x.now) image (F.links_of filter.now) }
+        → RecoversAlike (Some F.KINDS) (8 * length x.now) (slice_index x.now) image
+        (F.links_of filter.now) }
     ensures mixed { (image : Image) → Mixes (slice_index (M.view memory.new).volatile)
         (slice_index (M.view memory.new).durable) image
-        → RecoversAlike (8 * length x.now) (slice_index x.now) image (F.links_of filter.now) }
+        → RecoversAlike (Some F.KINDS) (8 * length x.now) (slice_index x.now) image
+        (F.links_of filter.now) }
 {
     store_image(memory, x, to.words())
 }

@@ -1,9 +1,9 @@
 //! What follows from the words that recovery leaves, and of recovery begun again, as functions with
 //! nothing to run.
-ghost use Rattle.std.specs.Prelude.{◌≡◌, ◌<◌, ◌≤◌, ℕ, List};
+ghost use Rattle.std.specs.Prelude.{◌≡◌, ◌<◌, ℕ, List, Option};
 ghost use Rattle.heap_model.specs.declared.block.Block.{Block};
 ghost use Rattle.heap_model.specs.Geometry.{roots, root_word, kind_word};
-ghost use Rattle.heap_model.specs.Header.{capacity_of, used_of};
+ghost use Rattle.heap_model.specs.Header.{capacity_of};
 ghost use Rattle.heap_model.specs.Image.{Image};
 ghost use Rattle.heap_model.specs.Blocks.{IsIn, layout_of};
 ghost use Rattle.heap_model.specs.Reach.{Links, IsReached, IsReachedIn};
@@ -20,21 +20,20 @@ pub fn reached_words_are_unchanged()
         → IsRecovered old new (IsReached old kinds links)
         → (i : ℕ) → i < roots → new (root_word i) ≡ old (root_word i) }
     ensures kinds { (old new : Image) (kinds : ℕ → ℕ) (links : Links)
-        → IsRecovered old new (IsReached old kinds links) → used_of old ≤ capacity_of old
-        → (i : ℕ) → i < roots
+        → IsRecovered old new (IsReached old kinds links) → (i : ℕ) → i < roots
         → new (kind_word (capacity_of old) i) ≡ old (kind_word (capacity_of old) i) }
 {}
 
 /// Recovery that is begun again over what a stopped one left gives the same: the same list of held
 /// blocks and the same list of free superblocks.
 pub fn recovery_begun_again_gives_the_same()
-    ensures held { (bytes : ℕ) (image other : Image) (links : Links)
-        → RecoversAlike bytes image other links → (held again : List Block)
+    ensures held { (limit : Option ℕ) (bytes : ℕ) (image other : Image) (links : Links)
+        → RecoversAlike limit bytes image other links → (held again : List Block)
         → AreAscending (λ (b : Block). b.first_word) (IsReachedIn image links) held
         → AreAscending (λ (b : Block). b.first_word) (IsReachedIn other links) again
         → again ≡ held }
-    ensures free { (bytes : ℕ) (image other : Image) (links : Links)
-        → RecoversAlike bytes image other links → (free again : List ℕ)
+    ensures free { (limit : Option ℕ) (bytes : ℕ) (image other : Image) (links : Links)
+        → RecoversAlike limit bytes image other links → (free again : List ℕ)
         → AreAscending (λ d. d) (IsFreeSuperblock (layout_of image) (IsReachedIn image links)) free
         → AreAscending (λ d. d) (IsFreeSuperblock (layout_of other) (IsReachedIn other links)) again
         → again ≡ free }

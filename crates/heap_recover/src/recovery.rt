@@ -19,7 +19,7 @@ use crate::fault::RecoverFault;
 use crate::lists::members;
 use crate::passes::rebuild;
 use filter_trace::{Filter, Marks, trace};
-use region_header::{migrate, migrate_owned, read_header};
+use region_header::{current, migrate, read_header};
 use std::alloc::{AllocError, Global};
 use super_block::{OLD_VERSION, Ready};
 
@@ -110,7 +110,7 @@ pub fn recover_owned<F: Filter>(
         → result ≡ Err (RecoverFault.Header cause) }
 {
     let header = read_header(&words, Some(F::KINDS))?;
-    let current = current_owned(words, header.version, kinds)?;
+    let current = current(words, kinds)?;
     recover_current(alloc, current, header.clean, filter)
 }
 
@@ -130,20 +130,6 @@ fn current_copy(
         migrate(alloc, words, kinds)
     } else {
         Vec::from_slice(alloc, words)
-    }
-}
-
-/// The words of an image with a good header, in this version.
-fn current_owned(words: Vec<u64>, version: u64, kinds: &[u32]) -> Result<Vec<u64>, AllocError>
-    requires good { HasGoodHeader None (8 * length words.items) (slice_index words.items) }
-    requires version { version ≡ slice_index words.items version_word }
-    requires roots { length kinds.now ≡ roots }
-    ensures ok { IfOk result (λ new. new.items ≡ current_words words.items kinds.now) }
-{
-    if version == OLD_VERSION {
-        migrate_owned(words, kinds)
-    } else {
-        Ok(words)
     }
 }
 

@@ -1,5 +1,5 @@
 //! Images of the version before, which stored no kinds of roots, as images of this version.
-ghost use Rattle.std.specs.Prelude.{◌≡◌, ◌*◌, ℕ, Option, length, slice_index, IfOk};
+ghost use Rattle.std.specs.Prelude.{◌≡◌, ◌*◌, None, length, slice_index, IfOk};
 ghost use Rattle.heap_model.specs.Geometry.{roots};
 ghost use Rattle.heap_model.specs.Header.{IsOldWellFormed, HasGoodHeader};
 ghost use Rattle.region_header.specs.Migration.{migrated, current_words};
@@ -37,8 +37,7 @@ pub fn migrate_owned(words: Vec<u64>, kinds: &[u32]) -> Result<Vec<u64>, AllocEr
 /// The words of an image with a good header in this version: as they are or, where they are of the
 /// old version, migrated in their room.
 pub fn current(words: Vec<u64>, kinds: &[u32]) -> Result<Vec<u64>, AllocError>
-    ghost limit: { Option ℕ }
-    requires good { HasGoodHeader limit (8 * length words.items) (slice_index words.items) }
+    requires good { HasGoodHeader None (8 * length words.items) (slice_index words.items) }
     requires roots { length kinds.now ≡ roots }
     ensures ok { IfOk result (λ new. new.items ≡ current_words words.items kinds.now) }
 {

@@ -15,7 +15,7 @@ use Rattle.heap_model.specs.Blocks.{layout_of, IsBlock}
 use Rattle.heap_model.specs.Pointers.{Leads}
 use Rattle.heap_model.specs.Reach.{Links, words_in, by_start, by_link, ReachFrom}
 use Rattle.heap_model.proofs.BlockLemmas.{block_words, block_inside}
-use Rattle.heap_model.proofs.ReachLemmas.{closure_least, closure_included, reached_block, more_roots}
+use Rattle.heap_model.proofs.ReachLemmas.{closure_least, closure_included, reached_block, more_roots, reach_by_kinds}
 use Rattle.root_reach.specs.declared.origin.Origin.{Origin}
 use Rattle.root_reach.specs.declared.origin.Origin.TheVariants.{One, Several}
 use Rattle.root_reach.specs.declared.labels.Finding.{Finding}
@@ -225,28 +225,15 @@ beside_no image kinds links origins b root are only reached =
     let told = are.complete b reached.kind from.0 from.2 in
     from.1 (covers_one (origin_at origins.kinds origins.labels.items b reached.kind) root from.0 (only reached.kind told.0) told.1)
 
--- where the kinds of the roots are the same, so is what is reached
-pub same_kinds : (image : Image) (chosen : ℕ → Type 0) (kinds kinds' : ℕ → ℕ) (links : Links) → ((i : ℕ) → i < roots → kinds' i ≡ kinds i)
-    → (b : Block) (kind : ℕ) → ReachFrom image chosen kinds links b kind → ReachFrom image chosen kinds' links b kind
-same_kinds image chosen kinds kinds' links alike = closure_included
-    (λ b kind start. record {
-      root = start.root;
-      below = start.below;
-      is_chosen = start.is_chosen;
-      kind_is = start.kind_is ∙ sym (alike start.root start.below);
-      leads = start.leads;
-    })
-    (λ a b from kind reached link. link)
-
 tells_same : (image : Image) (kinds kinds' : ℕ → ℕ) (links : Links) (b : Block) (kind : ℕ) (o : Origin) → ((i : ℕ) → i < roots → kinds' i ≡ kinds i)
     → Tells image kinds links b kind o → Tells image kinds' links b kind o
-tells_same image kinds kinds' links b kind (One root) alike tells = (tells.0, same_kinds image (λ i. i ≡ root) kinds kinds' links alike b kind tells.1)
+tells_same image kinds kinds' links b kind (One root) alike tells = (tells.0, reach_by_kinds {chosen = λ i. i ≡ root} image kinds kinds' links (λ i below. sym (alike i below)) b kind tells.1)
 tells_same image kinds kinds' links b kind Several alike tells = record {
   one = tells.one;
   other = tells.other;
   apart = tells.apart;
-  from_one = same_kinds image (λ i. i ≡ tells.one) kinds kinds' links alike b kind tells.from_one;
-  from_other = same_kinds image (λ i. i ≡ tells.other) kinds kinds' links alike b kind tells.from_other;
+  from_one = reach_by_kinds {chosen = λ i. i ≡ tells.one} image kinds kinds' links (λ i below. sym (alike i below)) b kind tells.from_one;
+  from_other = reach_by_kinds {chosen = λ i. i ≡ tells.other} image kinds kinds' links (λ i below. sym (alike i below)) b kind tells.from_other;
 }
 
 pub origins_same : (image : Image) (kinds kinds' : ℕ → ℕ) (links : Links) (origins : Origins) → ((i : ℕ) → i < roots → kinds' i ≡ kinds i)
@@ -254,5 +241,5 @@ pub origins_same : (image : Image) (kinds kinds' : ℕ → ℕ) (links : Links) 
 origins_same image kinds kinds' links origins alike are = record {
   room = are.room;
   sound = λ b kind o is below told. tells_same image kinds kinds' links b kind o alike (are.sound b kind o is below told);
-  complete = λ b kind root reached. are.complete b kind root (same_kinds image (λ i. i ≡ root) kinds' kinds links (λ i below. sym (alike i below)) b kind reached);
+  complete = λ b kind root reached. are.complete b kind root (reach_by_kinds {chosen = λ i. i ≡ root} image kinds' kinds links alike b kind reached);
 }

@@ -1,10 +1,10 @@
 //! The roots, one word each, behind the header (after Ralloc's persistent roots), and their kinds.
 
 ghost use Rattle.std.specs.Prelude.{◌≡◌, ◌<◌, ◌≤◌, ◌^◌, ℕ, length, slice_index, slice_set};
-ghost use Rattle.heap_model.specs.Geometry.{roots, root_word, kind_word, fixed_words, largest_capacity, image_words};
+ghost use Rattle.heap_model.specs.Geometry.{roots, root_word, kind_word, fixed_words, image_words};
 ghost use Rattle.heap_model.specs.Header.{capacity_of, kinds_of};
 
-use super_block::{CAPACITY_WORD, Geometry, ROOT_WORD, ROOTS};
+use super_block::{ROOT_WORD, ROOTS};
 
 /// The word of root `i`, in the words of an image.
 pub fn root(words: &[u64], i: usize) -> u64
@@ -27,8 +27,6 @@ pub fn set_root(words: &mut [u64], i: usize, word: u64)
 /// The kind of root `i`, in the words of an image of this version.
 pub fn kind(words: &[u64], i: usize) -> u64
     requires is_root { i < roots }
-    requires some { 1 ≤ capacity_of (slice_index words.now) }
-    requires small { capacity_of (slice_index words.now) ≤ largest_capacity }
     requires whole { length words.now ≡ image_words (capacity_of (slice_index words.now)) }
     ensures { result ≡ kinds_of (slice_index words.now) i }
 {
@@ -38,8 +36,6 @@ pub fn kind(words: &[u64], i: usize) -> u64
 /// Makes `kind` the kind of root `i`, in the words of an image of this version.
 pub fn set_kind(words: &mut [u64], i: usize, kind: u32)
     requires is_root { i < roots }
-    requires some { 1 ≤ capacity_of (slice_index words.old) }
-    requires small { capacity_of (slice_index words.old) ≤ largest_capacity }
     requires whole { length words.old ≡ image_words (capacity_of (slice_index words.old)) }
     ensures { words.new
         ≡ slice_set words.old (kind_word (capacity_of (slice_index words.old)) i) kind }
@@ -49,8 +45,6 @@ pub fn set_kind(words: &mut [u64], i: usize, kind: u32)
 
 /// The kinds of all roots, in the words of an image of this version.
 pub fn kinds(words: &[u64]) -> [u32; ROOTS as usize]
-    requires some { 1 ≤ capacity_of (slice_index words.now) }
-    requires small { capacity_of (slice_index words.now) ≤ largest_capacity }
     requires whole { length words.now ≡ image_words (capacity_of (slice_index words.now)) }
     requires fit { (i : ℕ) → i < roots → kinds_of (slice_index words.now) i < 2 ^ 32 }
     ensures { (i : ℕ) → i < roots → slice_index result i ≡ kinds_of (slice_index words.now) i }
@@ -62,13 +56,11 @@ pub fn kinds(words: &[u64]) -> [u32; ROOTS as usize]
     kinds
 }
 
-/// Where the kind of root `i` stands.
+/// Where the kind of root `i` stands: the kinds are the last words.
 fn kind_place(words: &[u64], i: usize) -> usize
     requires is_root { i < roots }
-    requires some { 1 ≤ capacity_of (slice_index words.now) }
-    requires small { capacity_of (slice_index words.now) ≤ largest_capacity }
     requires whole { length words.now ≡ image_words (capacity_of (slice_index words.now)) }
     ensures { result ≡ kind_word (capacity_of (slice_index words.now)) i }
 {
-    Geometry::new(words[CAPACITY_WORD as usize]).kind(i as u64) as usize
+    words.len() - ROOTS as usize + i
 }

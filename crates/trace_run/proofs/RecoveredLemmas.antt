@@ -8,10 +8,10 @@ use Rattle.heap_model.specs.Header.{HasKindsBelow, kinds_of}
 use Rattle.heap_model.specs.Pointers.{Leads, LeadsOutside}
 use Rattle.heap_model.specs.Reach.{AnyRoot, ReachIn, by_start, by_link, IsTraced, TracesAlike, is_root, is_linked, IsReachedIn, words_in}
 use Rattle.heap_model.specs.Recovered.{AreAscending}
-use Rattle.heap_model.proofs.ReachLemmas.{reach_kept, nothing_more, other_kinds}
+use Rattle.heap_model.proofs.ReachLemmas.{reach_kept, nothing_more, reach_by_kinds}
 use Rattle.dict_model.specs.Links.{shards, kind_count, dict_links}
 use Rattle.dictionary.specs.Reading.{AreMaps, RecoversTo}
-use Rattle.dictionary.proofs.SameLemmas.{traced_alike, none_outside}
+use Rattle.dictionary.proofs.SameLemmas.{traced_alike, none_outside, kinds_kept}
 use Rattle.trace_run.specs.Opened.{IsDictionary}
 
 module _ (old new : Image) (to : RecoversTo old new) where
@@ -20,12 +20,12 @@ module _ (old new : Image) (to : RecoversTo old new) where
 
   -- the new image reaches the same with the kinds that it stores, which are those of the old one
   to_new : (b : Block) (kind : ℕ) → ReachIn old dict_links b kind → ReachIn new dict_links b kind
-  to_new b kind reach = other_kinds new (kinds_of old) (kinds_of new) dict_links (λ root below. sym (to.kinds root below)) b kind
+  to_new b kind reach = reach_by_kinds new (kinds_of old) (kinds_of new) dict_links (λ root below. sym (kinds_kept old new to root below)) b kind
       (reach_kept old new AnyRoot (kinds_of old) dict_links alike b kind reach)
 
   to_old : (b : Block) (kind : ℕ) → ReachIn new dict_links b kind → ReachIn old dict_links b kind
   to_old b kind reach = nothing_more old new AnyRoot (kinds_of old) dict_links alike (none_outside old new to) b kind
-      (other_kinds new (kinds_of new) (kinds_of old) dict_links to.kinds b kind reach)
+      (reach_by_kinds new (kinds_of new) (kinds_of old) dict_links (kinds_kept old new to) b kind reach)
 
   pub same_reach : (b : Block) → IsReachedIn old dict_links b ↔ IsReachedIn new dict_links b
   same_reach b = (λ r. record { kind = r.kind; reach = to_new b r.kind r.reach }, λ r. record { kind = r.kind; reach = to_old b r.kind r.reach })

@@ -7,11 +7,11 @@ use Rattle.heap_recover.proofs.laws.recovery_begun_again_gives_the_same.Goals as
 
 pub returns : goal.returns
 returns c = record {
-  held = λ bytes image other links alike held again a b.
+  held = λ limit bytes image other links alike held again a b.
       ascending_one (λ (b : Block). b.first_word) (IsReachedIn other links) (IsReachedIn image links) again held
       (λ b reached. record { kind = reached.kind; reach = (alike.reach b reached.kind).1 reached.reach })
       (λ b reached. record { kind = reached.kind; reach = (alike.reach b reached.kind).0 reached.reach }) b a;
-  free = λ bytes image other links alike free again a b.
+  free = λ limit bytes image other links alike free again a b.
       ascending_one (λ d. d) (IsFreeSuperblock (layout_of other) (IsReachedIn other links)) (IsFreeSuperblock (layout_of image) (IsReachedIn image links))
       again free (λ d. (alike.free d).1) (λ d. (alike.free d).0) b a;
 }
