@@ -1,7 +1,8 @@
 -- The marks of words as a list, and what a bit that is set or cleared makes of it.
 use Rattle.std.proofs.Common.{◌≡◌, ◌≢◌, ℕ, zero, suc, ◌+◌, ◌*◌, ◌/◌, ◌%◌, ◌<◌, ◌≤◌, inl, inr, Bool, false, List, [], ◌∷◌, get_or, set, nat_eq, replicate, length, refl, ap, ap₂, sym, ◌∙◌, arith}
-use Rattle.std.proofs.lemmas.Bool.{cases_eq}
+use Rattle.std.proofs.lemmas.Bool.{cases_eq, cases_lt}
 use Rattle.std.proofs.lemmas.List.{get_or-set_same, get_or-set_other}
+use Rattle.std.proofs.Math.ListN.{get_or-eq_default}
 use Rattle.std.proofs.lemmas.Nat.Bits.{bit_at-zero}
 use Rattle.bit_marks.specs.Marks.{mark_in, is_one, marks_from, marks_of}
 
@@ -64,3 +65,14 @@ pub zero_at : (n k : ℕ) → ◌≡◌ {A = ℕ} (get_or (replicate n 0) k 0) 0
 zero_at zero k = refl
 zero_at (suc n) zero = refl
 zero_at (suc n) (suc k) = zero_at n k
+
+-- a number that has no mark in the words has none
+pub unmarked : (words : List ℕ) (length' n : ℕ) (marks : List Bool) → marks_of words length' ≡ marks → (n < length' → mark_in words n ≡ false) → get_or marks n false ≡ false
+unmarked words length' n marks is none = ap (λ (l : List Bool). get_or l n false) (sym is) ∙ elim (cases_lt n length') as (λ _. get_or (marks_of words length') n false ≡ false) [
+  | inl less ↦ mark_of_at words length' n less ∙ none less
+  | inr past ↦ get_or-eq_default (marks_of words length') false {n = n} (let l = length_marks words 0 length' in omega arith)
+]
+
+-- the mark of a number, as a bit of its group's word
+pub group_mark : (words : List ℕ) (n group word : ℕ) → n / 64 ≡ group → word ≡ get_or words group 0 → mark_in words n ≡ is_one word (n % 64)
+group_mark words n group word here is = ap (λ k. is_one (get_or words k 0) (n % 64)) here ∙ ap (λ w. is_one w (n % 64)) (sym is)

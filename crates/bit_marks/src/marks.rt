@@ -1,6 +1,6 @@
 //! Marks, one bit each, in words of 64.
 
-ghost use Rattle.std.specs.Prelude.{◌≡◌, ◌<◌, get_or, length, replicate, slice_set, true, false, IfOk};
+ghost use Rattle.std.specs.Prelude.{◌≡◌, ◌<◌, ◌/◌, ℕ, get_or, length, replicate, slice_set, true, false, IfOk, IfSome, IsNone};
 ghost use Rattle.bit_marks.specs.Marks.{is_one};
 
 use std::alloc::{AllocError, Global};
@@ -39,7 +39,7 @@ impl BitMarks {
         })
     }
 
-    /// The length.
+    /// How many numbers there are.
     pub fn len(&self) -> u64
         ensures { result ≡ length self.now }
     {
@@ -52,6 +52,25 @@ impl BitMarks {
         ensures { result ≡ get_or self.now n false }
     {
         is_set(self.words[(n / WORD) as usize], n % WORD)
+    }
+
+    /// The first marked number of a group of 64, as 64 to 127 are those of group 1.
+    pub fn first_in(&self, group: u64) -> Option<u64>
+        ensures some { IfSome result (λ n. (get_or self.now n false ≡ true) × (n / 64 ≡ group)) }
+        ensures none { IsNone result → (n : ℕ) → n / 64 ≡ group → get_or self.now n false ≡ false }
+    {
+        if group >= self.below.div_ceil(WORD) {
+            return None;
+        }
+        let word = self.words[group as usize];
+        if word == 0 {
+            return None;
+        }
+        let n = WORD * group + lowest_bit(word);
+        if n >= self.below {
+            return None;
+        }
+        Some(n)
     }
 
     /// Marks the number.
@@ -79,4 +98,14 @@ fn is_set(word: u64, bit: u64) -> bool
     ensures { result ≡ is_one word bit }
 {
     word >> bit & 1 == 1
+}
+
+/// The lowest bit of a word that is one.
+fn lowest_bit(word: u64) -> u64
+    requires { 0 < word }
+    ensures below { result < 64 }
+    ensures one { is_one word result ≡ true }
+    ensures lowest { (bit : ℕ) → bit < result → is_one word bit ≡ false }
+{
+    word.trailing_zeros() as u64
 }

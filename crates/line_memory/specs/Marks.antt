@@ -30,11 +30,11 @@ abbrev pub completed_at : List Bool → List ℕ → List ℕ → ℕ → ℕ
 completed_at marks volatile durable word =
     cond (mark_at marks word) (slice_index volatile word) (slice_index durable word)
 
--- the marks of words, whether each line is listed, and the list of these, with room for every line
-pub record ListsLines (words lines : List Bool) (list : List ℕ) (capacity : ℕ) : Type 0 where
-  pub reach : length words ≤ 8 * length lines
-  pub room : length lines ≤ capacity
-  pub few : length list ≤ mark_count lines
-  pub within : (k : ℕ) → k < length list → 8 * slice_index list k < length words
-  pub covers : (word : ℕ) → IsMarked words word → IsMarked lines (word / 8)
-  pub all : (line : ℕ) → IsMarked lines line → Contains list line
+-- the marks of words, whether each page of 512 words is listed, and the list of these, with room for every page
+pub record ListsPages (words pages : List Bool) (list : List ℕ) (capacity : ℕ) : Type 0 where
+  pub reach : length words ≤ 512 * length pages
+  pub room : length pages ≤ capacity
+  pub few : length list ≤ mark_count pages
+  pub within : (k : ℕ) → k < length list → 512 * slice_index list k < length words
+  pub covers : (word : ℕ) → IsMarked words word → IsMarked pages (word / 512)
+  pub all : (page : ℕ) → IsMarked pages page → Contains list page

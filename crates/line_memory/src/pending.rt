@@ -2,41 +2,51 @@
 ghost use Rattle.std.specs.Prelude.{◌≡◌, ◌≢◌, ℕ, ◌+◌, ◌*◌, ◌/◌, ◌<◌, ◌≤◌, false, true, length, replicate, slice_index, slice_index_or, slice_set, IfOk, IfSome, IsNone, vec_len};
 ghost use Rattle.line_memory.specs.Marks.{completed_at, mark_at, IsMarked};
 
-use crate::memory::LINE;
+use crate::memory;
 use bit_marks::BitMarks;
 use std::alloc::{AllocError, Global};
 use std::marker::Model;
 
-/// A mark for each word, one bit. Since a line is listed once at most, the list never outgrows its
-/// room, and a fence goes over the lines that were written back, and not over the whole memory.
+/// How many words a line has.
+const LINE: u64 = memory::LINE;
+
+/// How many words a page has, and how many marks are looked at together.
+const PAGE: u64 = 512;
+
+const GROUP: u64 = 64;
+
+/// A mark for each word, one bit each. Since a page is listed once at most, the list never outgrows
+/// its room, and a fence goes over the pages with words that were written back, and not over the
+/// whole memory.
 #[derive(Drop)]
 pub struct Pending {
     marks: BitMarks,
-    listed: BitMarks,
-    lines: Vec<u64>,
+    listed: Vec<bool>,
+    pages: Vec<u64>,
 }
 
 impl Model for Pending {
     ghost use Rattle.std.specs.Prelude.{List, Bool};
     ghost use Rattle.std.specs.Vec.{vec_capacity};
-    ghost use Rattle.line_memory.specs.Marks.{ListsLines};
+    ghost use Rattle.line_memory.specs.Marks.{ListsPages};
 
     ghost Value = { List Bool };
 
     ghost view = { λ p. p.marks };
 
-    ghost invariant = { λ p. ListsLines p.marks p.listed p.lines.items (vec_capacity p.lines) };
+    ghost invariant = { λ p.
+        ListsPages p.marks p.listed.items p.pages.items (vec_capacity p.pages) };
 }
 
 impl Pending {
     pub fn new(alloc: Global, words: usize) -> Result<Pending, AllocError>
         ensures { IfOk result (λ p. p ≡ replicate words false) }
     {
-        let lines = words.div_ceil(LINE as usize);
+        let pages = words.div_ceil(PAGE as usize);
         Ok(Pending {
             marks: BitMarks::new(alloc, words as u64)?,
-            listed: BitMarks::new(alloc, lines as u64)?,
-            lines: Vec::with_capacity(alloc, lines)?,
+            listed: vec![in alloc; false; pages]?,
+            pages: Vec::with_capacity(alloc, pages)?,
         })
     }
 
@@ -47,10 +57,11 @@ impl Pending {
         ensures in_line { (k : ℕ) → k < length self.old → k / 8 ≡ line → IsMarked self.new k }
         ensures others { (k : ℕ) → k / 8 ≢ line → mark_at self.new k ≡ mark_at self.old k }
     {
+        let page = line / (PAGE / LINE);
         mark_words(&mut self.marks, line);
-        if !self.listed.get(line) {
-            self.listed.set(line);
-            self.lines.push_reserved(line);
+        if !self.listed[page as usize] {
+            self.listed[page as usize] = true;
+            self.pages.push_reserved(page);
         }
     }
 
@@ -69,13 +80,13 @@ impl Pending {
         ensures none { IsNone result
             → ((word : ℕ) → mark_at self.old word ≡ false) × (self.new ≡ self.old) }
     {
-        while let Some(line) = self.lines.pop() {
-            if let Some(word) = first_marked(&self.marks, line) {
-                self.lines.push_reserved(line);
+        while let Some(page) = self.pages.pop() {
+            if let Some(word) = first_marked(&self.marks, page) {
+                self.pages.push_reserved(page);
                 self.marks.clear(word);
                 return Some(word);
             }
-            self.listed.clear(line);
+            self.listed[page as usize] = false;
         }
         None
     }
@@ -89,9 +100,8 @@ impl Pending {
         ensures completed { (k : ℕ) → slice_index durable.new k
             ≡ completed_at self.old volatile.now durable.old k }
     {
-        while let Some(line) = self.lines.pop() {
-            self.listed.clear(line);
-            complete_line(&mut self.marks, volatile, durable, line);
+        while let Some(word) = self.take_marked() {
+            durable[word as usize] = volatile[word as usize];
         }
     }
 }
@@ -111,42 +121,19 @@ fn mark_words(marks: &mut BitMarks, line: u64)
     }
 }
 
-/// The first marked word of the line.
-fn first_marked(marks: &BitMarks, line: u64) -> Option<u64>
-    requires { 8 * line < length marks.now }
-    ensures some { IfSome result (λ word. IsMarked marks.now word × (word / 8 ≡ line)) }
-    ensures none { IsNone result → (k : ℕ) → k / 8 ≡ line → mark_at marks.now k ≡ false }
+/// The first marked word of the page.
+fn first_marked(marks: &BitMarks, page: u64) -> Option<u64>
+    requires { 512 * page < length marks.now }
+    ensures some { IfSome result (λ word. IsMarked marks.now word × (word / 512 ≡ page)) }
+    ensures none { IsNone result → (k : ℕ) → k / 512 ≡ page → mark_at marks.now k ≡ false }
 {
-    let length = marks.len();
-    let first = LINE * line;
-    let count = LINE.min(length - first);
-    for word in first..first + count {
-        let marked = marks.get(word);
-        if marked {
-            return Some(word);
+    let groups = marks.len().div_ceil(GROUP);
+    let first = PAGE / GROUP * page;
+    for group in first..groups.min(first + PAGE / GROUP) {
+        let found = marks.first_in(group);
+        if found.is_some() {
+            return found;
         }
     }
     None
-}
-
-/// Makes the marked words of the line durable, and takes back their marks.
-fn complete_line(marks: &mut BitMarks, volatile: &[u64], durable: &mut [u64], line: u64)
-    requires in_memory { 8 * line < length marks.old }
-    requires marks { length marks.old ≡ length volatile.now }
-    requires lengths { length durable.old ≡ length volatile.now }
-    ensures len { length marks.new ≡ length marks.old }
-    ensures clear { (k : ℕ) → k / 8 ≡ line → mark_at marks.new k ≡ false }
-    ensures others { (k : ℕ) → k / 8 ≢ line → mark_at marks.new k ≡ mark_at marks.old k }
-    ensures completed { (k : ℕ) → completed_at marks.new volatile.now durable.new k
-        ≡ completed_at marks.old volatile.now durable.old k }
-{
-    let length = marks.len();
-    let first = LINE * line;
-    let count = LINE.min(length - first);
-    for word in first..first + count {
-        if marks.get(word) {
-            durable[word as usize] = volatile[word as usize];
-            marks.clear(word);
-        }
-    }
 }

@@ -1,15 +1,8 @@
-use Rattle.std.proofs.Common.{◌∙◌}
-use Rattle.line_memory.proofs.MarkLemmas.{completed_last}
+use Rattle.std.proofs.Common.{◌<◌, ap, sym, subst, arith}
+use Rattle.line_memory.specs.Marks.{mark_count}
+use Rattle.line_memory.proofs.MarkLemmas.{fewer_marks}
 use Rattle.line_memory.proofs.pending.Pending.complete.Goals as goal
 
-pub loop-line-preserved : goal.loop-line-preserved
-loop-line-preserved c =
-    let h = c.loop-line.invariant.listed in
-    let p = c.in-Some.ensures in
-    let q = c.complete_line.ensures in
-    record {
-      listed = rw c.clear.ensures (completed_last c.loop-line.self-inside.marks c.complete_line.new.marks _ _ _ _ _ c.in-Some.line h p.items p.capacity q.len q.clear q.others);
-      marks = q.len ∙ c.loop-line.invariant.marks;
-      lengths = c.complete_line.auto.durable ∙ c.loop-line.invariant.lengths;
-      completed = λ k. q.completed k ∙ c.loop-line.invariant.completed k;
-    }
+pub loop-word-smaller : goal.loop-word-smaller
+loop-word-smaller c = let gone = c.in-Some.ensures.some in
+    subst (λ l. mark_count l < mark_count c.loop-word.self) (sym gone.1) (fewer_marks c.loop-word.self c.in-Some.word gone.0)

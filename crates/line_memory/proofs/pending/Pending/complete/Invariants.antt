@@ -1,16 +1,14 @@
-use Rattle.std.proofs.Common.{◌≡◌, ℕ, length, vec_len}
-use Rattle.std.specs.Vec.{vec_capacity}
-use Rattle.line_memory.specs.Marks.{ListsLines, completed_at}
+use Rattle.std.proofs.Common.{◌≡◌, ℕ, length}
+use Rattle.line_memory.specs.Marks.{completed_at, mark_count}
 use Rattle.line_memory.proofs.pending.Pending.complete.Given as goal
 
-abbrev pub invariant-loop-line : goal.invariant-loop-line
-invariant-loop-line l =
+abbrev pub invariant-loop-word : goal.invariant-loop-word
+invariant-loop-word l =
     record {
-      listed : ListsLines l.self-inside.marks l.self-inside.listed l.self-inside.lines.items (vec_capacity l.self-inside.lines);
-      marks : length l.self-inside.marks ≡ length l.volatile;
+      marks : length l.self ≡ length l.volatile;
       lengths : length l.durable ≡ length l.volatile;
-      completed : (k : ℕ) → completed_at l.self-inside.marks l.volatile l.durable k ≡ completed_at l.initial.self-inside.marks l.volatile l.initial.durable k;
+      completed : (k : ℕ) → completed_at l.self l.volatile l.durable k ≡ completed_at l.initial.self l.volatile l.initial.durable k;
     }
 
-abbrev pub decreases-loop-line : goal.decreases-loop-line
-decreases-loop-line l = vec_len l.self-inside.lines
+abbrev pub decreases-loop-word : goal.decreases-loop-word
+decreases-loop-word l = mark_count l.self

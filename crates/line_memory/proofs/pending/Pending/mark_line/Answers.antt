@@ -1,22 +1,25 @@
--- The list of lines has room for a line that isn't on it, and lists each line with a mark.
-use Rattle.std.proofs.Common.{◌≡◌, ◌<◌, ◌*◌, get_or, false, length, arith, sym, ◌∙◌}
-use Rattle.line_memory.proofs.MarkLemmas.{has_room, line_within, marked_first}
+-- The list of pages has room for a page that isn't on it, and lists each page with a mark.
+use Rattle.std.proofs.Common.{◌≡◌, ◌≢◌, ℕ, ◌<◌, ◌*◌, ◌/◌, false, get_or, length, refl, arith, ◌∙◌}
+use Rattle.line_memory.proofs.MarkLemmas.{has_room, page_within, marked_first, read_is}
 use Rattle.line_memory.proofs.pending.Pending.mark_line.Goals as goal
 
 pub push_reserved-requires : goal.push_reserved-requires
 push_reserved-requires c =
     let h = c.self.invariant in
     let l : 8 * c.args.line < length c.self.inside.marks = rw c.self.view_is c.requires in
-    let within = line_within c.self.inside.marks _ _ _ c.args.line h l in
-    let off : get_or c.self.inside.listed c.args.line false ≡ false = sym c.get.ensures ∙ c.if-not-get.true in
-    rw c.self.inside.lines.ok.0 (has_room c.self.inside.marks _ _ _ c.args.line h within off)
+    let within = page_within c.self.inside.marks _ _ _ (c.args.line / 64) h (omega arith) in
+    let off = read_is _ _ _ _ within c.index.ensures c.if-not-index.true in
+    rw c.self.inside.pages.ok.0 (has_room c.self.inside.marks _ _ _ (c.args.line / 64) h within off)
 
 pub invariant_of-self : goal.invariant_of-self
 invariant_of-self c =
     let h = c.self.invariant in
     let l : 8 * c.args.line < length c.self.inside.marks = rw c.self.view_is c.requires in
-    let off : get_or c.self.inside.listed c.args.line false ≡ false = sym c.get.ensures ∙ c.if-not-get.true in
+    let inside : 512 * (c.args.line / 64) < length c.self.inside.marks = omega arith in
+    let within = page_within c.self.inside.marks _ _ _ (c.args.line / 64) h inside in
+    let off = read_is _ _ _ _ within c.index.ensures c.if-not-index.true in
     let p = c.push_reserved.ensures in
-    rw c.set.ensures
-    (marked_first c.self.inside.marks c.mark_words.new.marks _ _ _ _ _ c.args.line h
-    c.mark_words.ensures.len c.mark_words.ensures.others off l (omega (arith, p.capacity)) p.items)
+    let same : (k : ℕ) → k / 512 ≢ c.args.line / 64 → get_or c.mark_words.new.marks k false ≡ get_or c.self.inside.marks k false =
+    λ k other. c.mark_words.ensures.others k (λ here. other (omega (arith, here))) in
+    marked_first c.self.inside.marks c.self.inside.marks c.mark_words.new.marks _ _ _ _ _ (c.args.line / 64) h
+    refl c.mark_words.ensures.len same off inside (omega (arith, p.capacity)) p.items

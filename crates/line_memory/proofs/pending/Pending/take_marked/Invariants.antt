@@ -1,14 +1,14 @@
 use Rattle.std.proofs.Common.{◌≡◌, vec_len}
 use Rattle.std.specs.Vec.{vec_capacity}
-use Rattle.line_memory.specs.Marks.{ListsLines}
+use Rattle.line_memory.specs.Marks.{ListsPages}
 use Rattle.line_memory.proofs.pending.Pending.take_marked.Given as goal
 
-abbrev pub invariant-loop-line : goal.invariant-loop-line
-invariant-loop-line l =
+abbrev pub invariant-loop-page : goal.invariant-loop-page
+invariant-loop-page l =
     record {
-      listed : ListsLines l.self-inside.marks l.self-inside.listed l.self-inside.lines.items (vec_capacity l.self-inside.lines);
+      listed : ListsPages l.self-inside.marks l.self-inside.listed.items l.self-inside.pages.items (vec_capacity l.self-inside.pages);
       marks : l.self-inside.marks ≡ l.initial.self-inside.marks;
     }
 
-abbrev pub decreases-loop-line : goal.decreases-loop-line
-decreases-loop-line l = vec_len l.self-inside.lines
+abbrev pub decreases-loop-page : goal.decreases-loop-page
+decreases-loop-page l = vec_len l.self-inside.pages
