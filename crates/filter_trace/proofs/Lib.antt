@@ -1,4 +1,3 @@
-mod BitLemmas
 pub mod PairLemmas
 pub mod StepLemmas
 pub mod TraceLemmas

@@ -1,7 +1,6 @@
 //! Which blocks of a heap image its roots reach, through the links that a filter lists.
 #![tactic(auto)]
 
-mod bits;
 mod fault;
 mod filter;
 mod marks;

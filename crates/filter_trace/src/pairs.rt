@@ -3,7 +3,7 @@ ghost use Rattle.std.specs.Prelude.{◌≡◌, ◌+◌, ◌*◌, ℕ, ◌<◌, �
 ghost use Rattle.std.specs.List.{All};
 ghost use Rattle.filter_trace.specs.Pairs.{mark_of, HasMarks};
 
-use crate::bits::Bits;
+use bit_marks::BitMarks;
 use heap_model::Block;
 use std::alloc::{AllocError, Global};
 
@@ -15,7 +15,7 @@ pub struct PairSet {
     /// The pairs, in the order in which they came.
     pub pairs: Vec<(Block, u32)>,
     /// For each word of the image and each kind, whether the block that begins there is in the set.
-    pub marks: Bits,
+    pub marks: BitMarks,
 }
 
 impl PairSet {
@@ -32,7 +32,7 @@ impl PairSet {
         Ok(PairSet {
             kinds,
             pairs: Vec::new(alloc),
-            marks: Bits::new(alloc, words * kinds as usize)?,
+            marks: BitMarks::new(alloc, words as u64 * kinds as u64)?,
         })
     }
 
@@ -43,7 +43,7 @@ impl PairSet {
         ensures kinds { self.new.kinds ≡ self.old.kinds }
         ensures ok { OnOk result (Adds block kind self.old self.new) }
     {
-        let mark = mark_at(self.kinds, block.first_word, kind);
+        let mark = mark_at(self.kinds, block.first_word, kind) as u64;
         if self.marks.get(mark) {
             return Ok(());
         }
@@ -58,7 +58,8 @@ impl PairSet {
         requires short { length self.now.marks < 2 ^ 64 }
         ensures { result ≡ slice_index_or self.now.marks (mark_of self.now.kinds block kind) false }
     {
-        self.marks.get(mark_at(self.kinds, block.first_word, kind))
+        let mark = mark_at(self.kinds, block.first_word, kind);
+        self.marks.get(mark as u64)
     }
 
     /// Whether some kind is marked at the word.
@@ -71,7 +72,7 @@ impl PairSet {
             → IsTrue result }
     {
         for kind in 0..self.kinds {
-            let mark = mark_at(self.kinds, word, kind);
+            let mark = mark_at(self.kinds, word, kind) as u64;
             if mark < self.marks.len() && self.marks.get(mark) {
                 return true;
             }
