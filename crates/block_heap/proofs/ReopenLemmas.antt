@@ -8,7 +8,6 @@ use Rattle.heap_model.specs.Blocks.{layout_of}
 use Rattle.heap_model.specs.Reach.{Links, IsReached}
 use Rattle.heap_model.specs.Recovered.{IsDrained}
 use Rattle.heap_model.specs.Recovery.{in_header}
-use Rattle.heap_model.proofs.HeaderLemmas.{good_header}
 use Rattle.heap_shape.specs.Draining.{IsDrainable, IsToDrain}
 use Rattle.heap_shape.proofs.RecoveredLemmas.{reached_drainable, reached_drains}
 use Rattle.line_memory.specs.View.{View, volatile_at}
@@ -33,12 +32,8 @@ module _ (bytes : ℕ) (old : Image) (kinds : ℕ → ℕ) (links : Links) (word
       let same = is.opened.opens.same b in
       (λ holds. is.held_are.sound b (same.0 holds), λ reached. same.1 (is.held_are.complete b reached))
 
-  -- a good header has no greater capacity, whatever its version
   capacity_fits : capacity_of old ≤ largest_capacity
-  capacity_fits = elim (good_header is.limit bytes old is.good) as (λ _. capacity_of old ≤ largest_capacity) [
-    | inl of_old ↦ let small = of_old.small in omega (arith, old_capacities_fit)
-    | inr of_new ↦ of_new.0.small
-  ]
+  capacity_fits = is.formed.small
 
   pub reopened_drainable : (class : ℕ) → IsDrainableFor class s
   reopened_drainable class =

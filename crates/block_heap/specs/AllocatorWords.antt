@@ -1,7 +1,7 @@
 -- What an allocator may store to, and what stays of the held blocks whatever it does.
 use Rattle.std.specs.Prelude.{◌≡◌, ℕ, ◌+◌, ◌<◌, ◌≤◌, List, Option, Some, Contains}
 use Rattle.heap_model.specs.declared.block.Block.{Block}
-use Rattle.heap_model.specs.Geometry.{lists, roots, largest_capacity, kind_word, head_word, info_word, anchor_word, link_word, used_word, capacity_word, start_word}
+use Rattle.heap_model.specs.Geometry.{lists, roots, largest_capacity, kind_word, head_word, info_word, anchor_word, link_word, used_word, capacity_word, start_word, superblocks_end}
 use Rattle.heap_model.specs.Blocks.{IsBlock, IsIn}
 use Rattle.heap_model.specs.Recovered.{HasPartIn}
 use Rattle.heap_shape.specs.Standing.{HasNoHeld}
@@ -20,7 +20,7 @@ pub data IsAllocatorWord (capacity : ℕ) (held : List Block) (word : ℕ) : Typ
   is_info : (d : ℕ) → d < capacity → HasNoHeld capacity held d → word ≡ info_word d → IsAllocatorWord capacity held word
   is_anchor : (d : ℕ) → d < capacity → word ≡ anchor_word d → IsAllocatorWord capacity held word
   is_link : (d : ℕ) → d < capacity → word ≡ link_word d → IsAllocatorWord capacity held word
-  is_inside : start_word capacity 0 ≤ word → word < start_word capacity capacity → ((b : Block) → Contains held b → IsIn b word → ⊥) → IsAllocatorWord capacity held word
+  is_inside : start_word capacity 0 ≤ word → word < superblocks_end capacity → ((b : Block) → Contains held b → IsIn b word → ⊥) → IsAllocatorWord capacity held word
 
 -- it stores to no other word, and `used` rises, of what loads see and of what is durable, and not past the capacity
 pub record StoresAsAllocator (capacity : ℕ) (held : List Block) (v w : View) : Type 0 where
@@ -29,7 +29,7 @@ pub record StoresAsAllocator (capacity : ℕ) (held : List Block) (v w : View) :
   pub used_durable : durable_at v used_word ≤ durable_at w used_word
   pub fits : UsedFits capacity v → UsedFits capacity w
 
--- each held block is named whichever of its two values each word has: its infos are durable, and it ends below both values of `used`; and so are the kinds of the roots
+-- each held block is named whichever of its two values each word has: its infos are durable, and it ends below both values of `used`; and the kinds of the roots are durable as loads see them
 pub record IsStable (capacity : ℕ) (v : View) (held : List Block) : Type 0 where
   pub capacity_is : volatile_at v capacity_word ≡ capacity
   pub capacity_durable : durable_at v capacity_word ≡ capacity

@@ -3,7 +3,7 @@
 /// What a word is.
 #[derive(Clone, Copy)]
 pub enum Part {
-    /// No seat's own, whichever it is: of the header, or without a meaning.
+    /// No seat's own, whichever it is: of the header, without a meaning, or the kind of a root.
     Shared,
     /// A root.
     Root { i: u64 },

@@ -7,7 +7,7 @@ use Rattle.std.proofs.lemmas.List.Elements.{Contains-append_cases}
 use Rattle.heap_model.specs.declared.block.Block.{Block}
 use Rattle.heap_model.specs.Blocks.{IsIn, AreOneOrApart}
 use Rattle.heap_model.specs.Counting.{times}
-use Rattle.heap_model.specs.Geometry.{fixed_words, roots, start_word, superblock_words, superblocks_end, kind_word, largest_capacity}
+use Rattle.heap_model.specs.Geometry.{fixed_words, roots, start_word, superblock_words, superblocks_end, kind_word, capacity_word, largest_capacity}
 use Rattle.heap_model.specs.Image.{Image}
 use Rattle.heap_model.specs.Sizes.{words_of_class}
 use Rattle.heap_model.proofs.CountingLemmas.{one_if_true}
@@ -16,7 +16,8 @@ use Rattle.heap_model.proofs.ImageLemmas.{get_or-words_from}
 use Rattle.heap_model.proofs.PartLemmas.{same_fields}
 use Rattle.heap_seat.specs.View.{View as HeapView, kind_of}
 use Rattle.heap_seat.specs.Sound.{IsSeat, IsPlaced}
-use Rattle.heap_seat.specs.Words.{IsOwn as IsOwnWord, in_block, in_root, HasPicked, KeepsOwn, KeepsPending, MayBe, MayRead, MixesOwn, NamesAll}
+use Rattle.heap_seat.specs.Words.{IsOwn as IsOwnWord, in_block, in_root, HasPicked, KeepsOwn, KeepsPending, MayBe, MayRead, MixesOwn, NamesAll, StoresKinds}
+use Rattle.heap_model.specs.Header.{capacity_of}
 use Rattle.core_model.specs.Cells.{Cell, cell_at, data_cell, root_cell, superblock_at}
 use Rattle.core_model.specs.Effects.{span_count}
 use Rattle.core_model.specs.Held.{IsHeld, a_small, a_large}
@@ -221,10 +222,16 @@ mixed_law s image is = record {
       ];
 }
 
-pub stored_law : (s : CacheState) (image : Image) → MayBeLeft s.view image → (i : ℕ) → i < roots → image (kind_word s.view.setup.capacity i) ≡ kind_of (heap_view s) i
-stored_law s image is i below = let c = s.view.setup.capacity in
-    (left_fixed s.view image is).each (kind_word c i) (inr (inr (record { from = omega arith; until = omega arith }))) (λ e. omega (arith, e))
-    ∙ sym (get_or-words_from (slice_index s.view.setup.opened) (kind_word c 0) roots i 0 below ∙ ap (slice_index s.view.setup.opened) (omega arith))
+pub stored_law : (s : CacheState) (image : Image) → MayBeLeft s.view image → StoresKinds (heap_view s) image
+stored_law s image is = record {
+  each = λ i below.
+      let c = s.view.setup.capacity in
+      let capacity_is : capacity_of image ≡ c =
+      (left_fixed s.view image is).each capacity_word (inl (omega arith)) (λ e. omega (arith, e)) ∙ (left_state s.view image is).sound.capacity in
+      ap (λ n. image (kind_word n i)) capacity_is
+      ∙ (left_fixed s.view image is).each (kind_word c i) (inr (inr (record { from = omega arith; until = omega arith }))) (λ e. omega (arith, e))
+      ∙ sym (get_or-words_from (slice_index s.view.setup.opened) (kind_word c 0) roots i 0 below ∙ ap (slice_index s.view.setup.opened) (omega arith));
+}
 
 -- no step changes the setup, which has the kinds
 pub kinds_law : (a : Costs) (s t : CacheState) (v w : SeatView) → IsStateOf s v → IsStateOf t w → Passes a v.view w.view → (heap_view t).kinds ≡ (heap_view s).kinds

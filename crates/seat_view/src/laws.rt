@@ -1,11 +1,9 @@
 //! What follows for a heap's seat that is one of the core, as a function with nothing to run.
 
-ghost use Rattle.std.specs.Prelude.{◌≡◌, ◌<◌, ℕ, Bool};
-ghost use Rattle.heap_model.specs.Geometry.{kind_word, roots};
+ghost use Rattle.std.specs.Prelude.{◌≡◌, ℕ, Bool};
 ghost use Rattle.heap_model.specs.Image.{Image};
 ghost use Rattle.heap_seat.specs.Sound.{IsSeat};
-ghost use Rattle.heap_seat.specs.View.{kind_of};
-ghost use Rattle.heap_seat.specs.Words.{HasPicked, IsOwn, KeepsOwn, KeepsPending, MixesOwn, NamesAll};
+ghost use Rattle.heap_seat.specs.Words.{HasPicked, IsOwn, KeepsOwn, KeepsPending, MixesOwn, NamesAll, StoresKinds};
 ghost use Rattle.heap_rule.specs.Left.{MayBeLeft};
 ghost use Rattle.heap_rule.specs.Seated.{SeatView};
 ghost use Rattle.seat_rows.specs.Costs.{Costs};
@@ -23,8 +21,7 @@ pub fn a_seat_of_the_core_is_a_seat_of_a_heap()
     ensures named { (s : CacheState) (image : Image) → MayBeLeft s.view image
         → NamesAll image (heap_view s).held }
     ensures stored { (s : CacheState) (image : Image) → MayBeLeft s.view image
-        → (i : ℕ) → i < roots
-        → image (kind_word s.view.setup.capacity i) ≡ kind_of (heap_view s) i }
+        → StoresKinds (heap_view s) image }
     ensures may_be { (s : CacheState) (pick : ℕ → Bool) → ∥ ((image : Image)
         × MayBeLeft s.view image × HasPicked (heap_view s) pick image) ∥₁ }
     ensures kinds { (costs : Costs) (s t : CacheState) (v w : SeatView) → IsStateOf s v
