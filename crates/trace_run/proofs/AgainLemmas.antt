@@ -21,7 +21,7 @@ use Rattle.block_heap.proofs.ImageLemmas.{crash_left, closed_left}
 use Rattle.dict_model.specs.Links.{shards, kind_count}
 use Rattle.dict_model.specs.Requests.{Request, Reply, done, after, after_one}
 use Rattle.dict_model.specs.Shards.{Map, LeadsAlone, MapOf}
-use Rattle.dict_model.proofs.ShardLemmas.{one_map, alone_once}
+use Rattle.dict_model.proofs.ShardLemmas.{one_map_of}
 use Rattle.trace_run.specs.Needs.{ListsKeysOf}
 use Rattle.trace_run.specs.Opened.{HasMaps, CanBeRun}
 use Rattle.trace_run.specs.Progress.{MayAnswer, HasAnswered}
@@ -130,11 +130,11 @@ keys_of image have zero few = ([], λ shard m below is key some. absurd (omega a
 keys_of image have (suc count) few =
     let rest = keys_of image have count (omega arith) in
     let first = have.each count (omega arith) in
-    let more = map_keys (LeadsAlone image count) image count first.0 first.1 in (
+    let more = map_keys (LeadsAlone image count) image count first.0 first.1.is_map in (
       more.0 ++ rest.0,
       λ shard m below is key some. elim (cases_eq count shard) as (λ _. Contains (more.0 ++ rest.0) key) [
         | inl same ↦ Contains-append_left more.0 rest.0 key (more.1 key (λ none.
-            some (one_map (LeadsAlone image count) (alone_once image count) image count m first.0 (subst (λ n. MapOf image n m) (sym same) is) first.1 key ∙ none)))
+            some (one_map_of image count m first.0 (subst (λ n. MapOf image n m) (sym same) is) first.1 key ∙ none)))
         | inr other ↦ Contains-append_right more.0 rest.0 key (rest.1 shard m (omega arith) is key some)
       ],
     )

@@ -56,7 +56,7 @@ module _ (image : Image) (rs : List (Request × Reply)) (v w : View) (request : 
   -- other shards have their maps
   other_gives : (shard : ℕ) (map : Map) → shard < shards → shard ≢ shard_asked request → MapOf image shard map → GivesMap w shard (after map (of_shard shard rs))
   other_gives shard map small differs is =
-      gives_others v w (shard_asked request) shard seat has.stands.only may.others (small_shard request) small differs (has.stands.all_roots shard (omega arith)) (after map (of_shard shard rs)) (has.gives shard map small is)
+      gives_others v w (shard_asked request) shard seat has.stands.only may.others (small_shard request) (sym (has.stands.kinds.each shard (omega arith)) ∙ is.kind_is) differs (has.stands.all_roots shard (omega arith)) (after map (of_shard shard rs)) (has.gives shard map small is)
 
   pub goes_on : (reply : Reply) → Answers request reply v w → HasAnswered image (rs ++ ((request, reply) ∷ [])) w
   goes_on reply answers = record {

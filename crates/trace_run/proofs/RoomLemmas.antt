@@ -17,7 +17,7 @@ use Rattle.heap_model.proofs.MemberLemmas.{in_none, in_head, in_rest, head_or_re
 use Rattle.dict_model.specs.Links.{shards}
 use Rattle.dict_model.specs.Nodes.{largest_value, shard_of, bucket_of, key_in, length_in, value_in, value_words, find}
 use Rattle.dict_model.specs.Shards.{Map, Leading, LeadsAlone, IsPath, but, IsMap, is_empty, has_table, MapOf, BadShard}
-use Rattle.dict_model.proofs.ShardLemmas.{find_first, find_behind, one_map, no_bad_place, alone_once}
+use Rattle.dict_model.proofs.ShardLemmas.{find_first, find_behind, one_map_of, no_bad_shard}
 use Rattle.dictionary.specs.Reading.{AreMaps}
 use Rattle.dict_model.specs.Requests.{Request, put}
 use Rattle.trace_text.specs.declared.request.Request.TheVariants.{Put, Get, Del}
@@ -141,9 +141,9 @@ module _ (image : Image) (requests : List Request) (maps : List (BTreeMap ℕ (L
       record {
         short = let puts = are.short key in let opened = opened_short (get nat_cmp m key) refl is_map in omega arith;
         of_image = λ shard other value small is_other found.
-            let is_value = map_value (LeadsAlone image shard) image shard other key value is_other found in
+            let is_value = map_value (LeadsAlone image shard) image shard other key value is_other.is_map found in
             let here : MapOf image (shard_of key) other = subst (λ n. MapOf image n other) (sym is_value.in_shard) is_other in
-            let one : get nat_cmp m key ≡ Some value = one_map (LeadsAlone image (shard_of key)) (alone_once image (shard_of key)) image (shard_of key) (get nat_cmp m) other is_map here key ∙ found in
+            let one : get nat_cmp m key ≡ Some value = one_map_of image (shard_of key) (get nat_cmp m) other is_map here key ∙ found in
             let known : length_in_map m key ≡ length value = ap length_of one in
             omega arith;
         of_trace = λ value among. let puts = are.holds key value among in omega arith;
@@ -151,7 +151,7 @@ module _ (image : Image) (requests : List Request) (maps : List (BTreeMap ℕ (L
         opened_short : (o : Option (List ℕ)) → get nat_cmp m key ≡ o → MapOf image (shard_of key) (get nat_cmp m) → length_of (get nat_cmp m key) ≤ largest_value
         opened_short None is is_map = let none : length_of (get nat_cmp m key) ≡ 0 = ap length_of is in omega arith
         opened_short (Some value) is is_map =
-            let short = (map_value (LeadsAlone image (shard_of key)) image (shard_of key) (get nat_cmp m) key value is_map is).short in
+            let short = (map_value (LeadsAlone image (shard_of key)) image (shard_of key) (get nat_cmp m) key value is_map.is_map is).short in
             let known : length_of (get nat_cmp m key) ≡ length value = ap length_of is in
             omega arith
 
@@ -159,4 +159,4 @@ module _ (image : Image) (requests : List Request) (maps : List (BTreeMap ℕ (L
 pub none_bad : (image : Image) (shard at : ℕ) → HasMaps image → shard < shards → BadShard image shard at → ⊥
 none_bad image shard at have small bad =
     let first = have.each shard small in
-    no_bad_place (LeadsAlone image shard) (alone_once image shard) image shard first.0 at first.1 bad
+    no_bad_shard image shard at first.0 first.1 bad

@@ -150,6 +150,7 @@ next_shard image qs left q replies v maps worked =
     let first = maps.each (shard_asked q) small in
     record {
       owned = worked.answered.stands.all_roots (shard_asked q) (omega arith);
+      kind_is = sym (worked.answered.stands.kinds.each (shard_asked q) (omega arith)) ∙ first.1.kind_is;
       only = worked.answered.stands.only;
       map = after first.0 (of_shard (shard_asked q) worked.rs);
       gives = worked.answered.gives (shard_asked q) first.0 small first.1;
