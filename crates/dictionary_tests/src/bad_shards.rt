@@ -35,7 +35,7 @@ const PLACES: [Place; 4] = [
 /// bytes.
 type Fault = (&'static str, &'static str, u64, &'static str);
 
-const FAULTS: [Fault; 9] = [
+const FAULTS: [Fault; 10] = [
     ("another bucket's", "@9296", 8, "9298 8"),
     ("another shard's", "@9296", 1, "9298 8"),
     ("too long", "@9296", 0, "9298 131073"),
@@ -44,7 +44,13 @@ const FAULTS: [Fault; 9] = [
     ("its own table", "@1096", 0, "9298 8"),
     ("met twice", "@9296", 0, "9298 8, 9296 @9296"),
     ("of two shards", "@9296", 0, "9298 8, root:1 @1224"),
-    ("of a root without kind", "@9296", 0, "9298 8, root:8 @9296"),
+    ("of root 8", "@9296", 0, "9298 8, root:8 @9296"),
+    (
+        "of a ninth table",
+        "@9296",
+        0,
+        "9298 8, root:8 @1224, 33872 1",
+    ),
 ];
 
 /// Sets a word of an image.
@@ -119,8 +125,9 @@ fn each_fault_is_told_at_its_link(rt: HostRuntime) -> Result<(), Fail> {
     Ok(())
 }
 
-/// The lowest shard that is bad, the word of its root, and the roots by which it is.
-const BAD_ROOTS: [(usize, u64, &str); 7] = [
+/// The lowest shard that is bad, the word of its root or of the kind of this, and the roots and
+/// kinds by which it is. Word 33,864 has the kind of root 0.
+const BAD_ROOTS: [(usize, u64, &str); 13] = [
     (0, 40, "root:0 @9288"),
     (0, 40, "root:0 @25672"),
     (0, 40, "root:0 @17480"),
@@ -128,6 +135,12 @@ const BAD_ROOTS: [(usize, u64, &str); 7] = [
     (0, 40, "root:8 @1096"),
     (7, 47, "root:7 @9296"),
     (1, 41, "root:7 @9296, root:1 @9292"),
+    (0, 40, "root:8 @1096, 33872 1"),
+    (0, 33_864, "33864 0"),
+    (0, 33_864, "33864 2"),
+    (0, 33_864, "33864 2, root:0 0"),
+    (7, 33_871, "33871 0"),
+    (1, 33_865, "33865 0, root:7 @9296"),
 ];
 
 /// What is told of all shards of the image with these roots.

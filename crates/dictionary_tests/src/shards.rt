@@ -1,4 +1,7 @@
 //! Shards read from hand-made images.
+ghost use Rattle.std.specs.Prelude.{IfOk, Some, slice_index};
+ghost use Rattle.heap_model.specs.Header.{HasKindsBelow};
+ghost use Rattle.dict_model.specs.Links.{kind_count};
 
 use crate::checks::must_hold;
 use crate::recoveries::{fault_in, first_fault_in, recovered};
@@ -23,7 +26,10 @@ fn image_with(alloc: Global, changes: &str) -> Result<Vec<u64>, Fail> {
 }
 
 /// The heap that recovery makes of it.
-fn heap_with(alloc: Global, changes: &str) -> Result<Recovered, Fail> {
+fn heap_with(alloc: Global, changes: &str) -> Result<Recovered, Fail>
+    ensures { IfOk result (λ heap.
+        HasKindsBelow (Some kind_count) (slice_index heap.heap.words)) }
+{
     recovered(alloc, &image_with(alloc, changes)?)
 }
 
@@ -39,18 +45,24 @@ fn has(map: &BTreeMap<u64, Bytes>, key: u64, bytes: &[u8]) -> bool {
 const TWO_KEYS: &str = "1080 @9276, 9276 @9272, 9277 1024, 9274 2, 9275 16961";
 
 /// Whether shard 0 is the map of these two.
-fn has_two_keys(alloc: Global, heap: &Recovered) -> Result<bool, MapFault> {
+fn has_two_keys(alloc: Global, heap: &Recovered) -> Result<bool, MapFault>
+    requires { HasKindsBelow (Some kind_count) (slice_index heap.now.heap.words) }
+{
     let map = read_map(alloc, heap, 0)?;
     Ok(map.len() == 2 && has(&map, 0, b"AB") && has(&map, 1_024, b""))
 }
 
 /// Whether shard 1 is an empty map.
-fn is_second_empty(alloc: Global, heap: &Recovered) -> Result<bool, MapFault> {
+fn is_second_empty(alloc: Global, heap: &Recovered) -> Result<bool, MapFault>
+    requires { HasKindsBelow (Some kind_count) (slice_index heap.now.heap.words) }
+{
     Ok(read_map(alloc, heap, 1)?.is_empty())
 }
 
 /// How many maps are read of all shards.
-fn map_count(alloc: Global, heap: &Recovered) -> Result<usize, MapFault> {
+fn map_count(alloc: Global, heap: &Recovered) -> Result<usize, MapFault>
+    requires { HasKindsBelow (Some kind_count) (slice_index heap.now.heap.words) }
+{
     Ok(read_maps(alloc, heap)?.len())
 }
 
@@ -103,7 +115,10 @@ fn a_root_of_another_kind_makes_its_shard_bad(rt: HostRuntime) -> Result<(), Fai
 
 /// The image of the old version, which ends with its second superblock, and what recovery makes of
 /// it with kinds of roots that have no links.
-fn recovered_without_links(alloc: Global) -> Result<Recovered, Fail> {
+fn recovered_without_links(alloc: Global) -> Result<Recovered, Fail>
+    ensures { IfOk result (λ heap.
+        HasKindsBelow (Some kind_count) (slice_index heap.heap.words)) }
+{
     let image = image_with(alloc, "1 1, 1080 @9272")?;
     let old = image.get(..17_464).unwrap_or(&[]);
     Ok(recover(alloc, old, &[OTHER; 1_024], &DictFilter)?)

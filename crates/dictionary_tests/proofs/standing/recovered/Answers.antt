@@ -1,4 +1,5 @@
 use Rattle.std.proofs.Common.{slice_index}
+use Rattle.region_header.specs.Migration.{current_words}
 use Rattle.dictionary_tests.proofs.OpeningLemmas.{dictionary_of}
 use Rattle.dictionary_tests.proofs.standing.recovered.Goals as goal
 
@@ -6,5 +7,5 @@ pub returns : goal.returns
 returns c =
     let answer = c.in_ok-recovered.recovered in
     let told = c.in_ok-recovered.ensures in
-    dictionary_of (slice_index c.args.image.now) (slice_index answer.heap.words) c.root_kinds.result answer.heap.held c.in_ok-read_maps.field-0.items
-    c.root_kinds.ensures.kinds told.held told.words told.none c.in_ok-read_maps.ensures.ready.blocks c.in_ok-read_maps.ensures.ok
+    dictionary_of (slice_index (current_words c.args.image.now c.root_kinds.result)) (slice_index answer.heap.words) answer.heap.held c.in_ok-read_maps.field-0.items
+    told.formed.used told.held told.words told.none c.in_ok-read_maps.ensures.ready.blocks told.kinds c.in_ok-read_maps.ensures.ok
