@@ -1,10 +1,10 @@
 -- What recovery leaves of an image is a dictionary where each shard was read as a map; a heap that is opened over it has its shards, and requests go on.
-use Rattle.std.proofs.Common.{◌≡◌, ℕ, ◌<◌, ◌≤◌, List, Some, Contains, sym, ◌∙◌, arith, slice_index}
+use Rattle.std.proofs.Common.{◌≡◌, ℕ, ◌<◌, List, Some, Contains, sym, ◌∙◌, arith, slice_index}
 use Rattle.std.specs.BTreeMap.{BTreeMap}
 use Rattle.heap_model.specs.declared.block.Block.{Block}
 use Rattle.heap_model.specs.Blocks.{layout_of, IsBlock}
 use Rattle.heap_model.specs.Image.{Image}
-use Rattle.heap_model.specs.Header.{capacity_of, used_of, HasKindsBelow}
+use Rattle.heap_model.specs.Header.{HasKindsBelow}
 use Rattle.heap_model.specs.Reach.{IsReachedIn, IsOutsideIn}
 use Rattle.heap_model.specs.Recovered.{AreAscending}
 use Rattle.heap_model.specs.Recovery.{IsRecovered}
@@ -23,15 +23,15 @@ use Rattle.trace_run.proofs.OpenedLemmas.{run_begins}
 use Rattle.trace_run.proofs.RecoveredLemmas.{recovered_dictionary}
 
 -- what recovery promises of an image of the version, with the dictionary's filter, and what the reading of the maps does
-pub dictionary_of : (old new : Image) (held : List Block) (maps : List (BTreeMap ℕ (List ℕ))) → used_of old ≤ capacity_of old
+pub dictionary_of : (old new : Image) (held : List Block) (maps : List (BTreeMap ℕ (List ℕ)))
     → AreAscending (λ (b : Block). b.first_word) (IsReachedIn old dict_links) held
     → IsRecovered old new (IsReachedIn old dict_links)
     → ((at : ℕ) → IsOutsideIn old dict_links at → ⊥)
     → ((b : Block) → Contains held b → IsBlock (layout_of new) b)
     → HasKindsBelow (Some kind_count) new
     → AreMaps new shards maps → IsDictionary new (Contains held)
-dictionary_of old new held maps used ascending words none blocks kinds are =
-    recovered_dictionary old new (recovers_to old new used words none (λ b reached. blocks b (ascending.complete b reached))) held ascending maps kinds are
+dictionary_of old new held maps ascending words none blocks kinds are =
+    recovered_dictionary old new (recovers_to old new words none (λ b reached. blocks b (ascending.complete b reached))) held ascending maps kinds are
 
 -- a heap that was opened over a dictionary has its shards
 pub opened_shards : (words : List ℕ) (held : List Block) (budget : ℕ) (s : SeqState) → IsOpened words held budget s → IsDictionary (slice_index words) (Contains held)
