@@ -204,11 +204,3 @@ row_whole v w words row clear = record {
     | inl some ↦ some
     | inr left ↦ absurd (true≢false (sym left ∙ clear k))
   ]
-
--- one mark less
-pub fewer_marks : (marks : List Bool) (k : ℕ) → get_or marks k false ≡ true → mark_count (set marks k false) < mark_count marks
-fewer_marks [] k is = absurd (true≢false (sym is))
-fewer_marks (true ∷ marks) zero is = omega arith
-fewer_marks (false ∷ marks) zero is = absurd (true≢false (sym is))
-fewer_marks (true ∷ marks) (suc k) is = let rest = fewer_marks marks k is in omega arith
-fewer_marks (false ∷ marks) (suc k) is = fewer_marks marks k is

@@ -1,9 +1,10 @@
 use Rattle.std.proofs.Common.{[], ap, sym, subst, refl, ◌∙◌, arith}
 use Rattle.line_memory.specs.Marks.{mark_count}
+use Rattle.line_memory.proofs.MarkLemmas.{fewer_marks}
 use Rattle.heap_rule.specs.Fences.{IsSeatFence}
 use Rattle.heap_table.specs.SeatViews.{view_in}
 use Rattle.heap_rule.specs.Seated.{SeatView}
-use Rattle.heap_rule.proofs.FenceLemmas.{IsRow, row_start, row_step, row_whole, settles_at, fewer_marks}
+use Rattle.heap_rule.proofs.FenceLemmas.{IsRow, row_start, row_step, row_whole, settles_at}
 use Rattle.heap_rule.proofs.seat.Seat.fence.Goals as goal
 
 pub loop-word-init : goal.loop-word-init
