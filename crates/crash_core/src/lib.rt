@@ -35,7 +35,7 @@ pub use crash::crash_image;
 pub use heads::{head_after_pop, head_after_push, head_first};
 pub use heap_core::Core;
 pub use laws::a_core_stands_for_a_sound_state;
-pub use opened::{NEW_SEAT, block_owners, superblock_owners};
+pub use opened::{NEW_SEAT, superblock_owners};
 pub use opening::{Owners, opened_table};
 pub use own_words::part_at;
 pub use owners::{BlockOwner, BlockPlace, Cache, Group, SeatNotes, Seen, Share, SuperblockOwner};

@@ -66,7 +66,7 @@ pub(crate) fn opened_core(
 }
 
 /// Whose each small block is, where the held blocks belong to these seats.
-pub fn block_owners(
+pub(crate) fn block_owners(
     alloc: Global,
     heap: &Ready,
     owners: &[u32],

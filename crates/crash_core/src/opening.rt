@@ -56,7 +56,8 @@ pub fn opened_table(alloc: Global, heap: &Ready) -> Result<Vec<u64>, AllocError>
         ≡ (opened_state (setup_of heap.now.words budget seats) heap.now.held
         owners.held owners.roots seats).words) }
 {
-    let mut table = Vec::new(alloc);
+    let length = heap.words().len();
+    let mut table = Vec::with_capacity(alloc, 2 * length + 1)?;
     table.extend_from_slice(heap.words())?;
     table.extend_from_slice(heap.words())?;
     table.push(0)?;
