@@ -37,11 +37,11 @@ module _ (image : Image) (kinds : ℕ → ℕ) (links : Links) (same : (i : ℕ)
   tells_stored Memory told = tt
 
 -- recovery leaves the kinds of roots, so they stay below a limit
-pub kinds_left : (limit : Option ℕ) (bytes : ℕ) (old new : Image) (kept : Block → Type 0) → IsWellFormed bytes old → IsRecovered old new kept
+pub kinds_left : (limit : Option ℕ) (old new : Image) (kept : Block → Type 0) → IsRecovered old new kept
     → HasKindsBelow limit old → HasKindsBelow limit new
-kinds_left None bytes old new kept formed recovered below = tt
-kinds_left (Some most) bytes old new kept formed recovered below = λ i less.
+kinds_left None old new kept recovered below = tt
+kinds_left (Some most) old new kept recovered below = λ i less.
     let capacity = recovered.same capacity_word (in_header capacity_word (inr (inr (inl refl)))) in
-    let kind = ap (λ c. new (kind_word c i)) capacity ∙ kinds_unchanged old new kept recovered formed.used i less in
+    let kind = ap (λ c. new (kind_word c i)) capacity ∙ kinds_unchanged old new kept recovered i less in
     let small = below i less in
     omega (arith, kind)

@@ -53,8 +53,8 @@ pub returns-clause-kinds : goal.returns-clause-kinds
 returns-clause-kinds g c =
     let image = slice_index c.args.words.items in
     let links = g.F.Filter.links_of c.args.filter.now in
-    kinds_left (Some g.F.Filter.KINDS) (8 * length c.args.words.items) image (slice_index c.in_ok-recovered.recovered.heap.words) (IsReachedIn image links)
-    c.requires.formed (returns-clause-ok g c).recovered c.requires.below
+    kinds_left (Some g.F.Filter.KINDS) image (slice_index c.in_ok-recovered.recovered.heap.words) (IsReachedIn image links)
+    (returns-clause-ok g c).recovered c.requires.below
 
 pub returns-clause-none : goal.returns-clause-none
 returns-clause-none g c at out =
