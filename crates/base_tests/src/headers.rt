@@ -2,25 +2,27 @@
 ghost use Rattle.std.specs.Prelude.{◌≤◌};
 
 use crate::asserts::{count_of, must_hold};
-use image_text::image_of;
+use image_text::{image_of, old_image_of};
 use region_header::{
     BadHeader, Header, bytes_to_words, check_bytes, format, read_header, words_to_bytes,
 };
 use std::alloc::{AllocError, Global};
 use std::process::Abort;
 use std::test::Fail;
+use super_block::OLD_VERSION;
 
 /// An empty image of so many superblocks.
 #[tactic(auto, unfolding(heap_model::specs::Geometry::largest_capacity))]
 fn empty(alloc: Global, capacity: u64) -> Result<Vec<u64>, AllocError>
     requires some { 1 ≤ capacity }
-    requires small { capacity ≤ 256 }
+    requires small { capacity ≤ 4096 }
 {
     format(alloc, capacity)
 }
 
 /// Asserts that an empty image of so many superblocks has so many words and bytes, the header of
-/// one, and no word that is not 0 beside the mark, the version, the capacity and the state.
+/// one, and no word that is not 0 beside the mark, the version, the capacity, the state and the
+/// kinds of eight roots.
 fn must_be_empty(
     rt: &(impl Abort + AllocGlobal),
     capacity: u64,
@@ -28,7 +30,7 @@ fn must_be_empty(
     bytes: usize,
 ) -> Result<(), Fail>
     requires some { 1 ≤ capacity }
-    requires small { capacity ≤ 256 }
+    requires small { capacity ≤ 4096 }
 {
     let image = empty(rt.alloc(), capacity)?;
     must_hold(rt, image.len() == words, "words");
@@ -40,13 +42,14 @@ fn must_be_empty(
 /// Asserts that the words are the header of so many superblocks, and zeros.
 fn must_have_no_more(rt: &impl Abort, image: &[u64], capacity: u64) {
     let header = Header {
+        version: 2,
         capacity,
         clean: true,
         used: 0,
     };
-    must_hold(rt, read_header(image) == Ok(header), "the header");
+    must_hold(rt, read_header(image, Some(2)) == Ok(header), "the header");
     let filled = image.len().wrapping_sub(count_of(image, 0));
-    must_hold(rt, filled == 4, "words that are not 0");
+    must_hold(rt, filled == 12, "words that are not 0");
 }
 
 /// Asserts that the image has so many bytes, which begin with the mark's text.
@@ -63,14 +66,21 @@ fn must_fill(
 
 #[test]
 fn an_empty_image_has_the_size_of_its_capacity(rt: HostRuntime) -> Result<(), Fail> {
-    must_be_empty(&rt, 1, 9_264, 74_112)?;
-    must_be_empty(&rt, 2, 17_464, 139_712)?;
-    must_be_empty(&rt, 4, 33_864, 270_912)?;
-    must_be_empty(&rt, 256, 2_100_264, 16_802_112)
+    must_be_empty(&rt, 1, 10_288, 82_304)?;
+    must_be_empty(&rt, 2, 18_488, 147_904)?;
+    must_be_empty(&rt, 4, 34_888, 279_104)?;
+    must_be_empty(&rt, 257, 2_109_488, 16_875_904)
+}
+
+#[test]
+fn the_largest_image_has_its_size(rt: HostRuntime) -> Result<(), Fail> {
+    let image = empty(rt.alloc(), 4_096)?;
+    must_hold(&rt, image.len() == 33_589_288, "words");
+    Ok(())
 }
 
 /// What is told of a header, as `1 clean 0`: the capacity, the state and how many superblocks are
-/// taken; or the name of the fault.
+/// taken, and `old` of one of the old version; or the name of the fault.
 fn told(alloc: Global, found: Result<Header, BadHeader>) -> Result<String, AllocError> {
     match found {
         Ok(header) => told_header(alloc, header),
@@ -80,7 +90,12 @@ fn told(alloc: Global, found: Result<Header, BadHeader>) -> Result<String, Alloc
 
 fn told_header(alloc: Global, header: Header) -> Result<String, AllocError> {
     let state = if header.clean { "clean" } else { "dirty" };
-    format!(in alloc; "{} {state} {}", header.capacity, header.used)
+    let age = if header.version == OLD_VERSION {
+        " old"
+    } else {
+        ""
+    };
+    format!(in alloc; "{} {state} {}{age}", header.capacity, header.used)
 }
 
 /// Asserts that this is told.
@@ -103,13 +118,15 @@ const TOLD: &str = "
 0 5927102475227312178 => Magic
 0 3544406914602123602 => Magic
 1 0 => Version
-1 1 => 1 clean 0
-1 2 => Version
+1 1 => Length
+1 2 => 1 clean 0
+1 3 => Version
 2 0 => Capacity
 2 1 => 1 clean 0
 2 2 => Length
-2 256 => Length
-2 257 => Capacity
+2 257 => Length
+2 4096 => Length
+2 4097 => Capacity
 state 0 => State
 state 1 => 1 clean 0
 state 2 => 1 dirty 0
@@ -124,37 +141,116 @@ state 1, used 2 => Used
 state 2, used 1 => 1 dirty 1
 ";
 
-/// Asserts what a row tells.
-#[tactic(auto, unfolding(heap_model::specs::Geometry::largest_capacity))]
+/// The same of an empty image of the old version.
+const OLD_TOLD: &str = "
+0 5927102475227312178 => Magic
+1 0 => Version
+1 1 => 1 clean 0 old
+1 2 => Length
+1 3 => Version
+2 0 => Capacity
+2 2 => Length
+2 256 => Length
+2 257 => Capacity
+2 4096 => Capacity
+state 2 => 1 dirty 0 old
+state 3 => State
+used 1 => 1 clean 1 old
+used 2 => Used
+";
+
+/// The same of kinds of roots, where the limit is 3.
+const KINDS_TOLD: &str = "
+kind:0 2 => 1 clean 0
+kind:0 3 => Kind
+kind:0 18446744073709551615 => Kind
+kind:500 3 => Kind
+kind:1023 2 => 1 clean 0
+kind:1023 3 => Kind
+# It is the last cause, of kinds alone.
+kind:1023 3, used 2 => Used
+10287 3 => Kind
+9264 3 => Kind
+9263 3 => 1 clean 0
+";
+
+/// Asserts what is told of these words, and of their bytes, with this limit of kinds.
 fn must_tell_of_both(
+    rt: &(impl Abort + AllocGlobal),
+    words: &[u64],
+    kinds: Option<u32>,
+    wanted: &str,
+    case: &str,
+) -> Result<(), Fail> {
+    must_tell(rt, read_header(words, kinds), wanted, case)?;
+    let bytes = words_to_bytes(rt.alloc(), words)?;
+    must_tell(rt, check_bytes(bytes.as_slice(), kinds), wanted, case)
+}
+
+/// Asserts what a row tells of an image of one superblock.
+#[tactic(auto, unfolding(heap_model::specs::Geometry::largest_capacity))]
+fn must_tell_row(
+    rt: &(impl Abort + AllocGlobal),
+    changes: &str,
+    kinds: Option<u32>,
+    wanted: &str,
+) -> Result<(), Fail> {
+    let words = image_of(rt.alloc(), 1, changes)?;
+    must_tell_of_both(rt, &words, kinds, wanted, changes)
+}
+
+/// Asserts what a row tells of one of the old version, whatever the limit of kinds is.
+#[tactic(auto, unfolding(heap_model::specs::Geometry::largest_capacity))]
+fn must_tell_old_row(
     rt: &(impl Abort + AllocGlobal),
     changes: &str,
     wanted: &str,
 ) -> Result<(), Fail> {
-    let words = image_of(rt.alloc(), 1, changes)?;
-    must_tell(rt, read_header(&words), wanted, changes)?;
-    must_tell_of_file(rt, &words, wanted, changes)
-}
-
-/// Asserts that this is told of the bytes of these words.
-fn must_tell_of_file(
-    rt: &(impl Abort + AllocGlobal),
-    words: &[u64],
-    wanted: &str,
-    case: &str,
-) -> Result<(), Fail> {
-    let bytes = words_to_bytes(rt.alloc(), words)?;
-    must_tell(rt, check_bytes(bytes.as_slice()), wanted, case)
+    let words = old_image_of(rt.alloc(), 1, changes)?;
+    must_tell_of_both(rt, &words, None, wanted, changes)?;
+    must_tell_of_both(rt, &words, Some(0), wanted, changes)
 }
 
 #[test]
 fn the_first_cause_is_told_where_it_holds_and_not_beside_it(rt: HostRuntime) -> Result<(), Fail> {
     for line in TOLD.split('\n') {
         if let Some((changes, wanted)) = line.split_once(" => ") {
-            must_tell_of_both(&rt, changes, wanted)?;
+            must_tell_row(&rt, changes, None, wanted)?;
         }
     }
     Ok(())
+}
+
+#[test]
+fn the_old_version_has_its_own_limits(rt: HostRuntime) -> Result<(), Fail> {
+    for line in OLD_TOLD.split('\n') {
+        if let Some((changes, wanted)) = line.split_once(" => ") {
+            must_tell_old_row(&rt, changes, wanted)?;
+        }
+    }
+    Ok(())
+}
+
+#[test]
+fn a_kind_at_the_limit_is_told(rt: HostRuntime) -> Result<(), Fail> {
+    for line in KINDS_TOLD.split('\n') {
+        if let Some((changes, wanted)) = line.split_once(" => ") {
+            must_tell_row(&rt, changes, Some(3), wanted)?;
+        }
+    }
+    Ok(())
+}
+
+#[test]
+fn kinds_have_no_limit_where_none_is_given(rt: HostRuntime) -> Result<(), Fail> {
+    must_tell_row(
+        &rt,
+        "kind:0 3, kind:1023 18446744073709551615",
+        None,
+        "1 clean 0",
+    )?;
+    must_tell_row(&rt, "kind:0 3", Some(u32::MAX), "1 clean 0")?;
+    must_tell_row(&rt, "", Some(1), "Kind")
 }
 
 /// Asserts that this is told of an empty image of one superblock, cut or filled to so many bytes.
@@ -165,7 +261,7 @@ fn must_tell_of_bytes(
 ) -> Result<(), Fail> {
     let mut bytes = words_to_bytes(rt.alloc(), &empty(rt.alloc(), 1)?)?.into_vec();
     bytes.resize(length, 0)?;
-    must_tell(rt, check_bytes(&bytes), wanted, wanted)
+    must_tell(rt, check_bytes(&bytes, None), wanted, wanted)
 }
 
 /// Asserts the same of so many words.
@@ -176,26 +272,56 @@ fn must_tell_of_words(
 ) -> Result<(), Fail> {
     let mut words = empty(rt.alloc(), 1)?;
     words.resize(length, 0)?;
-    must_tell(rt, read_header(&words), wanted, wanted)
+    must_tell(rt, read_header(&words, None), wanted, wanted)
 }
 
 /// Numbers of bytes, and what is told.
-const BYTES_TOLD: [(usize, &str); 6] = [
+const BYTES_TOLD: [(usize, &str); 7] = [
     (0, "Short"),
     (8_511, "Short"),
     (8_512, "Length"),
-    (74_111, "Length"),
-    (74_112, "1 clean 0"),
-    (74_120, "Length"),
+    (74_112, "Length"),
+    (82_303, "Length"),
+    (82_304, "1 clean 0"),
+    (82_312, "Length"),
 ];
 
 /// Numbers of words, and what is told.
 const WORDS_TOLD: [(usize, &str); 4] = [
     (1_063, "Short"),
     (1_064, "Length"),
-    (9_263, "Length"),
-    (9_265, "Length"),
+    (10_287, "Length"),
+    (10_289, "Length"),
 ];
+
+/// The same of one of the old version.
+const OLD_BYTES_TOLD: [(usize, &str); 4] = [
+    (8_511, "Short"),
+    (74_111, "Length"),
+    (74_112, "1 clean 0 old"),
+    (82_304, "Length"),
+];
+
+/// Asserts that this is told of an empty image of one superblock of the old version, cut or filled
+/// to so many bytes.
+#[tactic(auto, unfolding(heap_model::specs::Geometry::largest_capacity))]
+fn must_tell_of_old_bytes(
+    rt: &(impl Abort + AllocGlobal),
+    length: usize,
+    wanted: &str,
+) -> Result<(), Fail> {
+    let mut bytes = words_to_bytes(rt.alloc(), &old_image_of(rt.alloc(), 1, "")?)?.into_vec();
+    bytes.resize(length, 0)?;
+    must_tell(rt, check_bytes(&bytes, None), wanted, wanted)
+}
+
+#[test]
+fn a_file_of_the_old_version_has_its_own_length(rt: HostRuntime) -> Result<(), Fail> {
+    for (length, wanted) in OLD_BYTES_TOLD {
+        must_tell_of_old_bytes(&rt, length, wanted)?;
+    }
+    Ok(())
+}
 
 #[test]
 fn a_file_of_another_length_is_refused(rt: HostRuntime) -> Result<(), Fail> {

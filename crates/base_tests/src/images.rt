@@ -7,6 +7,7 @@ use image_text::{image_of, number};
 use region_header::read_header;
 use std::alloc::Global;
 use std::test::Fail;
+use super_block::VERSION;
 
 /// An empty image of up to four superblocks with these changes (`image_text`), whose header is good.
 #[tactic(auto, unfolding(heap_model::specs::Geometry::largest_capacity))]
@@ -19,14 +20,14 @@ pub fn good_image(alloc: Global, capacity: u64, changes: &str) -> Result<Vec<u64
     checked(image_of(alloc, capacity, changes)?)
 }
 
-/// The image, if its header is good.
+/// The image, if its header is a good one of this version.
 pub fn checked(words: Vec<u64>) -> Result<Vec<u64>, Fail>
     ensures { IfOk result
         (λ image. IsWellFormed (8 * length image.items) (slice_index image.items)) }
 {
-    match read_header(&words) {
-        Ok(_) => Ok(words),
-        Err(_) => Err("a bad header".into()),
+    match read_header(&words, None) {
+        Ok(header) if header.version == VERSION => Ok(words),
+        _ => Err("a bad header".into()),
     }
 }
 

@@ -12,6 +12,8 @@ mod headers;
 #[cfg(test)]
 mod images;
 #[cfg(test)]
+mod migrations;
+#[cfg(test)]
 mod plain_memory;
 #[cfg(test)]
 mod pointers;

@@ -31,10 +31,11 @@ fn must_measure(rt: &impl Abort, capacity: u64, words: u64, start_byte: u64)
 #[tactic(auto, unfolding(heap_model::specs::Geometry::largest_capacity))]
 #[test]
 fn an_image_has_the_length_of_its_capacity(rt: HostRuntime) {
-    must_measure(&rt, 1, 9_264, 8_576);
-    must_measure(&rt, 2, 17_464, 8_640);
-    must_measure(&rt, 4, 33_864, 8_768);
-    must_measure(&rt, 256, 2_100_264, 24_896);
+    must_measure(&rt, 1, 10_288, 8_576);
+    must_measure(&rt, 2, 18_488, 8_640);
+    must_measure(&rt, 4, 34_888, 8_768);
+    must_measure(&rt, 256, 2_101_288, 24_896);
+    must_measure(&rt, 4_096, 33_589_288, 270_656);
 }
 
 /// Asserts where the descriptor of superblock d of four stands, and where the superblock begins.
@@ -47,6 +48,15 @@ fn must_stand(rt: &impl Abort, d: u64, info: u64, start: u64)
     must_hold(rt, geometry.anchor(d) == info.wrapping_add(1), "the anchor");
     must_hold(rt, geometry.link(d) == info.wrapping_add(2), "the link");
     must_hold(rt, geometry.start(d) == start, "the start");
+}
+
+#[tactic(auto, unfolding(heap_model::specs::Geometry::largest_capacity))]
+#[test]
+fn the_kinds_of_the_roots_stand_behind_the_superblocks(rt: HostRuntime) {
+    let geometry = Geometry::new(2);
+    must_hold(&rt, geometry.old_length() == 17_464, "the first");
+    must_hold(&rt, geometry.kind(0) == 17_464, "of root 0");
+    must_hold(&rt, geometry.kind(1_023) == 18_487, "of root 1023");
 }
 
 #[tactic(auto, unfolding(heap_model::specs::Geometry::largest_capacity))]
@@ -121,10 +131,10 @@ fn an_empty_heap_is_made_and_taken_apart(rt: HostRuntime) -> Result<(), Fail> {
     an_empty_heap_is_ready();
     let heap = Ready::new(format(rt.alloc(), 1)?, Vec::new(rt.alloc()));
     must_hold(&rt, heap.geometry().capacity() == 1, "the capacity");
-    must_hold(&rt, heap.words().len() == 9_264, "the words");
+    must_hold(&rt, heap.words().len() == 10_288, "the words");
     must_hold(&rt, heap.held().is_empty(), "nothing is held");
     let (words, held) = heap.into_parts();
-    must_hold(&rt, words.len() == 9_264, "the words apart");
+    must_hold(&rt, words.len() == 10_288, "the words apart");
     must_hold(&rt, held.is_empty(), "nothing is held apart");
     Ok(())
 }

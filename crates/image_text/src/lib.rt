@@ -4,5 +4,5 @@
 mod image;
 mod place;
 
-pub use image::{change, image_of};
+pub use image::{change, image_of, old_image_of};
 pub use place::{anchor_word, info_word, link_word, number};
