@@ -1,7 +1,7 @@
 //! Images of both versions, and the kinds of roots, which version 2 stores. Word 1 has the version,
-//! and word 2 the capacity. An image of version 1 is one of version 2 that ends with its last
-//! superblock: 74,112 bytes for one, 139,712 for two. The kinds stand behind the superblocks: from
-//! word 9,264 on behind one, from 17,464 on behind two.
+//! and word 2 the capacity. An image of version 1 is told as one of version 2 in which word 1 is 1,
+//! and that is cut behind its last superblock: 74,112 bytes for one, 139,712 for two. The kinds
+//! stand there: from word 9,264 on behind one superblock, from 17,464 on behind two.
 use crate::harness::{NO_CALL, must_hold, numbered, store, store_with, word};
 use crate::images::image_bytes;
 use crate::session::{play, shows_each, shows_rows};
