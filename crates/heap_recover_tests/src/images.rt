@@ -7,7 +7,7 @@ use crate::pairs::{Pairs, kinds};
 use crate::rest_check::{is_at_rest, start};
 use crate::words::write;
 use heap_recover::{RecoverFault, Recovered, Was, recover};
-use image_text::{change, image_of, info_word, number};
+use image_text::{change, image_of, info_word, number, old_image_of};
 use region_header::BadHeader;
 use size_table::{SizeClass, blocks_of};
 use std::alloc::{AllocError, Global};
@@ -15,17 +15,39 @@ use std::process::Abort;
 use std::test::Fail;
 use super_block::{Block, LAST_CLASS, block_words};
 
-/// An empty image of one or two superblocks with these changes.
+/// An empty image of one or two superblocks with these changes, in which root 0 leads to a pair for
+/// its first link, and the other roots have the kinds of an empty image.
 #[tactic(auto, unfolding(heap_model::specs::Geometry::largest_capacity))]
 fn changed(alloc: Global, superblocks: u64, changes: &str) -> Result<Vec<u64>, Fail> {
     if superblocks == 0 || superblocks > 2 {
         return Err("no image".into());
     }
-    image_of(alloc, superblocks, changes)
+    let mut image = image_of(alloc, superblocks, "kind:0 2")?;
+    change(&mut image, changes)?;
+    Ok(image)
 }
 
-/// Recovers the image, as one of pairs.
+/// The same of the old version.
+#[tactic(auto, unfolding(heap_model::specs::Geometry::largest_capacity))]
+fn changed_old(alloc: Global, superblocks: u64, changes: &str) -> Result<Vec<u64>, Fail> {
+    if superblocks == 0 || superblocks > 2 {
+        return Err("no image".into());
+    }
+    old_image_of(alloc, superblocks, changes)
+}
+
+/// Recovers an image that stores the kinds of its roots, as one of pairs: what is given for kinds
+/// counts for nothing.
 fn recovered(alloc: Global, image: &[u64]) -> Result<Result<Recovered, RecoverFault>, AllocError> {
+    let kinds = vec![in alloc; 0; 1_024]?;
+    Ok(recover(alloc, image, &kinds, &Pairs))
+}
+
+/// Recovers an image of the old version, as one of pairs: root 0 and root 1 lead to a pair.
+fn recovered_old(
+    alloc: Global,
+    image: &[u64],
+) -> Result<Result<Recovered, RecoverFault>, AllocError> {
     let kinds = kinds(alloc)?;
     Ok(recover(alloc, image, &kinds, &Pairs))
 }
@@ -101,6 +123,14 @@ fn recover_row(rt: &(impl Abort + AllocGlobal), row: &str) -> Result<(), Fail> {
     must_be_left(rt, &found, row)
 }
 
+/// Recovers the same image of the old version.
+fn recover_old_row(rt: &(impl Abort + AllocGlobal), row: &str) -> Result<(), Fail> {
+    let image = changed_old(rt.alloc(), number(column(row, 0))?, column(row, 1))?;
+    let found = recovered_old(rt.alloc(), &image)??;
+    must_hold(rt, found.heap.words().get(1) == Some(&2), "the version");
+    must_be_left(rt, &found, row)
+}
+
 /// How many superblocks an image has, in which words it differs from an empty one, whether it was
 /// closed, the blocks and the superblock that are held and free after recovery, and words that the
 /// heap has then. Blocks of class 20 begin at words 1,072, 2,864, 4,656 and 6,448 of one superblock,
@@ -144,7 +174,27 @@ fn reached_blocks_are_held_and_all_else_is_free(rt: HostRuntime) -> Result<(), F
     for row in LEFT.trim().split('\n') {
         if !row.starts_with('#') {
             recover_row(&rt, row)?;
+            recover_old_row(&rt, row)?;
         }
+    }
+    Ok(())
+}
+
+/// The same of images in which other kinds are stored: the first block is reached through root 0,
+/// and as a block of another kind its other link counts, or none.
+const OF_KINDS: &str = "
+1 | used 1, info:0 2, root:0 @1072, 1072 @1076, 1074 @1080 | Clean | 1072/4 1076/4 | - | kind:0 2
+1 | used 1, info:0 2, root:0 @1072, 1072 @1076, 1074 @1080, kind:0 1 | \
+    Clean | 1072/4 1080/4 | - | kind:0 1
+1 | used 1, info:0 2, root:0 @1072, 1072 @1076, 1074 @1080, kind:0 0 | Clean | 1072/4 | - | kind:0 0
+1 | used 1, info:0 2, root:1023 @1072, 1072 @1076, 1074 @1080, kind:1023 2 | \
+    Clean | 1072/4 1076/4 | - | kind:1023 2, kind:1 1
+";
+
+#[test]
+fn the_kinds_that_an_image_stores_are_traced(rt: HostRuntime) -> Result<(), Fail> {
+    for row in OF_KINDS.trim().split('\n') {
+        recover_row(&rt, row)?;
     }
     Ok(())
 }
@@ -188,6 +238,12 @@ fn the_first_cause_of_a_bad_header_is_told(rt: HostRuntime) -> Result<(), Fail> 
         1,
         "used 2, root:0 7",
         RecoverFault::Header(BadHeader::Used),
+    )?;
+    must_refuse(
+        &rt,
+        1,
+        "used 1, root:0 7, kind:1023 3",
+        RecoverFault::Header(BadHeader::Kind),
     )
 }
 
@@ -218,7 +274,7 @@ fn held_at_rest(
     requires some { 1 ≤ capacity }
     requires small { capacity ≤ 256 }
 {
-    let mut image = image_of(rt.alloc(), capacity, "")?;
+    let mut image = image_of(rt.alloc(), capacity, "kind:0 2")?;
     write(&mut image, &[(8, capacity)]);
     write(&mut image, words);
     let found = recovered(rt.alloc(), &image)??;

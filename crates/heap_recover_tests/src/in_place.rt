@@ -1,6 +1,6 @@
 //! A recovery made in place with so many steps, and what a crash leaves of it.
-ghost use Rattle.std.specs.Prelude.{◌≡◌, ◌<◌, All, length};
-ghost use Rattle.heap_model.specs.Geometry.{roots};
+ghost use Rattle.std.specs.Prelude.{◌≡◌, ◌↔◌, ◌<◌, All, IsTrue, length, slice_index};
+ghost use Rattle.heap_model.specs.Geometry.{roots, version, version_word};
 
 use crate::words::{has_words, write};
 use filter_trace::Filter;
@@ -8,7 +8,7 @@ use heap_recover::{Recovered, rebuild, recover};
 use line_memory::{Closed, ConstantChance, PlainMemory};
 use std::alloc::Global;
 use std::test::Fail;
-use super_block::{Block, DIRTY};
+use super_block::{Block, DIRTY, VERSION, VERSION_WORD};
 
 /// What a recovery in place has come to: what it recovers, and what loads then see and is durable.
 #[derive(Drop)]
@@ -19,7 +19,7 @@ pub struct InPlace {
     pub stopped: bool,
 }
 
-/// Recovers the image in place with so many steps.
+/// Recovers the image, which is of this version, in place with so many steps.
 pub fn recover_in_place<F: Filter>(
     alloc: Global,
     image: &[u64],
@@ -31,6 +31,9 @@ pub fn recover_in_place<F: Filter>(
     requires roots { length kinds.now ≡ roots }
     requires kinds { All (λ kind. kind < F.KINDS) kinds.now }
 {
+    if !is_current(image) {
+        return Err("no image of this version".into());
+    }
     let found = recover(alloc, image, kinds, filter)?;
     let words = Vec::from_slice(alloc, image)?;
     let mut memory = PlainMemory::new(alloc, words, budget, chance)?;
@@ -42,6 +45,13 @@ pub fn recover_in_place<F: Filter>(
         kept,
         stopped,
     })
+}
+
+/// Whether the image is of this version.
+fn is_current(image: &[u64]) -> bool
+    ensures { IsTrue result ↔ (slice_index image.now version_word ≡ version) }
+{
+    image.len() > VERSION_WORD as usize && image[VERSION_WORD as usize] == VERSION
 }
 
 /// The image that a crash leaves of durable words: its heads, and the anchors and links of so many

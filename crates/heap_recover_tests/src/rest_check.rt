@@ -5,7 +5,7 @@ use region_header::read_header;
 use size_table::{SizeClass, blocks_of};
 use super_block::{
     Block, CAPACITY_WORD, DESCRIPTOR_WORDS, FIXED_WORDS, HEAD_WORD, Info, LISTS, SUPERBLOCK_WORDS,
-    USED_WORD, block_words,
+    USED_WORD, VERSION, block_words,
 };
 
 fn word(words: &[u64], at: u64) -> u64 {
@@ -165,7 +165,7 @@ pub fn is_at_rest(recovered: &Recovered) -> bool {
     let words = recovered.heap.words();
     let held = recovered.heap.held();
     let used = word(words, USED_WORD);
-    read_header(words).is_ok_and(|header| !header.clean)
+    read_header(words, Some(3)).is_ok_and(|header| header.version == VERSION && !header.clean)
         && are_held(words, held)
         && (0..used).all(|d| is_right(words, held, d))
         && (used..word(words, CAPACITY_WORD)).all(|d| is_untaken(words, d))

@@ -20,9 +20,9 @@ pub const HELD: [Block; 2] = [
 pub const WORDS: [(usize, u64); 4] = [(1_072, 7), (2_000, 11), (4_656, 3), (6_447, 13)];
 
 /// The image, of one superblock: roots 8 and 9 lead to the two blocks, and a block beside them has
-/// a word too.
+/// a word too. All roots have kind 0.
 pub fn image(alloc: Global) -> Result<Vec<u64>, Fail> {
-    let mut image = vec![in alloc; 0; 9_264]?;
+    let mut image = vec![in alloc; 0; 10_288]?;
     let words = [
         (0, MAGIC),
         (1, VERSION),
