@@ -2,7 +2,7 @@
 use Rattle.std.proofs.Common.{◌≡◌, ◌≢◌, ℕ, zero, suc, ◌+◌, ◌-◌, ◌*◌, ◌/◌, ◌<◌, ◌≤◌, ◌⊎◌, inl, inr, List, ◌∷◌, length, get_or, set, Contains, refl, ap, sym, subst, ◌∙◌, arith, get_or-set_same, length-set}
 use Rattle.std.proofs.lemmas.Bool.{cases_eq}
 use Rattle.heap_model.specs.declared.block.Block.{Block}
-use Rattle.heap_model.specs.Geometry.{head_word, info_word, used_word, start_word, image_words}
+use Rattle.heap_model.specs.Geometry.{head_word, info_word, used_word, start_word, superblocks_end, image_words}
 use Rattle.heap_model.specs.Image.{Image}
 use Rattle.heap_model.specs.Sizes.{IsClass, words_of_class, blocks_of}
 use Rattle.heap_model.specs.Blocks.{IsBlock, IsIn}
@@ -107,7 +107,7 @@ module _ (p : Parts) (class : ℕ) (is : IsClass class) (run : IsRunning p) (b :
     -- its first word is an allocator's then
     freed_word : (word : ℕ) → word ≡ b.first_word → IsAllocatorWord p.capacity (held_of h) word
     freed_word word at = is_inside (let from = inside.0 in omega arith) until apart where
-      until : word < start_word p.capacity p.capacity
+      until : word < superblocks_end p.capacity
       until = let used = run.is.used in let two = two_words class is in let ends = inside.1 in omega arith
 
       apart : (a : Block) → Contains (held_of h) a → IsIn a word → ⊥
