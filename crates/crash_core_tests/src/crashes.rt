@@ -173,6 +173,6 @@ fn events_are_replayed_one_after_another(rt: HostRuntime) -> Result<(), Fail> {
 #[test]
 fn an_opened_table_has_its_length(rt: HostRuntime) -> Result<(), Fail> {
     let heap = recovered(rt.alloc(), 2, ONE_FREE)?;
-    assert_eq!(rt; opened_table(rt.alloc(), &heap)?.len(), 34_929);
+    assert_eq!(rt; opened_table(rt.alloc(), &heap)?.len(), 36_977);
     Ok(())
 }
