@@ -60,7 +60,7 @@ fn filled_up(mut bytes: Vec<u8>) -> Result<Vec<u8>, Fail> {
 }
 
 #[test]
-fn an_image_that_is_longer_than_its_capacity_asks_for_is_refused(rt: HostRuntime) -> Result<(), Fail> {
+fn an_image_that_is_too_long_is_refused(rt: HostRuntime) -> Result<(), Fail> {
     let image = longer_image(rt.alloc())?;
     let mut images = store_with(rt.alloc(), &image)?;
     must_tell(&rt, &mut images, "show h", 7, "bad header length\n")?;
