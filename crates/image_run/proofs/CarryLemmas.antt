@@ -2,19 +2,20 @@
 use Rattle.std.proofs.Common.{◌≡◌, ℕ, ◌<◌, Bool, List, refl, sym, subst, ◌∙◌, inl, inr, arith}
 use Rattle.std.specs.BTreeMap.{BTreeMap, get}
 use Rattle.std.specs.Ordering.{nat_cmp}
+use Rattle.heap_model.specs.declared.block.Block.{Block}
 use Rattle.heap_model.specs.Image.{Image}
 use Rattle.heap_model.specs.Geometry.{capacity_word, used_word, IsReserved}
-use Rattle.heap_model.specs.Header.{used_of}
-use Rattle.heap_model.specs.Reach.{AnyRoot, IsTracedFrom, is_root, is_linked, TracesAlike}
+use Rattle.heap_model.specs.Header.{used_of, kinds_of}
+use Rattle.heap_model.specs.Reach.{AnyRoot, ReachFrom, IsTracedFrom, is_root, is_linked, TracesAlike}
 use Rattle.heap_model.specs.Recovery.{in_header, is_reserved}
-use Rattle.heap_model.proofs.ReachLemmas.{reach_kept, more_roots}
+use Rattle.heap_model.proofs.ReachLemmas.{reach_kept, more_roots, reach_by_kinds}
 use Rattle.heap_recover.proofs.UnchangedLemmas.{words_unchanged, roots_unchanged}
-use Rattle.dict_model.specs.Links.{shards, dict_links, root_kind}
+use Rattle.dict_model.specs.Links.{shards, dict_links}
 use Rattle.dict_model.specs.Requests.{Request}
-use Rattle.dict_model.specs.Shards.{Map, MapOf, LeadsAlone}
-use Rattle.dict_model.proofs.ShardLemmas.{one_map, alone_once}
+use Rattle.dict_model.specs.Shards.{Map, MapOf}
+use Rattle.dict_model.proofs.ShardLemmas.{one_map_of}
 use Rattle.dictionary.specs.Reading.{AreMaps, RecoversTo}
-use Rattle.dictionary.proofs.SameLemmas.{traced_alike, map_kept}
+use Rattle.dictionary.proofs.SameLemmas.{traced_alike, kinds_kept, map_kept}
 use Rattle.trace_run.specs.Stands.{IsOtherRoot}
 use Rattle.trace_run.specs.Needs.{ListsKeysOf}
 use Rattle.image_run.specs.Running.{Options, Leaves, RunsRequests}
@@ -27,8 +28,7 @@ module _ (old new : Image) (to : RecoversTo old new) (maps : List (BTreeMap ℕ 
       let read = are.each shard below in
       let known : Map = get nat_cmp read.0 in
       let there : MapOf old shard known = map_kept old new to shard known below read.2 in
-      let same : (key : ℕ) → known key ≡ map key =
-      one_map (LeadsAlone old shard) (alone_once old shard) old shard known map there is in
+      let same : (key : ℕ) → known key ≡ map key = one_map_of old shard known map there is in
       subst (λ (m : Map). MapOf new shard m) (λ i key. same key i) read.2
 
   keys_listed : (keys : List ℕ) → ListsKeysOf old keys → ListsKeysOf new keys
@@ -37,20 +37,24 @@ module _ (old new : Image) (to : RecoversTo old new) (maps : List (BTreeMap ℕ 
   used_stays : used_of new ≡ used_of old
   used_stays = to.recovered.same used_word (in_header used_word (inr (inr (inr refl))))
 
-  -- other roots reach of the words what they reach of the image
-  others_alike : TracesAlike old new IsOtherRoot root_kind dict_links
+  -- other roots reach of the words what they reach of the image, as the same kinds
+  others_alike : TracesAlike old new IsOtherRoot (kinds_of old) dict_links
   others_alike =
       let alike = traced_alike old new to in
       record {
         same_words = λ at traced. alike.same_words at (any_root at traced);
-        are_blocks = λ b kind reached. alike.are_blocks b kind (more_roots old root_kind dict_links (λ root c. tt) b kind reached);
-        same_links = λ b kind reached. alike.same_links b kind (more_roots old root_kind dict_links (λ root c. tt) b kind reached);
+        are_blocks = λ b kind reached. alike.are_blocks b kind (more_roots old (kinds_of old) dict_links (λ root c. tt) b kind reached);
+        same_links = λ b kind reached. alike.same_links b kind (more_roots old (kinds_of old) dict_links (λ root c. tt) b kind reached);
       }
     where
-      any_root : (at : ℕ) → IsTracedFrom old IsOtherRoot root_kind dict_links at → IsTracedFrom old AnyRoot root_kind dict_links at
+      any_root : (at : ℕ) → IsTracedFrom old IsOtherRoot (kinds_of old) dict_links at → IsTracedFrom old AnyRoot (kinds_of old) dict_links at
       any_root _ (is_root root at below is_chosen is) = is_root root at below tt is
       any_root _ (is_linked a from position kind at reached listed is) =
-          is_linked a from position kind at (more_roots old root_kind dict_links (λ root c. tt) a from reached) listed is
+          is_linked a from position kind at (more_roots old (kinds_of old) dict_links (λ root c. tt) a from reached) listed is
+
+  others_reach : (b : Block) (kind : ℕ) → ReachFrom old IsOtherRoot (kinds_of old) dict_links b kind → ReachFrom new IsOtherRoot (kinds_of new) dict_links b kind
+  others_reach b kind reached = reach_by_kinds new (kinds_of old) (kinds_of new) dict_links (λ root below. sym (kinds_kept old new to root below)) b kind
+      (reach_kept old new IsOtherRoot (kinds_of old) dict_links others_alike b kind reached)
 
   carried : (requests : List Request) (budget : ℕ) (told : List Told) (stopped : Bool) (left : List ℕ)
       → Leaves new requests budget told stopped left → Leaves old requests budget told stopped left
@@ -66,18 +70,20 @@ module _ (old new : Image) (to : RecoversTo old new) (maps : List (BTreeMap ℕ 
     maps = record { each = λ shard map below is. leaves.maps.each shard map below (map_of_words shard map below is) };
     header = record {
       well_formed = leaves.header.well_formed;
+      version_is = leaves.header.version_is;
       capacity = leaves.header.capacity ∙ (to.recovered.same capacity_word (in_header capacity_word (inr (inr (inl refl)))));
+      kinds = λ root below. leaves.header.kinds root below ∙ kinds_kept old new to root below;
       without_meaning = λ word reserved.
           leaves.header.without_meaning word (subst (λ n. IsReserved n word) (sym (to.recovered.same capacity_word (in_header capacity_word (inr (inr (inl refl)))))) reserved)
           ∙ to.recovered.same word (is_reserved word reserved);
     };
     others = record {
       nothing_outside = leaves.others.nothing_outside;
-      roots_are = λ root other below. leaves.others.roots_are root other below ∙ roots_unchanged old new root_kind dict_links to.recovered root below;
+      roots_are = λ root other below. leaves.others.roots_are root other below ∙ roots_unchanged old new (kinds_of old) dict_links to.recovered root below;
       blocks_are = λ b kind word reached within.
-          leaves.others.blocks_are b kind word (reach_kept old new IsOtherRoot root_kind dict_links others_alike b kind reached) within
-          ∙ words_unchanged old new root_kind dict_links to.recovered b word
-          (record { kind = kind; reach = more_roots old root_kind dict_links (λ root c. tt) b kind reached }) within;
+          leaves.others.blocks_are b kind word (others_reach b kind reached) within
+          ∙ words_unchanged old new (kinds_of old) dict_links to.recovered b word
+          (record { kind = kind; reach = more_roots old (kinds_of old) dict_links (λ root c. tt) b kind reached }) within;
     };
     state = leaves.state;
   }

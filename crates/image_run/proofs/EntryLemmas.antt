@@ -20,8 +20,8 @@ use Rattle.heap_model.specs.Recovered.{AreAscending}
 use Rattle.heap_recover.proofs.AscendingLemmas.{all_pairs_append}
 use Rattle.dict_model.specs.Links.{shards}
 use Rattle.dict_model.specs.Nodes.{shard_of, bucket_of, find}
-use Rattle.dict_model.specs.Shards.{Map, MapOf, LeadsAlone, is_empty, has_table}
-use Rattle.dict_model.proofs.ShardLemmas.{one_map, alone_once}
+use Rattle.dict_model.specs.Shards.{Map, IsMap, MapOf, LeadsAlone, is_empty, has_table}
+use Rattle.dict_model.proofs.ShardLemmas.{one_map_of}
 use Rattle.dictionary.specs.Reading.{AreMaps}
 use Rattle.trace_text.specs.Keys.{Entries, AreEntries}
 use Rattle.image_run.specs.Reporting.{IsEntryOf}
@@ -131,14 +131,16 @@ rising xs ys moved sorted once i j d before within =
 module _ (image : Image) where
   -- a map of a shard has keys of that shard alone
   own_key : (shard : ℕ) (map : Map) (key : ℕ) (value : List ℕ) → MapOf image shard map → map key ≡ Some value → shard_of key ≡ shard
-  own_key shard map key value (is_empty null none) has = let never : None ≡ Some value = sym (none key) ∙ has in absurd (cc)
-  own_key shard map key value (has_table table nodes there chains means) has = elim (cases_eq (shard_of key) shard) as (λ _. shard_of key ≡ shard) [
-    | inl same ↦ same
-    | inr other ↦
-        let never : None ≡ Some value =
-        sym (cond-false (nat_eq (shard_of key) shard) (find image key (nodes (bucket_of key))) None (ne_eqb (shard_of key) shard other)) ∙ sym (means key) ∙ has in
-        absurd (cc)
-  ]
+  own_key shard map key value is has = own_in is.is_map where
+    own_in : IsMap (LeadsAlone image shard) image shard map → shard_of key ≡ shard
+    own_in (is_empty null none) = let never : None ≡ Some value = sym (none key) ∙ has in absurd (cc)
+    own_in (has_table table nodes there chains means) = elim (cases_eq (shard_of key) shard) as (λ _. shard_of key ≡ shard) [
+      | inl same ↦ same
+      | inr other ↦
+          let never : None ≡ Some value =
+          sym (cond-false (nat_eq (shard_of key) shard) (find image key (nodes (bucket_of key))) None (ne_eqb (shard_of key) shard other)) ∙ sym (means key) ∙ has in
+          absurd (cc)
+    ]
 
   -- the map read of a shard
   record IsRead (shard : ℕ) (m : KeyMap) : Type 0 where
@@ -172,7 +174,7 @@ module _ (image : Image) where
     is_told entry is =
         let read = are.each is.shard is.below in
         let same : get nat_cmp read.0 entry.0 ≡ is.keys entry.0 =
-        one_map (LeadsAlone image is.shard) (alone_once image is.shard) image is.shard (get nat_cmp read.0) is.keys read.2 is.keys_are entry.0 in
+        one_map_of image is.shard (get nat_cmp read.0) is.keys read.2 is.keys_are entry.0 in
         is_among maps is.shard read.0 entry read.1 ((btree_map_get_iff nat_cmp_total exact_unsigned read.0 read.3 entry.0 entry.1).0 (same ∙ is.has))
 
     pub entries_ascend : (entries : Entries) → AreEntries maps entries → AreAscending (λ (e : Entry). e.0) (IsEntryOf image) entries

@@ -1,61 +1,50 @@
 -- An image that a run leaves is recovered and read, and never refused.
-use Rattle.std.proofs.Common.{◌≡◌, ◌↔◌, ℕ, ◌*◌, List, length, slice_index, Some, None, sym, subst, ◌∙◌}
+use Rattle.std.proofs.Common.{◌≡◌, ◌↔◌, ℕ, List, length, slice_index, Some, subst}
 use Rattle.heap_model.specs.declared.block.Block.{Block}
-use Rattle.heap_model.specs.declared.header.BadHeader.{BadHeader}
-use Rattle.heap_model.specs.Geometry.{clean}
+use Rattle.heap_model.specs.Geometry.{clean, version, version_word}
 use Rattle.heap_model.specs.Image.{Image}
-use Rattle.heap_model.specs.Header.{header_fault, state_of}
+use Rattle.heap_model.specs.Header.{state_of, HasKindsBelow}
 use Rattle.heap_model.specs.Blocks.{layout_of}
-use Rattle.heap_model.specs.Reach.{IsReached, IsOutside}
 use Rattle.heap_model.specs.Recovered.{IsFreeSuperblock, AreAscending}
 use Rattle.heap_model.specs.Recovery.{IsRecovered}
-use Rattle.dict_model.specs.Links.{dict_links, root_kind}
-use Rattle.dict_model.specs.Shards.{LeadsAlone}
-use Rattle.dict_model.proofs.ShardLemmas.{no_bad_place, alone_once}
+use Rattle.region_header.specs.Migration.{current_words}
+use Rattle.region_header.proofs.MigrationLemmas.{current_of_new}
+use Rattle.dict_model.specs.Links.{kind_count}
+use Rattle.dict_model.proofs.ShardLemmas.{no_bad_shard}
 use Rattle.dictionary.specs.Reading.{RecoversTo, TellsLowest}
 use Rattle.dictionary.specs.declared.fault.MapFault.TheVariants.{BadShard}
 use Rattle.dictionary.proofs.SameLemmas.{bad_kept}
 use Rattle.heap_recover.specs.declared.answer.Recovered.{Recovered}
 use Rattle.heap_recover.specs.declared.answer.Was.TheVariants.{Clean}
 use Rattle.trace_run.specs.Opened.{CanBeRun}
-use Rattle.image_run.specs.Reporting.{IsRecoveredHeap}
+use Rattle.image_run.specs.Reporting.{IsKept, PointsOutside, Recovers, IsRecoveredHeap}
 
--- what recovery with the kinds of roots makes of words
-RecoversWith : Image → (ℕ → ℕ) → Recovered → Type 0
-RecoversWith image kinds answer =
-    AreAscending (λ (b : Block). b.first_word) (IsReached image kinds dict_links) answer.heap.held
-    × AreAscending (λ d. d) (IsFreeSuperblock (layout_of image) (IsReached image kinds dict_links)) answer.free.items
-    × IsRecovered image (slice_index answer.heap.words) (IsReached image kinds dict_links)
-    × ((answer.was ≡ Clean) ↔ (state_of image ≡ clean))
-
-module _ (words kinds : List ℕ) (kinds_are : (i : ℕ) → slice_index kinds i ≡ root_kind i) where
+-- words of this version are recovered as they are
+module _ (words kinds : List ℕ) (is_new : slice_index words version_word ≡ version) where
   pub recovery_of_words : (answer : Recovered)
-      → AreAscending (λ (b : Block). b.first_word) (IsReached (slice_index words) (slice_index kinds) dict_links) answer.heap.held
-      → AreAscending (λ d. d) (IsFreeSuperblock (layout_of (slice_index words)) (IsReached (slice_index words) (slice_index kinds) dict_links)) answer.free.items
-      → IsRecovered (slice_index words) (slice_index answer.heap.words) (IsReached (slice_index words) (slice_index kinds) dict_links)
-      → ((answer.was ≡ Clean) ↔ (state_of (slice_index words) ≡ clean))
+      → AreAscending (λ (b : Block). b.first_word) (IsKept (slice_index (current_words words kinds))) answer.heap.held
+      → AreAscending (λ d. d) (IsFreeSuperblock (layout_of (slice_index (current_words words kinds))) (IsKept (slice_index (current_words words kinds)))) answer.free.items
+      → IsRecovered (slice_index (current_words words kinds)) (slice_index answer.heap.words) (IsKept (slice_index (current_words words kinds)))
+      → ((answer.was ≡ Clean) ↔ (state_of (slice_index words) ≡ clean)) → HasKindsBelow (Some kind_count) (slice_index answer.heap.words)
       → IsRecoveredHeap (slice_index words) answer
-  unfolding RecoversWith
-  recovery_of_words answer held free left was =
-      let here : RecoversWith (slice_index words) (slice_index kinds) answer = (held, free, left, was) in
-      let there : RecoversWith (slice_index words) root_kind answer = subst (λ (ks : ℕ → ℕ). RecoversWith (slice_index words) ks answer) (λ i at. kinds_are at i) here in
-      record { recovers = record { held_are = there.0; free_are = there.1; words_are = there.2 }; was = there.3 }
+  recovery_of_words answer held free left was below = record {
+    recovers = subst (λ (ws : List ℕ). Recovers (slice_index ws) answer.heap.held answer.free.items (slice_index answer.heap.words))
+        (current_of_new words kinds is_new) (record { held_are = held; free_are = free; words_are = left });
+    was = was;
+    kinds = below;
+  }
 
-  -- the header is not refused
-  pub header_good : (cause : BadHeader) → CanBeRun (length words) (slice_index words) → header_fault (8 * length words) (slice_index words) ≡ Some cause → ⊥
-  header_good cause accepted bad =
-      let good : header_fault (8 * length words) (slice_index words) ≡ None = accepted.well_formed in
-      let never : None ≡ Some cause = sym good ∙ bad in
-      cc
+  -- so what is told as outside is outside, and where nothing is told nothing is
+  pub told_outside : (at value : ℕ) → PointsOutside (slice_index (current_words words kinds)) at → value ≡ slice_index (current_words words kinds) at
+      → PointsOutside (slice_index words) at × (value ≡ slice_index words at)
+  told_outside at value points is =
+      subst (λ (ws : List ℕ). PointsOutside (slice_index ws) at × (value ≡ slice_index ws at)) (current_of_new words kinds is_new) (points, is)
 
-  -- nor is a word
-  pub none_there : (at : ℕ) → CanBeRun (length words) (slice_index words) → IsOutside (slice_index words) (slice_index kinds) dict_links at → ⊥
-  none_there at accepted points =
-      accepted.nothing_outside at (subst (λ (ks : ℕ → ℕ). IsOutside (slice_index words) ks dict_links at) (λ i w. kinds_are w i) points)
+  pub none_outside : ((at : ℕ) → PointsOutside (slice_index (current_words words kinds)) at → ⊥) → (at : ℕ) → PointsOutside (slice_index words) at → ⊥
+  none_outside = subst (λ (ws : List ℕ). (at : ℕ) → PointsOutside (slice_index ws) at → ⊥) (current_of_new words kinds is_new)
 
--- nor a shard
+-- no shard is refused
 pub shard_good : (words : List ℕ) (new : Image) (shard at : ℕ) → CanBeRun (length words) (slice_index words) → RecoversTo (slice_index words) new → TellsLowest new (BadShard shard at) → ⊥
 shard_good words new shard at accepted to tells =
     let map = accepted.maps.each shard tells.0 in
-    no_bad_place (LeadsAlone (slice_index words) shard) (alone_once (slice_index words) shard) (slice_index words) shard map.0 at map.1
-    (bad_kept (slice_index words) new to shard at tells.0 tells.1)
+    no_bad_shard (slice_index words) shard at map.0 map.1 (bad_kept (slice_index words) new to shard at tells.0 tells.1)

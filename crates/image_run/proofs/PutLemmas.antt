@@ -1,13 +1,20 @@
--- What a run puts can be run again.
-use Rattle.std.proofs.Common.{◌≡◌, ◌*◌, ℕ, List, None, length, slice_index, subst}
+-- Bytes that stand for words, and that what a run puts can be run again.
+use Rattle.std.proofs.Common.{◌≡◌, ◌*◌, ◌/◌, ℕ, List, Some, None, length, slice_index, sym, subst, ap, ◌∙◌, arith}
+use Rattle.std.proofs.lemmas.Grind.{same_number_lists}
+use Rattle.heap_model.specs.Geometry.{roots, version, version_word}
 use Rattle.heap_model.specs.Image.{Image, image_of_bytes}
-use Rattle.heap_model.specs.Header.{header_fault}
+use Rattle.heap_model.specs.Header.{header_fault, first_kinds}
+use Rattle.heap_model.proofs.EmptyLemmas.{first_kind, length-first_kinds}
+use Rattle.heap_model.proofs.ImageLemmas.{length-words_from, get_or-words_from}
+use Rattle.dict_model.specs.Links.{kind_count, root_kind}
 use Rattle.dict_model.specs.Requests.{Request}
 use Rattle.trace_run.specs.Opened.{HasMaps, CanBeRun}
 use Rattle.trace_run.specs.Said.{replies_of}
 use Rattle.trace_run.proofs.AgainLemmas.{can_be_run}
 use Rattle.region_header.specs.Words.{AreWordsOf}
-use Rattle.image_run.specs.Reporting.{fault_of, PointsOutside}
+use Rattle.region_header.specs.Migration.{current_words}
+use Rattle.region_header.proofs.MigrationLemmas.{current_of_new}
+use Rattle.image_run.specs.Reporting.{fault_of, words_in_bytes, image_in, PointsOutside}
 use Rattle.image_run.specs.Running.{Options, RunsRequests}
 
 -- bytes are read as the image of the words that they stand for
@@ -15,10 +22,27 @@ pub image_of_words : (words bytes : List ℕ) → AreWordsOf words bytes → sli
 image_of_words words bytes are = λ at i. are.word i at
 
 -- so bytes of words with a good header are not malformed
-pub good_bytes : (words bytes : List ℕ) → AreWordsOf words bytes → header_fault (8 * length words) (slice_index words) ≡ None → fault_of bytes ≡ None
+pub good_bytes : (words bytes : List ℕ) → AreWordsOf words bytes → header_fault (Some kind_count) (8 * length words) (slice_index words) ≡ None → fault_of bytes ≡ None
 good_bytes words bytes are good =
-    subst (λ n. header_fault n (image_of_bytes bytes) ≡ None) are.count
-    (subst (λ (image : Image). header_fault (8 * length words) image ≡ None) (image_of_words words bytes are) good)
+    subst (λ n. header_fault (Some kind_count) n (image_of_bytes bytes) ≡ None) are.count
+    (subst (λ (image : Image). header_fault (Some kind_count) (8 * length words) image ≡ None) (image_of_words words bytes are) good)
+
+-- the words that bytes stand for are those in them
+pub words_are_in : (words bytes : List ℕ) → AreWordsOf words bytes → words_in_bytes bytes ≡ words
+words_are_in words bytes are =
+    let count = are.count in
+    let long = length-words_from (image_of_bytes bytes) 0 (length bytes / 8) in
+    same_number_lists (words_in_bytes bytes) words (omega arith) (λ i below.
+    get_or-words_from (image_of_bytes bytes) 0 (length bytes / 8) i 0 (omega arith) ∙ ap (image_of_bytes bytes) (omega arith) ∙ sym (are.word i))
+
+-- words of this version are the image in their bytes
+pub image_in_words : (words bytes : List ℕ) → AreWordsOf words bytes → slice_index words version_word ≡ version → image_in bytes ≡ slice_index words
+image_in_words words bytes are is_new =
+    ap (λ (ws : List ℕ). slice_index (current_words ws first_kinds)) (words_are_in words bytes are) ∙ ap slice_index (current_of_new words first_kinds is_new)
+
+-- the kinds of the dictionary's roots are those that `format` gives
+pub first_are : (kinds : List ℕ) → length kinds ≡ roots → ((i : ℕ) → slice_index kinds i ≡ root_kind i) → kinds ≡ first_kinds
+first_are kinds long are = same_number_lists kinds first_kinds (long ∙ sym length-first_kinds) (λ i below. are i ∙ sym (first_kind i))
 
 module _ (image : Image) (requests : List Request) (options : Options) (put text : List ℕ) (have : HasMaps image) (runs : RunsRequests image requests options put text) where
   left_again : CanBeRun (length runs.left) (slice_index runs.left)
@@ -26,14 +50,14 @@ module _ (image : Image) (requests : List Request) (options : Options) (put text
       can_be_run image (slice_index runs.left) requests (replies_of runs.told) runs.stopped (length runs.left) have
       runs.leaves.maps runs.leaves.header runs.leaves.others
 
-  put_again : CanBeRun (length runs.left) (image_of_bytes put)
-  put_again = subst (λ (i : Image). CanBeRun (length runs.left) i) (image_of_words runs.left put runs.words_are) left_again
+  put_again : CanBeRun (length runs.left) (image_in put)
+  put_again = subst (λ (i : Image). CanBeRun (length runs.left) i) (sym (image_in_words runs.left put runs.words_are left_again.version_is)) left_again
 
   pub put_good : fault_of put ≡ None
   put_good = good_bytes runs.left put runs.words_are left_again.well_formed
 
-  pub put_inside : (at : ℕ) → PointsOutside (image_of_bytes put) at → ⊥
+  pub put_inside : (at : ℕ) → PointsOutside (image_in put) at → ⊥
   put_inside = put_again.nothing_outside
 
-  pub put_maps : HasMaps (image_of_bytes put)
+  pub put_maps : HasMaps (image_in put)
   put_maps = put_again.maps
