@@ -1,5 +1,5 @@
 -- What recovery made in place leaves, done or stopped, and the report on it.
-use Rattle.std.proofs.Common.{◌≡◌, ◌⊎◌, ℕ, ◌+◌, ◌*◌, inl, inr, Bool, true, false, List, length, slice_index, None, refl, sym, ap, subst, ◌∙◌, arith}
+use Rattle.std.proofs.Common.{◌≡◌, ◌⊎◌, ℕ, ◌+◌, ◌*◌, inl, inr, Bool, true, false, List, length, slice_index, Some, None, refl, sym, ap, subst, ◌∙◌, arith}
 use Rattle.heap_model.specs.declared.block.Block.{Block}
 use Rattle.heap_model.specs.Geometry.{state_word, capacity_word}
 use Rattle.heap_model.specs.Header.{capacity_of, header_fault}
@@ -9,20 +9,11 @@ use Rattle.heap_model.specs.Recovery.{in_header}
 use Rattle.heap_model.proofs.HeaderLemmas.{no_fault}
 use Rattle.heap_recover.specs.InPlace.{differences, IsRecoveryOf, RecoversAlike, IsBetween, HoldsDurably, IsStoppedAt}
 use Rattle.line_memory.specs.View.{View}
-use Rattle.dict_model.specs.Links.{dict_links, root_kind}
+use Rattle.dict_model.specs.Links.{dict_links, kind_count}
 use Rattle.trace_run.specs.Left.{AreWholeImage}
 use Rattle.image_rebuild.specs.Rebuilding.{IsRebuilt}
 
--- a list of the roots' kinds reads as their kinds
-pub kinds_same : (kinds : List ℕ) → ((i : ℕ) → slice_index kinds i ≡ root_kind i) → slice_index kinds ≡ root_kind
-kinds_same kinds are = λ at i. are i at
-
--- so a recovery by them is one by the list
-pub by_list : (kinds old new : List ℕ) (held : List Block) → ((i : ℕ) → slice_index kinds i ≡ root_kind i) → IsRecoveryOf old root_kind dict_links new held
-    → IsRecoveryOf old (slice_index kinds) dict_links new held
-by_list kinds old new held are is = subst (λ (ks : ℕ → ℕ). IsRecoveryOf old ks dict_links new held) (sym (kinds_same kinds are)) is
-
-module _ (old new : List ℕ) (held : List Block) (is : IsRecoveryOf old root_kind dict_links new held) where
+module _ (old new : List ℕ) (held : List Block) (is : IsRecoveryOf (Some kind_count) old dict_links new held) where
   pub capacity_new : capacity_of (slice_index new) ≡ capacity_of (slice_index old)
   capacity_new = is.words_are.same capacity_word (in_header capacity_word (inr (inr (inl refl))))
 
@@ -45,7 +36,7 @@ module _ (old new : List ℕ) (held : List Block) (is : IsRecoveryOf old root_ki
 
   -- it was done
   pub rebuilt_done : (budget : ℕ) (now : List ℕ) (v : View) → v.volatile ≡ now → HoldsDurably new v
-      → ((image : Image) → Mixes (slice_index v.volatile) (slice_index v.durable) image → RecoversAlike (8 * length old) (slice_index old) image root_kind dict_links)
+      → ((image : Image) → Mixes (slice_index v.volatile) (slice_index v.durable) image → RecoversAlike (Some kind_count) (8 * length old) (slice_index old) image dict_links)
       → IsRebuilt (slice_index old) (length old) budget false now
   rebuilt_done budget now v now_is has mixed =
       let same : now ≡ new = sym now_is ∙ has.volatile in
@@ -63,7 +54,7 @@ module _ (old new : List ℕ) (held : List Block) (is : IsRecoveryOf old root_ki
   -- it was stopped, and the image is one that a crash leaves
   pub rebuilt_cut : (budget ticket : ℕ) (kept left : List ℕ) (v w : View) → w.durable ≡ kept → IsBetween old new w → v.budget ≡ budget → v.drawn ≡ 0
       → IsStoppedAt (1 + 2 * differences (slice_index old) (slice_index new) (length old)) ticket v w
-      → ((image : Image) → IsCrashImage (slice_index w.durable) image → RecoversAlike (8 * length old) (slice_index old) image root_kind dict_links)
+      → ((image : Image) → IsCrashImage (slice_index w.durable) image → RecoversAlike (Some kind_count) (8 * length old) (slice_index old) image dict_links)
       → IsCrashImage (slice_index kept) (slice_index left) → length left ≡ length kept → length w.durable ≡ length w.volatile
       → IsRebuilt (slice_index old) (length old) budget true left
   rebuilt_cut budget ticket kept left v w kept_is between limit none stopped crash is_crash long lengths =
@@ -86,6 +77,7 @@ module _ (old new : List ℕ) (held : List Block) (is : IsRecoveryOf old root_ki
 
 -- an image with a good header has no fault
 pub good_header : (image : Image) (count budget : ℕ) (stopped : Bool) (left : List ℕ) → IsRebuilt image count budget stopped left
-    → header_fault (8 * length left) (slice_index left) ≡ None
+    → header_fault (Some kind_count) (8 * length left) (slice_index left) ≡ None
 good_header image count budget stopped left is =
-    subst (λ n. header_fault (8 * n) (slice_index left) ≡ None) (sym is.long) (no_fault (8 * count) (slice_index left) is.alike.formed)
+    subst (λ n. header_fault (Some kind_count) (8 * n) (slice_index left) ≡ None) (sym is.long)
+    (no_fault (Some kind_count) (8 * count) (slice_index left) (inr (is.alike.formed, is.alike.below)))

@@ -1,5 +1,5 @@
 -- What recovery of an image made in place puts and prints.
-use Rattle.std.specs.Prelude.{◌≡◌, ◌≢◌, ◌⊎◌, ℕ, ◌*◌, ◌≤◌, Bool, true, false, List, ◌++◌, length, codes, slice_index}
+use Rattle.std.specs.Prelude.{◌≡◌, ◌≢◌, ◌⊎◌, ℕ, ◌*◌, ◌≤◌, Bool, true, false, List, ◌++◌, length, codes, Some, slice_index}
 use Rattle.heap_model.specs.Geometry.{state_word, dirty}
 use Rattle.heap_model.specs.Header.{capacity_of}
 use Rattle.heap_model.specs.Image.{Image, bytes_of_words}
@@ -7,7 +7,7 @@ use Rattle.heap_model.specs.Durability.{IsTransient}
 use Rattle.heap_model.specs.Recovery.{IsRecovered}
 use Rattle.region_header.specs.Words.{AreWordsOf}
 use Rattle.heap_recover.specs.InPlace.{differences, RecoversAlike}
-use Rattle.dict_model.specs.Links.{dict_links}
+use Rattle.dict_model.specs.Links.{dict_links, kind_count}
 use Rattle.trace_text.specs.Report.{line_feed}
 use Rattle.image_run.specs.Reporting.{IsKept, TellsHeap}
 
@@ -17,7 +17,7 @@ pub record IsRebuilt (image : Image) (count budget : ℕ) (stopped : Bool) (left
   pub new : List ℕ
   pub recovered : IsRecovered image (slice_index new) (IsKept image)
   pub long : length left ≡ count
-  pub alike : RecoversAlike (8 * count) image (slice_index left) dict_links
+  pub alike : RecoversAlike (Some kind_count) (8 * count) image (slice_index left) dict_links
   pub state : slice_index left state_word ≡ dirty
   pub done : stopped ≡ false → left ≡ new
   pub cause : stopped ≡ true → budget ≤ 2 * differences image (slice_index new) count

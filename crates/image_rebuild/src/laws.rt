@@ -1,8 +1,8 @@
 //! What follows of recovery in place, as a function with nothing to run.
-ghost use Rattle.std.specs.Prelude.{◌≡◌, ℕ, List, None, length};
+ghost use Rattle.std.specs.Prelude.{◌≡◌, ℕ, List, Some, None, length};
 ghost use Rattle.heap_model.specs.Image.{Image};
 ghost use Rattle.heap_recover.specs.InPlace.{RecoversAlike};
-ghost use Rattle.dict_model.specs.Links.{dict_links};
+ghost use Rattle.dict_model.specs.Links.{dict_links, kind_count};
 ghost use Rattle.image_run.specs.Reporting.{fault_of, image_in};
 ghost use Rattle.image_rebuild.specs.Rebuilding.{Rebuilds};
 
@@ -13,5 +13,5 @@ pub fn what_a_rebuild_puts_can_be_recovered()
         → Rebuilds image count budget put text → fault_of put ≡ None }
     ensures alike { (image : Image) (count budget : ℕ) (put text : List ℕ)
         → Rebuilds image count budget put text
-        → RecoversAlike (length put) image (image_in put) dict_links }
+        → RecoversAlike (Some kind_count) (length put) image (image_in put) dict_links }
 {}

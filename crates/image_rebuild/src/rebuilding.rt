@@ -1,8 +1,9 @@
 //! Recovers an image in place over a line memory, and makes what is put and printed.
-ghost use Rattle.std.specs.Prelude.{◌≡◌, ◌^◌, ◌*◌, ◌<◌, ◌++◌, ℕ, length, slice_index, IfOk, None};
+ghost use Rattle.std.specs.Prelude.{◌≡◌, ◌^◌, ◌*◌, ◌<◌, ◌++◌, ℕ, length, slice_index, IfOk, Some, None};
+ghost use Rattle.heap_model.specs.Geometry.{version, version_word};
 ghost use Rattle.heap_model.specs.Header.{header_fault};
 ghost use Rattle.heap_recover.specs.InPlace.{IsRecoveryOf};
-ghost use Rattle.dict_model.specs.Links.{dict_links};
+ghost use Rattle.dict_model.specs.Links.{dict_links, kind_count};
 ghost use Rattle.image_run.specs.Reporting.{PointsOutside, TellsHeap};
 ghost use Rattle.image_rebuild.specs.Rebuilding.{IsRebuilt, Rebuilds, rebuilt_line};
 
@@ -42,7 +43,7 @@ pub fn rebuild_image<C: Chances>(
     seed: u64,
     chances: &mut C,
 ) -> Result<RebuildProduct, AllocError>
-    requires { IsRecoveryOf words.now dict_links heap.now.words heap.now.held }
+    requires { IsRecoveryOf (Some kind_count) words.now dict_links heap.now.words heap.now.held }
     ensures ok { IfOk result (λ product. Rebuilds (slice_index words.now) (length words.now)
         budget product.image product.text) }
 {
@@ -62,7 +63,7 @@ fn rebuild_words<C: Chances>(
     budget: u64,
     chances: &mut C,
 ) -> Result<Rebuilt, AllocError>
-    requires { IsRecoveryOf words.now dict_links heap.now.words heap.now.held }
+    requires { IsRecoveryOf (Some kind_count) words.now dict_links heap.now.words heap.now.held }
     ensures { IfOk result (λ rebuilt. IsRebuilt (slice_index words.now) (length words.now)
         budget rebuilt.stopped rebuilt.words.items) }
 {
@@ -85,7 +86,9 @@ fn rebuild_words<C: Chances>(
 
 // The report on the words of an image, once they are recovered: their recovery is never refused.
 fn left_text(alloc: Global, words: &[u64]) -> Result<Bytes, AllocError>
-    requires good { header_fault (8 * length words.now) (slice_index words.now) ≡ None }
+    requires good { header_fault (Some kind_count) (8 * length words.now) (slice_index words.now)
+        ≡ None }
+    requires version { slice_index words.now version_word ≡ version }
     requires inside { (at : ℕ) → PointsOutside (slice_index words.now) at → ⊥ }
     ensures { IfOk result (TellsHeap (slice_index words.now)) }
 {

@@ -1,27 +1,18 @@
 use Rattle.std.proofs.Common.{ℕ, List, ◌*◌, ◌∙◌, sym, ap, subst, slice_index, length}
 use Rattle.heap_model.specs.Header.{capacity_of}
-use Rattle.heap_model.specs.Image.{Image}
-use Rattle.heap_model.specs.Durability.{Mixes, IsCrashImage}
-use Rattle.heap_recover.specs.InPlace.{RecoversAlike}
 use Rattle.line_memory.specs.View.{View}
 use Rattle.line_memory.specs.Plain.{view_of}
 use Rattle.line_memory.specs.ClosedWords.{volatile_words, durable_words}
-use Rattle.dict_model.specs.Links.{dict_links}
 use Rattle.trace_run.specs.Left.{AreWholeImage}
-use Rattle.image_rebuild.proofs.RebuiltLemmas.{by_list, kinds_same, durable_capacity, durable_whole, capacity_new, rebuilt_done, rebuilt_cut}
+use Rattle.image_rebuild.proofs.RebuiltLemmas.{durable_capacity, durable_whole, capacity_new, rebuilt_done, rebuilt_cut}
 use Rattle.image_rebuild.proofs.rebuilding.rebuild_words.Goals as goal
-
-pub rebuild-end-requires-clause-recovered : goal.rebuild-end-requires-clause-recovered
-rebuild-end-requires-clause-recovered g c =
-    by_list c.root_kinds.result c.args.words.now c.args.heap.now.words c.args.heap.now.held c.root_kinds.ensures.kinds c.requires
 
 pub returns-in-Ok : goal.returns-in-Ok
 returns-in-Ok g c =
     let v = view_of c.rebuild-end.new.memory in
     rebuilt_done c.args.words.now c.args.heap.now.words c.args.heap.now.held c.requires c.args.budget c.now.inside.now.items v
     (sym c.finish.ensures.volatile ∙ sym (ap volatile_words c.now.view_is)) c.in-Ok.ensures.ok
-    (subst (λ (ks : ℕ → ℕ). (image : Image) → Mixes (slice_index v.volatile) (slice_index v.durable) image
-    → RecoversAlike (8 * length c.args.words.now) (slice_index c.args.words.now) image ks dict_links) (kinds_same c.root_kinds.result c.root_kinds.ensures.kinds) c.in-Ok.ensures.mixed)
+    c.in-Ok.ensures.mixed
 
 pub crash_image-requires-clause-whole : goal.crash_image-requires-clause-whole
 crash_image-requires-clause-whole g c _ _ =
@@ -45,8 +36,7 @@ returns-in-Err g c =
     rebuilt_cut c.args.words.now c.args.heap.now.words c.args.heap.now.held c.requires c.args.budget c.in-Err.field-0.step c.now.inside.kept.items c.crash_image.result.items v w
     (sym c.finish.ensures.durable ∙ sym (ap durable_words c.now.view_is)) c.in-Err.ensures.between (ap (λ (u : View). u.budget) c.in_ok-memory.ensures.ok)
     (ap (λ (u : View). u.drawn) c.in_ok-memory.ensures.ok) c.in-Err.ensures.stopped
-    (subst (λ (ks : ℕ → ℕ). (image : Image) → IsCrashImage (slice_index w.durable) image
-    → RecoversAlike (8 * length c.args.words.now) (slice_index c.args.words.now) image ks dict_links) (kinds_same c.root_kinds.result c.root_kinds.ensures.kinds) c.in-Err.ensures.crash)
+    c.in-Err.ensures.crash
     c.crash_image.ensures.image c.crash_image.ensures.long
     (ap (λ (ws : List ℕ). length ws) (sym c.finish.ensures.durable ∙ sym (ap durable_words c.now.view_is)) ∙ c.now.invariant
     ∙ sym (ap (λ (ws : List ℕ). length ws) (sym c.finish.ensures.volatile ∙ sym (ap volatile_words c.now.view_is))))
