@@ -1,9 +1,9 @@
 -- The heap as it is opened for a replay, and the image that a crash leaves.
-use Rattle.std.proofs.Common.{◌≡◌, ℕ, ◌*◌, ◌≤◌, List, length, slice_index, replicate, None, sym, subst, arith}
+use Rattle.std.proofs.Common.{◌≡◌, ℕ, ◌*◌, ◌≤◌, List, length, slice_index, replicate, Some, None, inl, inr, sym, subst, arith}
 use Rattle.std.proofs.lemmas.List.{length-replicate}
 use Rattle.heap_model.specs.declared.block.Block.{Block}
-use Rattle.heap_model.specs.Geometry.{roots, image_words}
-use Rattle.heap_model.specs.Header.{header_fault}
+use Rattle.heap_model.specs.Geometry.{roots, version, version_word, image_words}
+use Rattle.heap_model.specs.Header.{header_fault, HasKindsBelow}
 use Rattle.heap_model.specs.Durability.{IsCrashImage}
 use Rattle.heap_model.specs.Rest.{IsReady}
 use Rattle.core_model.specs.declared.answer.StepAnswer.{StepAnswer}
@@ -18,12 +18,14 @@ use Rattle.core_model.proofs.SoundLemmas.{sound_runs}
 use Rattle.core_model.proofs.HeaderLemmas.{crash_header}
 use Rattle.crash_core.specs.declared.state.CoreState.{CoreState}
 use Rattle.crash_core.specs.Standing.{StandsFor, RunsOn}
-use Rattle.heap_model.specs.Reach.{IsOutside}
+use Rattle.heap_model.proofs.HeaderLemmas.{good_header}
+use Rattle.region_header.specs.Migration.{current_words}
 use Rattle.heap_recover.specs.Fault.{TellsFault}
 use Rattle.heap_recover.specs.declared.fault.RecoverFault.{RecoverFault}
 use Rattle.heap_recover.specs.declared.fault.RecoverFault.TheVariants.{Outside}
-use Rattle.dict_model.specs.Links.{dict_links, root_kind}
+use Rattle.dict_model.specs.Links.{dict_links, kind_count}
 use Rattle.image_run.specs.Reporting.{PointsOutside}
+use Rattle.image_run.proofs.LeftLemmas.{told_outside}
 use Rattle.image_replay.specs.Replaying.{events_of, replay_setup, replay_opening, IsReplayed}
 use Rattle.image_replay.proofs.LineLemmas.{in_replicate}
 
@@ -57,21 +59,27 @@ replayed words held seats lines block_owners root_owners events answers tickets 
     }
 
 -- a word that recovery tells as outside
-pub told_outside : (words kinds : List ℕ) → ((i : ℕ) → slice_index kinds i ≡ root_kind i) → (fault : RecoverFault) (at value : ℕ) → fault ≡ Outside at value
-    → TellsFault (8 * length words) (slice_index words) (slice_index kinds) dict_links fault → PointsOutside (slice_index words) at × (value ≡ slice_index words at)
-told_outside words kinds are fault at value is tells =
-    let why = subst (λ (f : RecoverFault). TellsFault (8 * length words) (slice_index words) (slice_index kinds) dict_links f) is tells in
-    (subst (λ (ks : ℕ → ℕ). IsOutside (slice_index words) ks dict_links at) (λ i w. are w i) why.1, why.2)
-
--- where recovery finds nothing outside, nothing is
-pub none_outside : (words kinds : List ℕ) → ((i : ℕ) → slice_index kinds i ≡ root_kind i) → ((at : ℕ) → IsOutside (slice_index words) (slice_index kinds) dict_links at → ⊥)
-    → (at : ℕ) → PointsOutside (slice_index words) at → ⊥
-none_outside words kinds are none = subst (λ (ks : ℕ → ℕ). (at : ℕ) → IsOutside (slice_index words) ks dict_links at → ⊥) (λ i w. are w i) none
+pub told_fault : (words kinds : List ℕ) → slice_index words version_word ≡ version → (fault : RecoverFault) (at value : ℕ) → fault ≡ Outside at value
+    → TellsFault (Some kind_count) words (current_words words kinds) dict_links fault
+    → PointsOutside (slice_index words) at × (value ≡ slice_index words at)
+told_fault words kinds is_new fault at value is tells =
+    let why = subst (λ (f : RecoverFault). TellsFault (Some kind_count) words (current_words words kinds) dict_links f) is tells in
+    told_outside words kinds is_new at value why.1 why.2
 
 -- the image that is left has a good header
 pub left_good : (words : List ℕ) (held : List Block) (seats : ℕ) (lines : List (ℕ × Event)) (answers : List StepAnswer) (tickets : ℕ) (left : List ℕ)
-    → IsReady words held → 1 ≤ seats → IsReplayed words held seats lines answers tickets left → header_fault (8 * length left) (slice_index left) ≡ None
-left_good words held seats lines answers tickets left ready some is =
+    → IsReady words held → HasKindsBelow (Some kind_count) (slice_index words) → 1 ≤ seats → IsReplayed words held seats lines answers tickets left
+    → header_fault (Some kind_count) (8 * length left) (slice_index left) ≡ None
+left_good words held seats lines answers tickets left ready below some is =
     let opening = opened words held _ seats (replicate (length held) 0) (replicate roots 0) ready (first_owns held seats some) in
     let sound = sound_runs (replay_setup words seats) (replay_opening words held seats) is.state _ answers opening is.runs in
-    subst (λ n. header_fault (8 * n) (slice_index left) ≡ None) (sym is.long) (crash_header (replay_setup words seats) is.state.words is.state.views sound (slice_index left) is.left_is ready.formed)
+    subst (λ n. header_fault (Some kind_count) (8 * n) (slice_index left) ≡ None) (sym is.long)
+    (crash_header (replay_setup words seats) is.state.words is.state.views sound (slice_index left) is.left_is ready.formed (Some kind_count) below)
+
+-- and is of this version: an image of the old one has another number of words
+pub left_new : (capacity : ℕ) (left : List ℕ) → length left ≡ image_words capacity → header_fault (Some kind_count) (8 * length left) (slice_index left) ≡ None
+    → slice_index left version_word ≡ version
+left_new capacity left long good = elim (good_header (Some kind_count) (8 * length left) (slice_index left) good) as (λ _. slice_index left version_word ≡ version) [
+  | inl old ↦ absurd (let same = old.length_is in omega arith)
+  | inr new ↦ new.0.version_is
+]

@@ -12,11 +12,11 @@ use Rattle.core_model.specs.Memory.{memory_of}
 use Rattle.core_model.specs.Held.{durable_image}
 use Rattle.core_model.specs.Steps.{TableState}
 use Rattle.core_model.proofs.OutcomeLemmas.{one_run}
-use Rattle.core_model.proofs.AlikeLemmas.{same_layout, same_reach, same_outside}
+use Rattle.core_model.proofs.AlikeLemmas.{same_layout, same_reach_in, same_outside_in}
 use Rattle.heap_recover.proofs.AscendingLemmas.{ascending_one}
 use Rattle.trace_text.specs.Answered.{answers_text_of, tickets_line_of}
 use Rattle.trace_text.specs.Report.{report_of}
-use Rattle.dict_model.specs.Links.{dict_links, root_kind}
+use Rattle.dict_model.specs.Links.{dict_links}
 use Rattle.image_run.specs.Reporting.{IsKept, PointsOutside, TellsHeap}
 use Rattle.image_replay.specs.Replaying.{events_of, last_answers, replay_setup, replay_opening, IsReplayed, Replays, LeavesOutside}
 
@@ -36,14 +36,14 @@ module _ (words : List ℕ) (held : List Block) (seats : ℕ) (lines : List (ℕ
   left_too = subst (λ (s : TableState). IsCrashImage (durable_image (capacity_of (slice_index words)) s.words) (slice_index left')) (sym one.1) too.left_is
 
   pub one_outside : (at : ℕ) → PointsOutside (slice_index left) at → PointsOutside (slice_index left') at × (slice_index left' at ≡ slice_index left at)
-  one_outside = same_outside (durable_image (capacity_of (slice_index words)) is.state.words) (slice_index left) (slice_index left') is.left_is left_too root_kind dict_links
+  one_outside = same_outside_in (durable_image (capacity_of (slice_index words)) is.state.words) (slice_index left) (slice_index left') is.left_is left_too dict_links
 
   -- they are recovered to the same blocks, so the report on them is one
   kept_too : (image other : Image) → IsCrashImage (durable_image (capacity_of (slice_index words)) is.state.words) image
       → IsCrashImage (durable_image (capacity_of (slice_index words)) is.state.words) other → (b : Block) → IsKept image b → IsKept other b
   kept_too image other crash crash' b kept = record {
     kind = kept.kind;
-    reach = same_reach (durable_image (capacity_of (slice_index words)) is.state.words) image other crash crash' root_kind dict_links b kept.kind kept.reach;
+    reach = same_reach_in (durable_image (capacity_of (slice_index words)) is.state.words) image other crash crash' dict_links b kept.kind kept.reach;
   }
 
   pub one_report : (report report' : List ℕ) → TellsHeap (slice_index left) report → TellsHeap (slice_index left') report' → report' ≡ report

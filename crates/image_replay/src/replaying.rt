@@ -1,7 +1,8 @@
 //! Replays a schedule over a heap at rest, and makes what is printed.
-ghost use Rattle.std.specs.Prelude.{◌≡◌, ◌*◌, ◌++◌, None, length, replicate, slice_index, IfOk, IfErr, IsErr, OnOk, ℕ};
-ghost use Rattle.heap_model.specs.Geometry.{roots};
-ghost use Rattle.heap_model.specs.Header.{header_fault};
+ghost use Rattle.std.specs.Prelude.{◌≡◌, ◌*◌, ◌++◌, Some, None, length, replicate, slice_index, IfOk, IfErr, IsErr, OnOk, ℕ};
+ghost use Rattle.heap_model.specs.Geometry.{roots, version, version_word};
+ghost use Rattle.heap_model.specs.Header.{header_fault, HasKindsBelow};
+ghost use Rattle.dict_model.specs.Links.{kind_count};
 ghost use Rattle.trace_text.specs.Answered.{answers_text_of, tickets_line_of};
 ghost use Rattle.image_run.specs.Reporting.{PointsOutside, TellsHeap};
 ghost use Rattle.image_replay.specs.Replaying.{CanBeReplayed, IsReplayed, LeavesOutside, Replays, StopsReplay, StopsReport};
@@ -38,7 +39,8 @@ pub fn replay_image<C: Chances>(
     seed: u64,
     chances: &mut C,
 ) -> Result<Bytes, ReplayFault>
-    requires { CanBeReplayed schedule.now.seats schedule.now.lines.items }
+    requires schedule { CanBeReplayed schedule.now.seats schedule.now.lines.items }
+    requires kinds { HasKindsBelow (Some kind_count) (slice_index heap.now.words) }
     ensures ok { IfOk result (Replays heap.now.words heap.now.held
         schedule.now.seats schedule.now.lines.items) }
     ensures err { IfErr result (StopsReplay heap.now.words heap.now.held
@@ -61,11 +63,13 @@ fn replay_lines<C: Chances>(
     schedule: &Schedule,
     chances: &mut C,
 ) -> Result<Replayed, AllocError>
-    requires { CanBeReplayed schedule.now.seats schedule.now.lines.items }
+    requires schedule { CanBeReplayed schedule.now.seats schedule.now.lines.items }
+    requires kinds { HasKindsBelow (Some kind_count) (slice_index heap.now.words) }
     ensures replayed { IfOk result (λ r. IsReplayed heap.now.words heap.now.held
         schedule.now.seats schedule.now.lines.items r.answers.items r.tickets r.left.items) }
-    ensures good { IfOk result (λ r.
-        header_fault (8 * length r.left.items) (slice_index r.left.items) ≡ None) }
+    ensures good { IfOk result (λ r. header_fault (Some kind_count) (8 * length r.left.items)
+        (slice_index r.left.items) ≡ None) }
+    ensures version { IfOk result (λ r. slice_index r.left.items version_word ≡ version) }
 {
     let owners = owned_by_the_first(alloc, heap.held().len())?;
     let mut core = Core::of(alloc, heap, &owners, schedule.seats, MOST_BUDGET)?;
@@ -102,9 +106,11 @@ fn owned_by_the_first(alloc: Global, blocks: usize) -> Result<Owners, AllocError
     Ok(Owners::new(held, roots))
 }
 
-// The report on the words of an image with a good header, once they are recovered.
+// The report on the words of an image of this version with a good header, once they are recovered.
 fn left_text(alloc: Global, words: &[u64]) -> Result<Bytes, ReplayFault>
-    requires { header_fault (8 * length words.now) (slice_index words.now) ≡ None }
+    requires good { header_fault (Some kind_count) (8 * length words.now) (slice_index words.now)
+        ≡ None }
+    requires version { slice_index words.now version_word ≡ version }
     ensures ok { IfOk result (TellsHeap (slice_index words.now)) }
     ensures inside { OnOk result
         ((at : ℕ) → PointsOutside (slice_index words.now) at → ⊥) }
