@@ -137,7 +137,7 @@ step_past_the_last : fault_of rebuild_app (codes "rebuild" ∷ codes "h" ∷ cod
 unfolding clap_on_literals
 step_past_the_last = refl
 
-superblock_past_the_last : fault_of format_app (codes "format" ∷ codes "h" ∷ codes "257" ∷ []) ≡ ValueValidation ∷ []
+superblock_past_the_last : fault_of format_app (codes "format" ∷ codes "h" ∷ codes "4097" ∷ []) ≡ ValueValidation ∷ []
 unfolding clap_on_literals largest_capacity
 superblock_past_the_last = refl
 

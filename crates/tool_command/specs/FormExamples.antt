@@ -10,7 +10,7 @@ use Rattle.tool_command.specs.Forms.{IsForm, IsImageWord}
 named_h : IsImageWord (codes "h")
 named_h = record { some = lit< tt; no_option = λ e. omega (arith, e) }
 
-format_most : IsForm (codes "format" ∷ codes "h" ∷ codes "256" ∷ []) (format_image (codes "h") 256)
+format_most : IsForm (codes "format" ∷ codes "h" ∷ codes "4096" ∷ []) (format_image (codes "h") 4096)
 unfolding digits largest_capacity
 format_most = record { words_are = refl; named = named_h; least = lit≤ tt; most = lit≤ tt }
 

@@ -2,6 +2,8 @@
 use Rattle.std.proofs.Common.{◌≡◌, ◌⊎◌, ℕ, List, length, Option, slice_index, inl, inr, refl, ap, sym, subst, ◌∙◌, arith}
 use Rattle.std.proofs.lemmas.Grind.{same_number_lists}
 use Rattle.heap_model.specs.declared.block.Block.{Block}
+use Rattle.heap_model.specs.Geometry.{image_words}
+use Rattle.heap_model.specs.Header.{capacity_of}
 use Rattle.tool_run.specs.Making.{image_in}
 use Rattle.core_model.specs.declared.event.Event.{Event}
 use Rattle.image_run.specs.Reporting.{Recovers}
@@ -36,7 +38,7 @@ one_heap contents name words words' held held' good is too =
     same_bytes contents name name too.image.bytes good.bytes refl too.image.is_there good.held ∙ sym (same_bytes contents name name is.image.bytes good.bytes refl is.image.is_there good.held) in
     let recovers : Recovers (image_in is.image.bytes) held' too.free (slice_index words') =
     subst (λ (l : List ℕ). Recovers (image_in l) held' too.free (slice_index words')) bytes too.recovers in
-    let long : length words' ≡ length words = let a = is.long in let b = too.long in let c = ap (λ (l : List ℕ). length l) bytes in omega arith in (
+    let long : length words' ≡ length words = let a = is.long in let b = too.long in let c = ap (λ (l : List ℕ). image_words (capacity_of (image_in l))) bytes in omega arith in (
       same_number_lists words' words long
           (λ k below. one_recovered (image_in is.image.bytes) (slice_index words) (slice_index words') held held' is.free too.free is.recovers recovers k),
       one_held (image_in is.image.bytes) (slice_index words) (slice_index words') held held' is.free too.free is.recovers recovers,

@@ -1,14 +1,15 @@
 -- An image that was recovered, with its words beside it, can be rebuilt, and what that gives is said of its bytes.
-use Rattle.std.proofs.Common.{◌≡◌, ℕ, ◌*◌, List, length, Some, slice_index, refl, sym, ap, subst, arith}
+use Rattle.std.proofs.Common.{◌≡◌, ℕ, ◌*◌, List, length, Some, slice_index, inl, inr, refl, sym, ap, subst, arith}
 use Rattle.heap_model.specs.declared.block.Block.{Block}
-use Rattle.heap_model.specs.Geometry.{image_words}
-use Rattle.heap_model.specs.Header.{IsWellFormed, capacity_of}
+use Rattle.heap_model.specs.Geometry.{image_words, kind_word, capacity_word}
+use Rattle.heap_model.specs.Header.{IsWellFormed, HasKindsBelow, capacity_of}
 use Rattle.heap_model.specs.Image.{Image}
 use Rattle.heap_model.specs.Recovered.{AreAscending}
-use Rattle.heap_model.specs.Recovery.{IsRecovered as HasWords}
+use Rattle.heap_model.specs.Recovery.{IsRecovered as HasWords, in_header}
 use Rattle.heap_recover.specs.InPlace.{IsRecoveryOf}
+use Rattle.heap_recover.proofs.UnchangedLemmas.{kinds_unchanged}
 use Rattle.heap_recover.specs.declared.answer.Recovered.{Recovered}
-use Rattle.dict_model.specs.Links.{dict_links}
+use Rattle.dict_model.specs.Links.{dict_links, kind_count}
 use Rattle.tool_ports.specs.Contents.{Contents}
 use Rattle.tool_run.specs.Making.{image_in, IsKept, PointsOutside, Rebuilds, RebuildsNamed}
 use Rattle.tool_run.specs.Recovering.{IsRecoveredFrom}
@@ -25,13 +26,26 @@ module _ (contents : Contents) (name words : List ℕ) (recovered : Recovered) (
   formed : IsWellFormed (8 * length words) (slice_index words)
   formed = subst (λ (ws : List ℕ). IsWellFormed (8 * length ws) (slice_index ws)) (sym is.words_are) is.image.formed
 
-  pub recovery_of_words : IsRecoveryOf words dict_links recovered.heap.words recovered.heap.held
+  words_are : HasWords (slice_index words) (slice_index recovered.heap.words) (IsKept (slice_index words))
+  words_are = subst (λ (image : Image). HasWords image (slice_index recovered.heap.words) (IsKept image)) same is.image.is.recovers.words_are
+
+  -- recovery leaves the kinds, and finds them below the limit
+  kinds : HasKindsBelow (Some kind_count) (slice_index words)
+  kinds root below =
+      let new = slice_index recovered.heap.words in
+      let stays = kinds_unchanged (slice_index words) new (IsKept (slice_index words)) words_are root below in
+      let place = ap (λ n. new (kind_word n root)) (words_are.same capacity_word (in_header capacity_word (inr (inr (inl refl))))) in
+      let few = is.image.is.kinds root below in
+      omega arith
+
+  pub recovery_of_words : IsRecoveryOf (Some kind_count) words dict_links recovered.heap.words recovered.heap.held
   recovery_of_words = record {
     formed = formed;
+    below = kinds;
     none_outside = subst (λ (image : Image). (at : ℕ) → PointsOutside image at → ⊥) same is.image.inside;
     held_are = subst (λ (image : Image). AreAscending (λ (b : Block). b.first_word) (IsKept image) recovered.heap.held) same is.image.is.recovers.held_are;
     long = is.long;
-    words_are = subst (λ (image : Image). HasWords image (slice_index recovered.heap.words) (IsKept image)) same is.image.is.recovers.words_are;
+    words_are = words_are;
   }
 
   pub rebuilds_named : (budget : ℕ) (image text : List ℕ) → Rebuilds (slice_index words) (length words) budget image text

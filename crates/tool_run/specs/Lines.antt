@@ -5,7 +5,7 @@ use Rattle.hex.specs.Hex.{encode_lower}
 use Rattle.tool_ports.specs.Causes.{Rose}
 use Rattle.tool_ports.specs.Taken.{taken_with, TakesPart}
 use Rattle.heap_model.specs.declared.header.BadHeader.{BadHeader}
-use Rattle.heap_model.specs.declared.header.BadHeader.TheVariants.{Short, Magic, Version, Capacity, Length, State, Used}
+use Rattle.heap_model.specs.declared.header.BadHeader.TheVariants.{Short, Magic, Version, Capacity, Length, State, Used, Kind}
 use Rattle.trace_text.specs.Report.{line_feed}
 
 -- the lines of the statuses 2 to 5

@@ -1,5 +1,5 @@
-use Rattle.std.proofs.Common.{List, ℕ, sym, subst, slice_index, length}
-use Rattle.dict_model.specs.Links.{dict_links}
+use Rattle.std.proofs.Common.{List, ℕ, Some, sym, subst, slice_index, length}
+use Rattle.dict_model.specs.Links.{dict_links, kind_count}
 use Rattle.heap_recover.specs.InPlace.{IsRecoveryOf}
 use Rattle.tool_run.specs.Making.{Rebuilds}
 use Rattle.tool_run.proofs.RebuildLemmas.{recovery_of_words, rebuilds_named}
@@ -8,7 +8,7 @@ use Rattle.tool_run.proofs.rebuilding.rebuild_named.Goals as goal
 pub rebuild_image-requires-after_bounds : goal.rebuild_image-requires-after_bounds
 rebuild_image-requires-after_bounds g c lifetimes live =
     let both = c.in_ok-words in
-    subst (λ (ws : List ℕ). IsRecoveryOf ws dict_links both.recovered.heap.words both.recovered.heap.held) (sym c.deref.ensures.value)
+    subst (λ (ws : List ℕ). IsRecoveryOf (Some kind_count) ws dict_links both.recovered.heap.words both.recovered.heap.held) (sym c.deref.ensures.value)
     (recovery_of_words (g.I.ImageStore.contents c.args.images.now) c.args.name.now both.words.items both.recovered both.ensures.ok)
 
 pub returns-clause-ok : goal.returns-clause-ok

@@ -29,8 +29,11 @@ returns-in_err-schedule-clause-unread g c =
     (λ fault is before. absurd (was_read contents left c.args.name.now c.args.seed _ c.in_err-schedule.field-0.0 (c.in_err-schedule.ensures.err contents c.args.name.now)
     (subst (IsBeforeReading (replay_image c.args.name.now c.args.seed)) is before)))
 
-pub replay_image-requires-after_bounds : goal.replay_image-requires-after_bounds
-replay_image-requires-after_bounds g c lifetimes live = can_be_replayed _ _ c.in_ok-schedule.ensures.ok
+pub replay_image-requires-clause-schedule : goal.replay_image-requires-clause-schedule
+replay_image-requires-clause-schedule g c = λ lifetimes live. can_be_replayed _ _ c.in_ok-schedule.ensures.ok
+
+pub replay_image-requires-clause-kinds : goal.replay_image-requires-clause-kinds
+replay_image-requires-clause-kinds g c = λ lifetimes live. c.in_ok-recovered.ensures.ok.image.is.kinds
 
 pub returns-in_err-text-clause-err : goal.returns-in_err-text-clause-err
 returns-in_err-text-clause-err g c =
