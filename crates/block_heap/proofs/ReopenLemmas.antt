@@ -1,7 +1,7 @@
 -- What a heap is to give that was opened over a recovered image: what that image had to give.
-use Rattle.std.proofs.Common.{◌≡◌, ◌↔◌, ℕ, ◌≤◌, List, Contains, slice_index, inl, inr, refl, ap, sym, subst, ◌∙◌, arith}
+use Rattle.std.proofs.Common.{◌≡◌, ◌↔◌, ℕ, ◌≤◌, List, Contains, slice_index, inl, inr, refl, ap, sym, subst, ◌∙◌}
 use Rattle.heap_model.specs.declared.block.Block.{Block}
-use Rattle.heap_model.specs.Geometry.{capacity_word, largest_capacity, old_capacities_fit}
+use Rattle.heap_model.specs.Geometry.{capacity_word, largest_capacity}
 use Rattle.heap_model.specs.Image.{Image}
 use Rattle.heap_model.specs.Header.{capacity_of}
 use Rattle.heap_model.specs.Blocks.{layout_of}

@@ -9,7 +9,7 @@ use region_header::read_header;
 use std::alloc::{AllocError, Global};
 use std::process::Abort;
 use std::test::Fail;
-use super_block::name;
+use super_block::{VERSION, name};
 
 /// A request of each kind. The last one frees the block.
 const EACH_KIND: &str = "alloc 64
@@ -214,9 +214,12 @@ fn mixed(alloc: Global, closed: &Closed, seed: u64) -> Result<Vec<u64>, AllocErr
     Ok(image)
 }
 
-/// Whether the header is good and each block is named by its offset.
+/// Whether the header is good, as one of this version, and each block is named by its offset.
 fn are_named(image: &[u64], given: &[Option<Block>]) -> bool {
-    if read_header(image, None).is_err() {
+    let Ok(header) = read_header(image, None) else {
+        return false;
+    };
+    if header.version != VERSION {
         return false;
     }
     for b in given.iter().flatten() {

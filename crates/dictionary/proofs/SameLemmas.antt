@@ -4,7 +4,7 @@ use Rattle.std.specs.Prelude.{nat_eq, Contains, ◌/◌, ◌-◌}
 use Rattle.std.proofs.Math.Nat.{mod-lt}
 use Rattle.heap_model.specs.declared.block.Block.{Block}
 use Rattle.heap_model.specs.Geometry.{roots, root_word, kind_word, capacity_word}
-use Rattle.heap_model.specs.Header.{capacity_of, used_of, kinds_of}
+use Rattle.heap_model.specs.Header.{kinds_of}
 use Rattle.heap_model.specs.Image.{Image, words_from, bytes_of_words}
 use Rattle.heap_model.specs.Blocks.{layout_of, IsBlock, IsIn}
 use Rattle.heap_model.specs.Pointers.{Leads, LeadsOutside}

@@ -4,7 +4,6 @@ use Rattle.std.specs.BTreeMap.{BTreeMap, get, btree_map_len, IsOrdered}
 use Rattle.std.specs.Ordering.{nat_cmp}
 use Rattle.heap_model.specs.declared.block.Block.{Block}
 use Rattle.heap_model.specs.Image.{Image}
-use Rattle.heap_model.specs.Geometry.{roots}
 use Rattle.heap_model.specs.Header.{IsWellFormed, kinds_of}
 use Rattle.heap_model.specs.Blocks.{layout_of, IsBlock}
 use Rattle.heap_model.specs.Reach.{IsReachedIn, IsOutsideIn}

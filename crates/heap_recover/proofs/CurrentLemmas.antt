@@ -2,7 +2,7 @@
 use Rattle.std.proofs.Common.{◌≡◌, ℕ, ◌<◌, inl, inr, List, Option, Some, None, refl, sym, ◌∙◌, ap, arith}
 use Rattle.heap_model.specs.declared.block.Block.{Block}
 use Rattle.heap_model.specs.Geometry.{roots, capacity_word, kind_word}
-use Rattle.heap_model.specs.Header.{IsWellFormed, HasKindsBelow, kinds_of}
+use Rattle.heap_model.specs.Header.{HasKindsBelow, kinds_of}
 use Rattle.heap_model.specs.Image.{Image}
 use Rattle.heap_model.specs.Reach.{Links, IsOutside, IsOutsideIn}
 use Rattle.heap_model.specs.Recovery.{IsRecovered, in_header}

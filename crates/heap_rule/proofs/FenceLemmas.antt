@@ -1,9 +1,9 @@
 -- A row of words that are settled one after the other.
-use Rattle.std.proofs.Common.{◌≡◌, ◌≢◌, ℕ, zero, suc, ◌<◌, ◌↔◌, ◌⊎◌, inl, inr, Bool, true, false, Some, None, List, [], ◌∷◌, ◌++◌, get_or, set, length, refl, ap, sym, subst, ◌∙◌, true≢false, arith}
+use Rattle.std.proofs.Common.{◌≡◌, ◌≢◌, ℕ, ◌<◌, ◌↔◌, ◌⊎◌, inl, inr, false, Some, None, List, [], ◌∷◌, ◌++◌, get_or, set, length, refl, ap, sym, subst, ◌∙◌, true≢false, arith}
 use Rattle.std.proofs.lemmas.Bool.{cases_eq, cases_lt}
 use Rattle.std.proofs.lemmas.List.{get_or-set_same, get_or-set_other}
 use Rattle.heap_model.specs.Counting.{times}
-use Rattle.line_memory.specs.Marks.{mark_at, mark_count, IsMarked}
+use Rattle.line_memory.specs.Marks.{mark_at, IsMarked}
 use Rattle.core_model.specs.declared.event.Event.TheVariants.{Settle}
 use Rattle.core_model.specs.Cells.{cell_at}
 use Rattle.core_model.specs.Effects.{learn}

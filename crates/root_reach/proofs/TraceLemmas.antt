@@ -15,7 +15,7 @@ use Rattle.heap_model.specs.Blocks.{layout_of, IsBlock}
 use Rattle.heap_model.specs.Pointers.{Leads}
 use Rattle.heap_model.specs.Reach.{Links, words_in, by_start, by_link, ReachFrom}
 use Rattle.heap_model.proofs.BlockLemmas.{block_words, block_inside}
-use Rattle.heap_model.proofs.ReachLemmas.{closure_least, closure_included, reached_block, more_roots, reach_by_kinds}
+use Rattle.heap_model.proofs.ReachLemmas.{closure_least, reached_block, more_roots, reach_by_kinds}
 use Rattle.root_reach.specs.declared.origin.Origin.{Origin}
 use Rattle.root_reach.specs.declared.origin.Origin.TheVariants.{One, Several}
 use Rattle.root_reach.specs.declared.labels.Finding.{Finding}

@@ -14,7 +14,7 @@ use Rattle.heap_model.proofs.CountingLemmas.{one_if_true}
 use Rattle.heap_model.proofs.DecisionLemmas.{at_most, both}
 use Rattle.heap_model.proofs.ImageLemmas.{get_or-words_from}
 use Rattle.heap_model.proofs.PartLemmas.{same_fields}
-use Rattle.heap_seat.specs.View.{View as HeapView, kind_of}
+use Rattle.heap_seat.specs.View.{View as HeapView}
 use Rattle.heap_seat.specs.Sound.{IsSeat, IsPlaced}
 use Rattle.heap_seat.specs.Words.{IsOwn as IsOwnWord, in_block, in_root, HasPicked, KeepsOwn, KeepsPending, MayBe, MayRead, MixesOwn, NamesAll, StoresKinds}
 use Rattle.heap_model.specs.Header.{capacity_of}

@@ -2,7 +2,9 @@
 ghost use Rattle.std.specs.Prelude.{◌≡◌, ◌<◌, ◌≤◌};
 ghost use Rattle.heap_model.specs.Geometry.{largest_capacity, info_word, anchor_word, link_word, start_word, kind_word, roots, image_words, old_image_words, superblocks_end};
 
-use crate::layout::{ANCHOR_OFFSET, DESCRIPTOR_WORDS, FIXED_WORDS, LINK_OFFSET, ROOTS, SUPERBLOCK_WORDS};
+use crate::layout::{
+    ANCHOR_OFFSET, DESCRIPTOR_WORDS, FIXED_WORDS, LINK_OFFSET, ROOTS, SUPERBLOCK_WORDS,
+};
 
 /// The layout of an image of `capacity` superblocks. Its superblocks are numbered from 0.
 #[derive(Clone, Copy, PartialEq, Eq, Debug)]

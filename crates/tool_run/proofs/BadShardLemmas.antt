@@ -2,7 +2,7 @@
 use Rattle.std.proofs.Common.{◌≡◌, ◌⊎◌, ℕ, List, Option, Some, None, inl, inr, sym, subst}
 use Rattle.tool_ports.specs.Contents.{Contents}
 use Rattle.tool_run.specs.Making.{image_in}
-use Rattle.dict_model.specs.Shards.{LeadsAlone, BadShard as IsBadShard}
+use Rattle.dict_model.specs.Shards.{BadShard as IsBadShard}
 use Rattle.dict_model.proofs.ShardLemmas.{no_bad_shard}
 use Rattle.tool_command.specs.Command.{Command, format_image, show_image, drain_image, gen_trace, run_image, rebuild_image, replay_image, image_name, Asks}
 use Rattle.tool_run.specs.declared.fault.Fault.{Fault}

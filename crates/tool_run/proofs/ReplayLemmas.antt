@@ -1,5 +1,5 @@
 -- A heap that was recovered can be replayed over, and what that gives is said of the image.
-use Rattle.std.proofs.Common.{◌≡◌, ℕ, ◌*◌, ◌<◌, ◌∙◌, List, Option, ap, inr, sym, subst}
+use Rattle.std.proofs.Common.{◌≡◌, ℕ, ◌<◌, ◌∙◌, List, Option, inr, sym, subst}
 use Rattle.std.proofs.lemmas.List.Elements.{All-contains}
 use Rattle.heap_recover.specs.declared.answer.Recovered.{Recovered}
 use Rattle.image_replay.specs.declared.fault.ReplayFault.{ReplayFault}

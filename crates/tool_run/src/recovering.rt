@@ -15,8 +15,8 @@ ghost use Rattle.tool_run.specs.Recovering.{IsGoodImage, HoldsImage, IsRecovered
 
 use crate::fault::Fault;
 use dictionary::{DictFilter, root_kinds};
-use heap_recover::{RecoverFault, Recovered, recover, recover_owned};
 use filter_trace::Filter;
+use heap_recover::{RecoverFault, Recovered, recover, recover_owned};
 use region_header::{bytes_to_words, check_bytes, current};
 use std::alloc::{AllocError, Global};
 use super_block::{LONGEST_IMAGE, constants_agree};

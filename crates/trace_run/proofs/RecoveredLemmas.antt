@@ -1,5 +1,5 @@
 -- What recovery leaves is a dictionary where each shard is a map.
-use Rattle.std.proofs.Common.{ℕ, ◌<◌, ◌↔◌, List, Some, Contains, refl, sym, subst, ◌∙◌}
+use Rattle.std.proofs.Common.{ℕ, ◌↔◌, List, Some, Contains, refl, sym, subst, ◌∙◌}
 use Rattle.std.specs.BTreeMap.{BTreeMap, get}
 use Rattle.std.specs.Ordering.{nat_cmp}
 use Rattle.heap_model.specs.declared.block.Block.{Block}

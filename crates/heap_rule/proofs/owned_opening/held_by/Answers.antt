@@ -1,6 +1,5 @@
-use Rattle.std.proofs.Common.{◌≡◌, ◌+◌, length, ap, sym, subst, ◌∙◌, refl, slice_index, arith}
+use Rattle.std.proofs.Common.{◌+◌, length, ap, sym, subst, ◌∙◌, arith}
 use Rattle.std.proofs.lemmas.List.{length-set}
-use Rattle.heap_model.specs.Geometry.{capacity_word, image_words}
 use Rattle.core_model.proofs.PlaceLemmas.{and_both}
 use Rattle.crash_core.proofs.OpenedBlocks.{all_held, block_there, within}
 use Rattle.crash_core.proofs.PickedLemmas.{entry_of}

@@ -1,4 +1,4 @@
-use Rattle.std.proofs.Common.{◌≡◌, ℕ, length, slice_index}
+use Rattle.std.proofs.Common.{◌≡◌, length, slice_index}
 use Rattle.heap_model.specs.Geometry.{capacity_word, image_words}
 use Rattle.heap_rule.proofs.HeldMarks.{MarksFirst}
 use Rattle.heap_rule.proofs.owned_opening.held_by.Given as goal

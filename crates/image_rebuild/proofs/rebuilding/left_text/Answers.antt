@@ -1,4 +1,4 @@
-use Rattle.std.proofs.Common.{◌*◌, false, Some, None, length, slice_index, subst}
+use Rattle.std.proofs.Common.{false, Some, None, slice_index, subst}
 use Rattle.region_header.specs.declared.byte_list.Bytes.{Bytes}
 use Rattle.heap_model.specs.Header.{capacity_of}
 use Rattle.trace_text.specs.Recovered.{is_clean}

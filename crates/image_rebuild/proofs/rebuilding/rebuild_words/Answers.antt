@@ -1,4 +1,4 @@
-use Rattle.std.proofs.Common.{ℕ, List, ◌*◌, ◌∙◌, sym, ap, subst, slice_index, length}
+use Rattle.std.proofs.Common.{ℕ, List, ◌∙◌, sym, ap, subst, slice_index, length}
 use Rattle.heap_model.specs.Header.{capacity_of}
 use Rattle.line_memory.specs.View.{View}
 use Rattle.line_memory.specs.Plain.{view_of}

@@ -1,4 +1,4 @@
-use Rattle.std.proofs.Common.{ℕ, Ok, Err, ◌∙◌, sym, arith}
+use Rattle.std.proofs.Common.{Err, ◌∙◌, arith}
 use Rattle.std.proofs.lemmas.Result.{err_from_is_err_and}
 use Rattle.image_run.proofs.LeftLemmas.{recovery_of_words}
 use Rattle.tool_run.proofs.RecoveryLemmas.{current_in, is_new, holds_now, recovered_now, inside_now, fault_now}

@@ -1,4 +1,4 @@
-use Rattle.std.proofs.Common.{ℕ, Ok, Err, slice_index, subst, arith}
+use Rattle.std.proofs.Common.{ℕ, Err, slice_index, subst, arith}
 use Rattle.heap_model.specs.Image.{Image}
 use Rattle.std.proofs.lemmas.Result.{err_from_is_err_and}
 use Rattle.region_header.specs.Migration.{current_words}

@@ -1,5 +1,4 @@
 use Rattle.std.proofs.Common.{◌≡◌, ◌+◌, ◌*◌, ◌/◌, ◌%◌, Bool, List, false, get_or, nat_eq, ap, sym, ◌∙◌, arith}
-use Rattle.std.specs.Int.{bit_at}
 use Rattle.std.proofs.lemmas.Nat.Bits.{bit_at-zero}
 use Rattle.bit_marks.specs.Marks.{is_one}
 use Rattle.bit_marks.proofs.MarkLemmas.{group_mark, mark_of_at, unmarked, word_is}

@@ -1,4 +1,4 @@
-use Rattle.std.proofs.Common.{◌<◌, ap, sym, subst, arith}
+use Rattle.std.proofs.Common.{◌<◌, sym, subst}
 use Rattle.line_memory.specs.Marks.{mark_count}
 use Rattle.line_memory.proofs.MarkLemmas.{fewer_marks}
 use Rattle.line_memory.proofs.pending.Pending.complete.Goals as goal

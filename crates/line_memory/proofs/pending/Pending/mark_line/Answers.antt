@@ -1,5 +1,5 @@
 -- The list of pages has room for a page that isn't on it, and lists each page with a mark.
-use Rattle.std.proofs.Common.{◌≡◌, ◌≢◌, ℕ, ◌<◌, ◌*◌, ◌/◌, false, get_or, length, refl, arith, ◌∙◌}
+use Rattle.std.proofs.Common.{◌≡◌, ◌≢◌, ℕ, ◌<◌, ◌*◌, ◌/◌, false, get_or, length, refl, arith}
 use Rattle.line_memory.proofs.MarkLemmas.{has_room, page_within, marked_first, read_is}
 use Rattle.line_memory.proofs.pending.Pending.mark_line.Goals as goal
 
