@@ -136,6 +136,8 @@ used 2 => Used
 # Word 9 has no meaning.
 9 2 => 1 clean 0
 # The first cause is told.
+0 1, 1 3 => Magic
+1 3, 2 0 => Version
 state 0, used 2 => State
 state 1, used 2 => Used
 state 2, used 1 => 1 dirty 1

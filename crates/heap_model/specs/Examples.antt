@@ -1,8 +1,8 @@
 -- Worked examples: hand-made images, header causes, sizes, packed words, chains, lists, durability and counts.
 use Rattle.std.specs.Prelude.{◌≡◌, ℕ, List, [], ◌∷◌, take, refl, Some, None}
 use Rattle.std.proofs.Common.{arith, inl, inr}
-use Rattle.heap_model.specs.declared.header.BadHeader.TheVariants.{Short, Version, Capacity, Length, State, Used, Kind}
-use Rattle.heap_model.specs.Geometry.{magic, version, old_version, largest_capacity, clean, image_words, IsReserved, in_header, in_descriptor}
+use Rattle.heap_model.specs.declared.header.BadHeader.TheVariants.{Short, Magic, Version, Capacity, Length, State, Used, Kind}
+use Rattle.heap_model.specs.Geometry.{magic, version, old_version, largest_capacity, clean, dirty, image_words, IsReserved, in_header, in_descriptor}
 use Rattle.heap_model.specs.Counting.{put, times, total, without, below}
 use Rattle.heap_model.specs.Image.{Image, image_of_bytes, bytes_of_words}
 use Rattle.heap_model.specs.Header.{header_fault, has_fault, kinds_of, first_kinds}
@@ -40,6 +40,24 @@ one_word_more : header_fault None 82312 (formatted 1 []) ≡ Some Length
 unfolding header_fault has_fault largest_capacity
 one_word_more = refl
 
+-- a heap of the most superblocks, and one that was not closed
+good_most : header_fault None 268714304 (formatted 4096 []) ≡ None
+unfolding header_fault has_fault largest_capacity
+good_most = refl
+
+good_dirty : header_fault None 82304 (put (formatted 1 []) 3 dirty) ≡ None
+unfolding header_fault has_fault largest_capacity
+good_dirty = refl
+
+-- each superblock may be taken, and no more
+all_taken : header_fault None 82304 (formatted 1 ((8, 1) ∷ [])) ≡ None
+unfolding header_fault has_fault largest_capacity
+all_taken = refl
+
+one_more_taken : header_fault None 82304 (formatted 1 ((8, 2) ∷ [])) ≡ Some Used
+unfolding header_fault has_fault largest_capacity
+one_more_taken = refl
+
 -- one of the old version has no kinds, and is shorter by 1,024 words
 abbrev pub of_old_version : ℕ → List (ℕ × ℕ) → Image
 of_old_version capacity words = put (formatted capacity words) 1 old_version
@@ -47,6 +65,14 @@ of_old_version capacity words = put (formatted capacity words) 1 old_version
 good_old_length : header_fault (Some 3) 74112 (of_old_version 1 []) ≡ None
 unfolding header_fault has_fault largest_capacity
 good_old_length = refl
+
+no_kind_of_old : header_fault (Some 0) 74112 (of_old_version 1 []) ≡ None
+unfolding header_fault has_fault largest_capacity
+no_kind_of_old = refl
+
+good_most_of_old : header_fault None 16802112 (of_old_version 256 []) ≡ None
+unfolding header_fault has_fault largest_capacity
+good_most_of_old = refl
 
 with_kinds : header_fault None 82304 (of_old_version 1 []) ≡ Some Length
 unfolding header_fault has_fault largest_capacity
@@ -97,6 +123,26 @@ unfolding header_fault has_fault largest_capacity
 no_roots = refl
 
 -- of two causes the first in their order is told
+short_before_magic : header_fault None 8511 (image_with []) ≡ Some Short
+unfolding header_fault has_fault largest_capacity
+short_before_magic = refl
+
+magic_before_version : header_fault None 82304 (put (put (formatted 1 []) 1 3) 0 7) ≡ Some Magic
+unfolding header_fault has_fault largest_capacity
+magic_before_version = refl
+
+version_before_capacity : header_fault None 82304 (put (put (formatted 1 []) 2 0) 1 3) ≡ Some Version
+unfolding header_fault has_fault largest_capacity
+version_before_capacity = refl
+
+no_superblocks : header_fault None 82304 (formatted 0 []) ≡ Some Capacity
+unfolding header_fault has_fault largest_capacity
+no_superblocks = refl
+
+length_before_state : header_fault None 82312 (put (formatted 1 []) 3 0) ≡ Some Length
+unfolding header_fault has_fault largest_capacity
+length_before_state = refl
+
 state_before_used : header_fault None 82304 (put (formatted 1 ((8, 2) ∷ [])) 3 0) ≡ Some State
 unfolding header_fault has_fault largest_capacity
 state_before_used = refl

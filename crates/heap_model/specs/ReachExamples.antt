@@ -6,7 +6,7 @@ use Rattle.heap_model.specs.Image.{Image}
 use Rattle.heap_model.specs.Sizes.{class_sizes, words_of_class, blocks_of}
 use Rattle.heap_model.specs.Blocks.{of_class}
 use Rattle.heap_model.specs.Pointers.{Leads}
-use Rattle.heap_model.specs.Reach.{Links, Reach, by_start, by_link}
+use Rattle.heap_model.specs.Reach.{Links, Reach, ReachIn, by_start, by_link}
 use Rattle.heap_model.specs.Examples.{image_with, formatted}
 use Rattle.heap_model.specs.BlockExamples.{one_table, table_block, root_leads}
 
@@ -14,6 +14,37 @@ use Rattle.heap_model.specs.BlockExamples.{one_table, table_block, root_leads}
 reached : (links : Links) → Reach one_table (λ _. 1) links (table_block 0) 1
 unfolding one_table
 reached links = by_start (table_block 0) 1 (record { root = 0; below = omega arith; is_chosen = tt; kind_is = refl; leads = root_leads })
+
+-- a table to which root 0 leads is reached as what the image stores for that root
+unfoldable pub table_as_node : Image
+table_as_node = formatted 1 ((8, 1) ∷ (1064, 12) ∷ (40, 0x5250000000002180) ∷ (9264, 2) ∷ [])
+
+leads_as_node : Leads table_as_node (table_as_node 40) (table_block 0)
+unfolding table_as_node words_of_class blocks_of class_sizes
+leads_as_node = record {
+  pointer = record { tagged = refl; short = omega arith };
+  names = record {
+    begins_at = refl;
+    block = record {
+      superblock = 0;
+      index = 0;
+      words = 128;
+      count = 64;
+      is_of = record {
+        taken = omega arith;
+        begins = of_class 12 refl (record { some = omega arith; last = omega arith });
+        below = omega arith;
+        at = refl;
+        size = refl;
+      };
+    };
+  };
+}
+
+reached_as_stored : (links : Links) → ReachIn table_as_node links (table_block 0) 2
+unfolding table_as_node
+reached_as_stored links =
+    by_start (table_block 0) 2 (record { root = 0; below = omega arith; is_chosen = tt; kind_is = refl; leads = leads_as_node })
 
 -- The base image of the damage tests: a table, and in its bucket 0 a node.
 unfoldable pub table_and_node : Image

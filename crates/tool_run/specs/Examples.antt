@@ -3,7 +3,8 @@ use Rattle.std.specs.Prelude.{◌≡◌, [], ◌∷◌, ◌++◌, codes, Some, N
 use Rattle.std.specs.Fmt.{digits}
 use Rattle.std.proofs.Common.{arith}
 use Rattle.heap_model.specs.Sizes.{size_of, class_sizes}
-use Rattle.heap_model.specs.declared.header.BadHeader.TheVariants.{Length}
+use Rattle.heap_model.specs.Geometry.{largest_capacity}
+use Rattle.heap_model.specs.declared.header.BadHeader.TheVariants.{Length, Kind}
 use Rattle.trace_text.specs.Report.{line_feed}
 use Rattle.tool_command.specs.Command.{Command, run_image}
 use Rattle.tool_ports.specs.Calls.{no_calls, with_get, with_put}
@@ -35,9 +36,17 @@ absent_line = refl
 length_line : bad_header_line Length ≡ codes "bad header length" ++ line_feed
 length_line = refl
 
+kind_line : bad_header_line Kind ≡ codes "bad header kind" ++ line_feed
+kind_line = refl
+
 third_line : bad_line_line 3 ≡ codes "bad trace line 3" ++ line_feed
 unfolding digits
 third_line = refl
+
+-- one byte more is got than the longest image has
+most_bytes : get_limit ≡ 268714305
+unfolding largest_capacity
+most_bytes = refl
 
 -- a run gets its image, and puts one where it is done or cut off: nothing is put for a bad trace
 abbrev a_run : Command
