@@ -9,7 +9,7 @@ use image_text::number;
 use std::alloc::Global;
 use std::process::Abort;
 use std::test::Fail;
-use tool_ports::FailedPut;
+use tool_ports::{FailedPut, MapStore};
 
 /// One superblock more than version 1 may have.
 const MORE: &str = "
@@ -88,6 +88,40 @@ fn kinds_of_roots_are_told_in_their_order(rt: HostRuntime) -> Result<(), Fail> {
     shows_rows(&rt, "show h", KINDS)
 }
 
+/// The same of the other commands: only those that read the dictionary ask for a table's kind.
+const OTHERS: &str = "
+@ 1: 9273 3
+$ run h --workers 1
+= 7
+> bad header kind
+$ drain h 20
+= 7
+> bad header kind
+$ rebuild h
+= 7
+> bad header kind
+$ replay h
+= 7
+> bad header kind
+~ 82304
+@ 1: 9264 0
+$ run h --workers 1
+< put 0 aa
+= 9
+> bad shard 0 at 9264
+$ drain h 20
+> class 20 size 14336 blocks 4
+> 8576
+> 22912
+> 37248
+> 51584
+";
+
+#[test]
+fn other_commands_tell_of_kinds_too(rt: HostRuntime) -> Result<(), Fail> {
+    shows_each(&rt, OTHERS)
+}
+
 /// What is reached by the kinds that are stored for roots 8 and 9; of version 1 that is kind 0.
 const FOLLOWED: &str = "
 @ 1: used 1, info:0 12, root:9 @1072, 1075 @1328
@@ -154,6 +188,20 @@ $ show h
 > held 32 1
 > held 1024 1
 ~ 139712
+# What is refused leaves it as well.
+$ run h --workers 1
+< put 1
+= 10
+> bad trace line 1
+~ 139712
+@ 2: 1 1, root:8 5; 139712
+$ run h --workers 1
+= 8
+> pointer outside at 48 value 0000000000000005
+$ rebuild h
+= 8
+> pointer outside at 48 value 0000000000000005
+~ 139712
 ";
 
 #[test]
@@ -185,6 +233,61 @@ $ rebuild h
 ~ 147904
 ";
 
+/// A rebuild of an image whose shard 0 has no map.
+const NO_MAP: &str = "
+$ rebuild h
+> rebuild done
+> heap 1 dirty
+$ show h
+= 9
+> bad shard 0 at 9264
+~ 82304
+";
+
+/// A run over a map of version 1.
+const WRITTEN: &str = "
+$ run h --workers 1
+< put 0 aa
+< get 0
+> ok
+> aa
+> run closed
+> heap 2 clean
+> key 0 aa
+> held 32 1
+> held 1024 1
+~ 147904
+$ show h
+> heap 2 clean
+> key 0 aa
+> held 32 1
+> held 1024 1
+";
+
+/// Plays the session over this image.
+fn play_over(
+    rt: &(impl Abort + AllocGlobal),
+    image: &str,
+    session: &str,
+) -> Result<MapStore, Fail> {
+    let image = image_bytes(rt.alloc(), image)?;
+    let mut images = store_with(rt.alloc(), &image, NO_CALL, FailedPut::LeavesOld)?;
+    play(rt, &mut images, session);
+    Ok(images)
+}
+
+#[test]
+fn a_shard_without_a_map_is_rebuilt(rt: HostRuntime) -> Result<(), Fail> {
+    play_over(&rt, "1: 9264 0", NO_MAP)?;
+    Ok(())
+}
+
+#[test]
+fn a_map_of_the_old_version_is_written_to(rt: HostRuntime) -> Result<(), Fail> {
+    play_over(&rt, "table: 1 1; 139712", WRITTEN)?;
+    Ok(())
+}
+
 /// Whether roots 0 to 7 have kind 1 in the image of two superblocks, and the others kind 0.
 fn has_first_kinds(alloc: Global, image: &[u8]) -> Result<bool, Fail> {
     let mut right = true;
@@ -206,9 +309,7 @@ fn must_be_migrated(rt: &(impl Abort + AllocGlobal), image: &[u8]) -> Result<(),
 
 /// Plays the session over the image of version 1.
 fn migrates(rt: &(impl Abort + AllocGlobal), session: &str) -> Result<(), Fail> {
-    let image = image_bytes(rt.alloc(), OLD)?;
-    let mut images = store_with(rt.alloc(), &image, NO_CALL, FailedPut::LeavesOld)?;
-    play(rt, &mut images, session);
+    let images = play_over(rt, OLD, session)?;
     must_be_migrated(rt, images.image("h").unwrap_or(&[]))
 }
 
@@ -239,9 +340,7 @@ $ run h --workers 1
 #[test]
 fn a_run_leaves_the_stored_kinds(rt: HostRuntime) -> Result<(), Fail> {
     let text = "1: 9273 1, used 1, info:0 12, root:9 @1072, 1075 @1328";
-    let image = image_bytes(rt.alloc(), text)?;
-    let mut images = store_with(rt.alloc(), &image, NO_CALL, FailedPut::LeavesOld)?;
-    play(&rt, &mut images, STOPPED);
+    let images = play_over(&rt, text, STOPPED)?;
     let left = images.image("h").unwrap_or(&[]);
     must_hold(&rt, word(left, "9273")? == 1, "the kind of root 9");
     must_hold(&rt, word(left, "9272")? == 0, "the kind of root 8");
