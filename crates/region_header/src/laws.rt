@@ -1,9 +1,11 @@
 //! What follows from the definitions of words and bytes, and of the versions of images, as functions
 //! with nothing to run.
-ghost use Rattle.std.specs.Prelude.{◌≡◌, ℕ, ◌*◌, ◌^◌, ◌<◌, List, All, Option, IfSome, length, slice_index};
+ghost use Rattle.std.specs.Prelude.{◌≡◌, ◌↔◌, ℕ, ◌*◌, ◌^◌, ◌<◌, List, All, Option, IfSome, length, slice_index};
+ghost use Rattle.heap_model.specs.declared.block.Block.{Block};
 ghost use Rattle.heap_model.specs.Geometry.{roots};
 ghost use Rattle.heap_model.specs.Image.{bytes_of_words};
 ghost use Rattle.heap_model.specs.Header.{IsWellFormed, IsOldWellFormed, HasGoodHeader, HasKindsBelow, kinds_of};
+ghost use Rattle.heap_model.specs.Reach.{Links, AreInside, Reach, ReachIn, IsOutside, IsOutsideIn};
 ghost use Rattle.region_header.specs.Words.{AreWordsOf};
 ghost use Rattle.region_header.specs.Migration.{current_words, HasSameHeap};
 
@@ -38,4 +40,20 @@ pub fn a_good_image_has_a_current_form()
         → HasGoodHeader limit (8 * length words) (slice_index words)
         → IfSome limit (λ most. All (λ kind. kind < most) kinds)
         → HasKindsBelow limit (slice_index (current_words words kinds)) }
+{}
+
+/// What an image of the old version reaches, with the kinds that it is migrated with, is what its
+/// migrated form reaches by the kinds that this stores; and the same is outside. An image of this
+/// version is left as it is.
+pub fn a_migrated_image_reaches_the_same()
+    ensures reach { (words kinds : List ℕ) (links : Links) (limit : ℕ) → length kinds ≡ roots
+        → AreInside limit links → IsOldWellFormed (8 * length words) (slice_index words)
+        → (b : Block) (kind : ℕ) → Reach (slice_index words) (slice_index kinds) links b kind
+        ↔ ReachIn (slice_index (current_words words kinds)) links b kind }
+    ensures outside { (words kinds : List ℕ) (links : Links) (limit : ℕ) → length kinds ≡ roots
+        → AreInside limit links → IsOldWellFormed (8 * length words) (slice_index words)
+        → (at : ℕ) → IsOutside (slice_index words) (slice_index kinds) links at
+        ↔ IsOutsideIn (slice_index (current_words words kinds)) links at }
+    ensures new { (words kinds : List ℕ) → IsWellFormed (8 * length words) (slice_index words)
+        → current_words words kinds ≡ words }
 {}

@@ -13,5 +13,7 @@ pub use check::{Header, check_bytes, read_header};
 pub use conversions::{bytes_to_words, words_to_bytes};
 pub use empty::format;
 pub use heap_model::BadHeader;
-pub use laws::{a_good_image_has_a_current_form, conversions_are_inverse};
+pub use laws::{
+    a_good_image_has_a_current_form, a_migrated_image_reaches_the_same, conversions_are_inverse,
+};
 pub use migration::{current, migrate, migrate_owned};
