@@ -14,7 +14,7 @@ version = 2
 abbrev pub old_version : ℕ
 old_version = 1
 
--- the greatest capacity; the value stands here alone, and of it a proof knows only that it is not past this
+-- the greatest capacity; the value stands here alone, and a proof knows of it only these two bounds
 unfoldable pub largest_capacity : ℕ
 largest_capacity = 4096
 

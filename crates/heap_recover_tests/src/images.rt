@@ -272,7 +272,7 @@ fn held_at_rest(
     words: &[(usize, u64)],
 ) -> Result<usize, Fail>
     requires some { 1 ≤ capacity }
-    requires small { capacity ≤ 256 }
+    requires small { capacity ≤ 257 }
 {
     let mut image = image_of(rt.alloc(), capacity, "kind:0 2")?;
     write(&mut image, &[(8, capacity)]);
@@ -345,7 +345,7 @@ fn held_of_chained(
     step: u64,
 ) -> Result<usize, Fail>
     requires some { 1 ≤ capacity }
-    requires small { capacity ≤ 256 }
+    requires small { capacity ≤ 257 }
 {
     let mut words = Vec::new(rt.alloc());
     take_all(&mut words, capacity, class)?;
@@ -386,8 +386,8 @@ fn superblocks_of_every_class_are_left_at_rest(rt: HostRuntime) -> Result<(), Fa
 fn images_of_every_size_are_left_at_rest(rt: HostRuntime) -> Result<(), Fail> {
     let smallest = held_of_chained(&rt, 1, 1, SizeClass::new(20), 0, 1)?;
     must_hold(&rt, smallest == 4, "the smallest");
-    let largest = held_of_chained(&rt, 256, 255, SizeClass::new(12), 0, 3)?;
-    must_hold(&rt, largest == 5_610, "the largest");
+    let large = held_of_chained(&rt, 257, 256, SizeClass::new(12), 0, 3)?;
+    must_hold(&rt, large == 5_632, "more superblocks than the old version has");
     let longest = held_of_chained(&rt, 31, 30, SizeClass::new(2), 0, 1)?;
     must_hold(&rt, longest == 61_440, "the longest chain");
     Ok(())

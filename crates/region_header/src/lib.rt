@@ -1,4 +1,5 @@
-//! The header of a heap image, the image of an empty heap, and images as words and as bytes.
+//! The header of a heap image, the image of an empty heap, images of the version before as images
+//! of this one, and images as words and as bytes.
 #![tactic(auto)]
 
 mod byte_list;

@@ -1,5 +1,5 @@
-//! Where things stand in the image of a heap: the header, the roots, and each superblock with its
-//! descriptor.
+//! Where things stand in the image of a heap: the header, the roots, each superblock with its
+//! descriptor, and the kinds of the roots.
 #![tactic(auto, using(heap_model::specs::Geometry::largest_capacity_fits))]
 
 mod directory;
