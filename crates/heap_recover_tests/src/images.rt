@@ -387,7 +387,11 @@ fn images_of_every_size_are_left_at_rest(rt: HostRuntime) -> Result<(), Fail> {
     let smallest = held_of_chained(&rt, 1, 1, SizeClass::new(20), 0, 1)?;
     must_hold(&rt, smallest == 4, "the smallest");
     let large = held_of_chained(&rt, 257, 256, SizeClass::new(12), 0, 3)?;
-    must_hold(&rt, large == 5_632, "more superblocks than the old version has");
+    must_hold(
+        &rt,
+        large == 5_632,
+        "more superblocks than the old version has",
+    );
     let longest = held_of_chained(&rt, 31, 30, SizeClass::new(2), 0, 1)?;
     must_hold(&rt, longest == 61_440, "the longest chain");
     Ok(())
