@@ -1,5 +1,5 @@
 -- Whatever a crash leaves of the same durable words reaches the same: no trace looks at what it leaves at random.
-use Rattle.std.proofs.Common.{◌≡◌, ◌≢◌, ℕ, ◌+◌, ◌<◌, ◌≤◌, ◌⊎◌, inl, inr, List, Contains, refl, ap, sym, subst, ◌∙◌, arith}
+use Rattle.std.proofs.Common.{◌≡◌, ◌≢◌, ℕ, ◌+◌, ◌<◌, ◌≤◌, ◌⊎◌, inl, inr, refl, ap, sym, subst, ◌∙◌, arith}
 use Rattle.heap_model.specs.declared.block.Block.{Block}
 use Rattle.heap_model.specs.Geometry.{capacity_word, used_word, state_word, info_word, root_word, start_word, kind_word, roots, lists, head_word}
 use Rattle.heap_model.specs.Image.{Image}
@@ -9,7 +9,7 @@ use Rattle.heap_model.specs.Reach.{Links, AnyRoot, Reach, ReachIn, IsTraced, is_
 use Rattle.heap_model.specs.Durability.{IsCrashImage, IsTransient, is_head, is_anchor, is_link}
 use Rattle.heap_model.proofs.BlockLemmas.{block_inside}
 use Rattle.heap_model.proofs.ImageLemmas.{words_from-agree}
-use Rattle.heap_model.proofs.ReachLemmas.{reached_block, reach_kept, reach_by_kinds, traced_by_kinds}
+use Rattle.heap_model.proofs.ReachLemmas.{reached_block, reach_kept, traced_kept, outside_kept, reach_by_kinds, traced_by_kinds}
 use Rattle.heap_model.proofs.HeaderLemmas.{header_lasts}
 
 -- where a crash leaves words at random: in the line of the heads, or behind the info of a descriptor
@@ -78,25 +78,13 @@ module _ (durable image other : Image) (crash : IsCrashImage durable image) (cra
     pub same_reach : (b : Block) (kind : ℕ) → Reach image kinds links b kind → Reach other kinds links b kind
     same_reach = reach_kept image other AnyRoot kinds links alike
 
-    -- what a trace of the one looks at, a trace of the other does
-    traced_too : (at : ℕ) → IsTraced image kinds links at → IsTraced other kinds links at
-    traced_too _ (is_root root at below chosen is) = is_root root at below chosen is
-    traced_too _ (is_linked a from position kind at reached listed is) =
-        is_linked a from position kind at (same_reach a from reached)
-        (subst (λ (ls : List (ℕ × ℕ)). Contains ls (position, kind)) (sym (alike.same_links a from reached)) listed) is
-
-    -- and the same words point outside, with the same values
+    -- the same words point outside, with the same values
     pub same_outside : (at : ℕ) → IsOutside image kinds links at → IsOutside other kinds links at × (other at ≡ image at)
     same_outside at out = (
       record {
-        traced = traced_too at out.traced;
-        outside = record {
-          not_null = λ e. out.outside.not_null (sym (same_traced at out.traced) ∙ e);
-          nowhere = λ b leads. out.outside.nowhere b (record {
-            pointer = record { tagged = sym (same_traced at out.traced) ∙ leads.pointer.tagged; short = leads.pointer.short };
-            names = record { begins_at = refl; block = subst (λ (l : Layout). IsBlock l b) same_layout leads.names.block };
-          });
-        };
+        traced = traced_kept image other AnyRoot kinds links alike at out.traced;
+        outside = outside_kept image other AnyRoot kinds links alike at (λ b is. subst (λ (l : Layout). IsBlock l b) same_layout is)
+            out.traced out.outside;
       },
       same_traced at out.traced,
     )

@@ -105,6 +105,22 @@ module _ (image other : Image) (chosen : ℕ → Type 0) (kinds : ℕ → ℕ) (
         (alike.are_blocks b kind (by_link a b from kind reached link)) link.leads;
   })
 
+  -- what a trace of the one looks at, a trace of the other does
+  pub traced_kept : (at : ℕ) → IsTracedFrom image chosen kinds links at → IsTracedFrom other chosen kinds links at
+  traced_kept _ (is_root root at below is_chosen is) = is_root root at below is_chosen is
+  traced_kept _ (is_linked a from position kind at reached listed is) = is_linked a from position kind at (reach_kept a from reached)
+      (subst (λ (ls : List (ℕ × ℕ)). Contains ls (position, kind)) (sym (alike.same_links a from reached)) listed) is
+
+  -- where the other has no more blocks, a traced word that leads outside does so in the other
+  pub outside_kept : (at : ℕ) → ((b : Block) → IsBlock (layout_of other) b → IsBlock (layout_of image) b)
+      → IsTracedFrom image chosen kinds links at → LeadsOutside image (image at) → LeadsOutside other (other at)
+  outside_kept at back traced outside =
+      let there : image at ≡ other at = sym (alike.same_words at traced) in
+      record {
+        not_null = λ e. outside.not_null (there ∙ e);
+        nowhere = λ b leads. outside.nowhere b (leads_there other image (other at) (image at) b there (back b leads.names.block) leads);
+      }
+
   module _ (inside : (at : ℕ) → IsTracedFrom image chosen kinds links at → LeadsOutside image (image at) → ⊥) where
     -- where a traced word leads to a block in the other image it does in the one: it leads to some block there, which is one in the other too
     leads_here : (at kind : ℕ) (b : Block) → IsTracedFrom image chosen kinds links at

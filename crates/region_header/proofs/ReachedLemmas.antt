@@ -8,7 +8,7 @@ use Rattle.heap_model.specs.Blocks.{Begins, of_class, as_large, IsBlock, layout_
 use Rattle.heap_model.specs.Reach.{Links, AreInside, AnyRoot, Reach, ReachIn, IsTraced, is_root, is_linked, IsOutside, IsOutsideIn, TracesAlike}
 use Rattle.heap_model.proofs.BlockLemmas.{block_inside}
 use Rattle.heap_model.proofs.ImageLemmas.{length-words_from, words_from-agree}
-use Rattle.heap_model.proofs.ReachLemmas.{reached_block, reach_kept, reach_by_kinds, traced_by_kinds}
+use Rattle.heap_model.proofs.ReachLemmas.{reached_block, reach_kept, traced_kept, outside_kept, reach_by_kinds, traced_by_kinds}
 use Rattle.region_header.specs.Migration.{current_words, HasSameHeap}
 use Rattle.region_header.proofs.MigrationLemmas.{current_same, current_kinds}
 
@@ -74,28 +74,12 @@ module _ (image other : Image) (same : HasSameHeap image other) (few : used_of i
     same_reach : (b : Block) (kind : ℕ) → Reach image kinds links b kind → Reach other kinds links b kind
     same_reach = reach_kept image other AnyRoot kinds links alike
 
-    -- what a trace of the one looks at, a trace of the other does
-    traced_too : (at : ℕ) → IsTraced image kinds links at → IsTraced other kinds links at
-    traced_too _ (is_root root at below chosen is) = is_root root at below chosen is
-    traced_too _ (is_linked a from position kind at reached listed is) =
-        is_linked a from position kind at (same_reach a from reached)
-        (subst (λ (ls : List (ℕ × ℕ)). Contains ls (position, kind)) (sym (alike.same_links a from reached)) listed) is
-
-    -- and a word that leads to a block in the other image leads there in the one
     same_outside : (at : ℕ) → ((b : Block) → IsBlock (layout_of other) b → IsBlock (layout_of image) b) → IsOutside image kinds links at
         → IsOutside other kinds links at
-    same_outside at back out =
-        let there : image at ≡ other at = sym (same_traced at out.traced) in
-        record {
-          traced = traced_too at out.traced;
-          outside = record {
-            not_null = λ e. out.outside.not_null (there ∙ e);
-            nowhere = λ b leads. out.outside.nowhere b (record {
-              pointer = record { tagged = there ∙ leads.pointer.tagged; short = leads.pointer.short };
-              names = record { begins_at = refl; block = back b leads.names.block };
-            });
-          };
-        }
+    same_outside at back out = record {
+      traced = traced_kept image other AnyRoot kinds links alike at out.traced;
+      outside = outside_kept image other AnyRoot kinds links alike at back out.traced out.outside;
+    }
 
 module _ (words kinds : List ℕ) (links : Links) (limit : ℕ) (count : length kinds ≡ roots) (within : AreInside limit links)
     (formed : IsOldWellFormed (8 * length words) (slice_index words)) where
