@@ -1,6 +1,6 @@
 -- What a request and a free leave of a heap for one thread.
 use Rattle.std.proofs.Common.{◌≡◌, ℕ, zero, suc, ◌+◌, ◌-◌, ◌<◌, ◌≤◌, ◌⊎◌, inl, inr, Option, None, Some, Result, Ok, Err, OnOk, OnErr, IfOk, IfErr, List, Contains, refl, ap, sym, subst, ◌∙◌, arith}
-use Rattle.std.specs.Prelude.{slice_index_or, ⊤}
+use Rattle.std.specs.Prelude.{slice_index_or}
 use Rattle.std.proofs.lemmas.Bool.{cases_lt}
 use Rattle.heap_model.specs.declared.block.Block.{Block}
 use Rattle.heap_model.specs.Geometry.{roots, kind_word, used_word}
@@ -13,7 +13,7 @@ use Rattle.heap_seat.specs.declared.fault.Looks.{Looks}
 use Rattle.heap_seat.specs.declared.look.Look.{Look}
 use Rattle.block_heap.specs.Accounts.{AreAccounted}
 use Rattle.heap_seat.specs.Alloc.{Refuses}
-use Rattle.heap_seat.specs.Looks.{IsLastSeen, FoundNone, FoundNoRoom}
+use Rattle.heap_seat.specs.Looks.{IsLastSeen, FoundEmpty, FoundNoRoom}
 use Rattle.block_heap.specs.Parts.{Parts, image_of, held_in}
 use Rattle.block_heap.specs.Running.{IsRunning, CachesAreShort, LeavesHeld}
 use Rattle.block_heap.specs.Serving.{Answers, Misses, IsLooksOf, RefusesAs}
@@ -208,17 +208,14 @@ module _ (bytes : ℕ) (looks : Looks) (s t : SeqState) (misses : Misses bytes s
   }
 
   found_empty : (list now : ℕ) → IsLook s.parts.words.drawn t.parts (look_at t.parts list) (head_at t.parts list) → IsEmptyList t.parts list
-      → now ≡ (look_at t.parts list).seen → FoundNone (λ _. ⊤) (seat_of s) refused_view list now
+      → now ≡ (look_at t.parts list).seen → FoundEmpty (seat_of s) refused_view list now
   found_empty list now is empty same = record {
-    found = λ read. record {
-      last = seen (look_at t.parts list) (head_at t.parts list) now is same;
-      empty = ap head_first (same ∙ is.seen_is) ∙ empty;
-    };
-    unread = λ unread. absurd (unread tt);
+    last = seen (look_at t.parts list) (head_at t.parts list) now is same;
+    empty = ap head_first (same ∙ is.seen_is) ∙ empty;
   }
 
   -- why it found no room
-  found : FoundNoRoom (λ _. ⊤) bytes looks (seat_of s) refused_view
+  found : FoundNoRoom bytes looks (seat_of s) refused_view
   found = record {
     used = used.0;
     past = used.1;
@@ -244,7 +241,7 @@ module _ (bytes : ℕ) (looks : Looks) (s t : SeqState) (misses : Misses bytes s
     ]
 
   -- a request that found no room is refused
-  pub refuses : Runs (seat_of s) (seat_of t) → KeepsWords (seat_of s) (seat_of t) → Refuses (λ _. ⊤) bytes looks (seat_of s) refused_view
+  pub refuses : Runs (seat_of s) (seat_of t) → KeepsWords (seat_of s) (seat_of t) → Refuses bytes looks (seat_of s) refused_view
   refuses runs keeps = record {
     runs = record { ran = runs.ran; running = runs.running; drew = runs.drew; below = runs.below };
     found = found;
@@ -301,7 +298,7 @@ refused_heap s bytes looks l heap room = record { lasts = heap.lasts; running = 
 pub refused_by : (bytes : ℕ) (looks : Looks) (answer : Option Block) (s seen t : SeqState) → t ≡ seen → answer ≡ None → Answers bytes answer s.parts seen.parts
     → Runs (seat_of s) (seat_of seen) → KeepsWords (seat_of s) (seat_of seen)
     → IsLooksOf bytes looks t.parts
-    → Refuses (λ _. ⊤) bytes looks (seat_of s) (record (seat_of t) { refusals = t.refusals + 1; refused_bytes = bytes; refused_looks = looks })
+    → Refuses bytes looks (seat_of s) (record (seat_of t) { refusals = t.refusals + 1; refused_bytes = bytes; refused_looks = looks })
 refused_by bytes looks answer s seen t same none answers runs keeps are =
     refuses bytes looks s t (subst (λ m. Misses bytes s.parts m.parts) (sym same) (subst (λ a. Answers bytes a s.parts seen.parts) none answers)) are
     (subst (λ m. Runs (seat_of s) (seat_of m)) (sym same) runs) (subst (λ m. KeepsWords (seat_of s) (seat_of m)) (sym same) keeps)

@@ -11,7 +11,7 @@ use Rattle.heap_seat.specs.Words.{IsOwn, KeepsOwn, MixesOwn, MayHaveStored, in_b
 use Rattle.heap_seat.specs.Tickets.{Runs}
 use Rattle.heap_seat.specs.Calls.{SameRefusals}
 use Rattle.heap_seat.specs.Alloc.{FailsBy}
-use Rattle.heap_seat.specs.Looks.{IsLastSeen, FoundNone}
+use Rattle.heap_seat.specs.Looks.{IsLastSeen, FoundEmpty}
 use Rattle.heap_seat.specs.Sound.{IsSeat}
 use Rattle.heap_seat.proofs.CallerLemmas.{keeps_own_then}
 use Rattle.heap_seat.proofs.RowLemmas.{runs_then, stops_then, same_refusals_then}
@@ -48,24 +48,21 @@ seen_before v u w look seen later last = record {
   taken = last.taken;
 }
 
-none_before : (reads : ℕ → Type 0) (v u w : View) (list head : ℕ) → v.next ≤ u.next → FoundNone reads u w list head → FoundNone reads v w list head
-none_before reads v u w list head later none = record {
-  found = λ read. let empty = none.found read in record { last = seen_before v u w (w.head_look list) head later empty.last; empty = empty.empty };
-  unread = none.unread;
-}
+empty_before : (v u w : View) (list head : ℕ) → v.next ≤ u.next → FoundEmpty u w list head → FoundEmpty v w list head
+empty_before v u w list head later found = record { last = seen_before v u w (w.head_look list) head later found.last; empty = found.empty }
 
 -- a refusal in a later call
-pub refused_before : (reads : ℕ → Type 0) (bytes before behind most : ℕ) (looks : Looks) (v u w : View) → Runs v u → SameRefusals v u → u.taken ≤ v.taken + before → before + behind ≤ most
-    → IsRefused reads bytes behind looks u w → IsRefused reads bytes most looks v w
-refused_before reads bytes before behind most looks v u w runs same taken sum refused =
+pub refused_before : (bytes before behind most : ℕ) (looks : Looks) (v u w : View) → Runs v u → SameRefusals v u → u.taken ≤ v.taken + before → before + behind ≤ most
+    → IsRefused bytes behind looks u w → IsRefused bytes most looks v w
+refused_before bytes before behind most looks v u w runs same taken sum refused =
     let later : v.next ≤ u.next = let drew = runs.drew in omega arith in
     record {
       runs = runs_then v u w runs refused.runs;
       found = record {
         used = seen_before v u w w.used_look looks.used later refused.found.used;
         past = refused.found.past;
-        class = λ c least. none_before reads v u w c looks.class_head later (refused.found.class c least);
-        free = λ small. none_before reads v u w 0 looks.free_head later (refused.found.free small);
+        class = λ c least. empty_before v u w c looks.class_head later (refused.found.class c least);
+        free = λ small. empty_before v u w 0 looks.free_head later (refused.found.free small);
         large = refused.found.large;
       };
       count = let a = same.count in let b = refused.count in omega arith;
@@ -75,10 +72,10 @@ refused_before reads bytes before behind most looks v u w runs same taken sum re
     }
 
 -- the cause of a refusal, and of a stop, over calls before
-pub put_fails : (reads : ℕ → Type 0) (bytes : ℕ) (fault : AllocFault) (v u w : View) → Runs v u → KeepsOwn v u → SameRefusals v u → u.taken ≤ v.taken + 0 → ((looks : Looks) → fault ≡ Full looks → KeepsOwn u w) → FailsBy reads bytes fault u w
-    → PutFails reads bytes fault v w
-put_fails reads bytes (Full looks) v u w runs before same taken after fails = (
-  refused_before reads bytes 0 0 0 looks v u w runs same taken (omega arith) (record {
+pub put_fails : (bytes : ℕ) (fault : AllocFault) (v u w : View) → Runs v u → KeepsOwn v u → SameRefusals v u → u.taken ≤ v.taken + 0 → ((looks : Looks) → fault ≡ Full looks → KeepsOwn u w) → FailsBy bytes fault u w
+    → PutFails bytes fault v w
+put_fails bytes (Full looks) v u w runs before same taken after fails = (
+  refused_before bytes 0 0 0 looks v u w runs same taken (omega arith) (record {
     runs = fails.runs;
     found = fails.found;
     count = fails.count;
@@ -88,7 +85,7 @@ put_fails reads bytes (Full looks) v u w runs before same taken after fails = (
   }),
   keeps_own_then v u w before (after looks refl),
 )
-put_fails reads bytes (Stopped stopped) v u w runs before same taken after fails = (stops_then stopped.step v u w runs fails.0, same_refusals_then v u w same fails.1)
+put_fails bytes (Stopped stopped) v u w runs before same taken after fails = (stops_then stopped.step v u w runs fails.0, same_refusals_then v u w same fails.1)
 
 module _ (v t u w : View) (seat_t : IsSeat t) (seat : IsSeat u) (key first x : ℕ) (value : List ℕ) (table n : Block) (shard : IsShard v (shard_of key)) (missing : IsMissing v key table)
     (seat_v : IsSeat v) (keeps : KeepsOwn v t) (follows : FollowsLink (table.first_word + bucket_of key) first v t) (grown_u : Grown t u) (makes : MakesNode n key first value t u)

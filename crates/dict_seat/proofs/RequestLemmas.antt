@@ -47,31 +47,31 @@ has_table u w shard table owned root grown = record {
 }
 
 -- over quiet calls before: a node's refusal, and a table's
-pub answers_node : (reads : ℕ → Type 0) (bytes shard : ℕ) (fault : AllocFault) (table : Block) (v u w : View) → Runs v u → Grown v u → SameRefusals v u → u.taken ≤ v.taken + 0
-    → Contains u.roots shard → IsSettling u (root_word shard) (pointer_to table) → PutFails reads bytes fault u w → PutAnswers reads bytes shard fault v w
-answers_node reads bytes shard (Full looks) table v u w runs grown same taken owned root fails = (
-  of_node (has_table u w shard table owned root (grown_keeps u w fails.1)) (refused_before reads bytes 0 0 0 looks v u w runs same taken (omega arith) fails.0),
+pub answers_node : (bytes shard : ℕ) (fault : AllocFault) (table : Block) (v u w : View) → Runs v u → Grown v u → SameRefusals v u → u.taken ≤ v.taken + 0
+    → Contains u.roots shard → IsSettling u (root_word shard) (pointer_to table) → PutFails bytes fault u w → PutAnswers bytes shard fault v w
+answers_node bytes shard (Full looks) table v u w runs grown same taken owned root fails = (
+  of_node (has_table u w shard table owned root (grown_keeps u w fails.1)) (refused_before bytes 0 0 0 looks v u w runs same taken (omega arith) fails.0),
   λ map gives. gives_grown u w (grown_keeps u w fails.1) shard map (gives_grown v u grown shard map gives),
 )
-answers_node reads bytes shard (Stopped stopped) table v u w runs grown same taken owned root fails = (stops_then stopped.step v u w runs fails.0, same_refusals_then v u w same fails.1)
+answers_node bytes shard (Stopped stopped) table v u w runs grown same taken owned root fails = (stops_then stopped.step v u w runs fails.0, same_refusals_then v u w same fails.1)
 
-pub answers_table : (reads : ℕ → Type 0) (bytes shard : ℕ) (fault : AllocFault) (v u w : View) → Runs v u → Grown v u → SameRefusals v u → u.taken ≤ v.taken + 0
-    → Contains u.roots shard → IsSettling u (root_word shard) 0 → PutFails reads table_bytes fault u w → PutAnswers reads bytes shard fault v w
-answers_table reads bytes shard (Full looks) v u w runs grown same taken owned root fails = (
-  of_table (((grown_keeps u w fails.1).words (root_word shard) (root_own u shard owned)).volatile 0 root.seen) (refused_before reads table_bytes 0 0 0 looks v u w runs same taken (omega arith) fails.0),
+pub answers_table : (bytes shard : ℕ) (fault : AllocFault) (v u w : View) → Runs v u → Grown v u → SameRefusals v u → u.taken ≤ v.taken + 0
+    → Contains u.roots shard → IsSettling u (root_word shard) 0 → PutFails table_bytes fault u w → PutAnswers bytes shard fault v w
+answers_table bytes shard (Full looks) v u w runs grown same taken owned root fails = (
+  of_table (((grown_keeps u w fails.1).words (root_word shard) (root_own u shard owned)).volatile 0 root.seen) (refused_before table_bytes 0 0 0 looks v u w runs same taken (omega arith) fails.0),
   λ map gives. gives_grown u w (grown_keeps u w fails.1) shard map (gives_grown v u grown shard map gives),
 )
-answers_table reads bytes shard (Stopped stopped) v u w runs grown same taken owned root fails = (stops_then stopped.step v u w runs fails.0, same_refusals_then v u w same fails.1)
+answers_table bytes shard (Stopped stopped) v u w runs grown same taken owned root fails = (stops_then stopped.step v u w runs fails.0, same_refusals_then v u w same fails.1)
 
 -- and behind a table that was made
-pub answers_behind : (reads : ℕ → Type 0) (bytes key : ℕ) (fault : AllocFault) (table : Block) (v u y w : View) → Runs v u → Grown v u → SameRefusals v u → u.taken ≤ v.taken + 0
-    → WasNull v (shard_of key) → MakesTable key table u y → y.taken ≤ u.taken + span_of table_bytes → PutFails reads bytes fault y w → PutAnswers reads bytes (shard_of key) fault v w
-answers_behind reads bytes key (Full looks) table v u y w runs grown same taken null makes few fails = (
+pub answers_behind : (bytes key : ℕ) (fault : AllocFault) (table : Block) (v u y w : View) → Runs v u → Grown v u → SameRefusals v u → u.taken ≤ v.taken + 0
+    → WasNull v (shard_of key) → MakesTable key table u y → y.taken ≤ u.taken + span_of table_bytes → PutFails bytes fault y w → PutAnswers bytes (shard_of key) fault v w
+answers_behind bytes key (Full looks) table v u y w runs grown same taken null makes few fails = (
   of_node_behind_table null (has_table y w (shard_of key) table makes.missing.come.owned makes.missing.come.root (grown_keeps y w fails.1))
-      (refused_before reads bytes (span_of table_bytes) 0 (span_of table_bytes) looks v y w (runs_then v u y runs makes.runs) (same_refusals_then v u y same makes.refusals) (omega arith) (omega arith) fails.0),
+      (refused_before bytes (span_of table_bytes) 0 (span_of table_bytes) looks v y w (runs_then v u y runs makes.runs) (same_refusals_then v u y same makes.refusals) (omega arith) (omega arith) fails.0),
   λ map gives. gives_grown y w (grown_keeps y w fails.1) (shard_of key) map (makes.gives map (gives_grown v u grown (shard_of key) map gives)),
 )
-answers_behind reads bytes key (Stopped stopped) table v u y w runs grown same taken null makes few fails =
+answers_behind bytes key (Stopped stopped) table v u y w runs grown same taken null makes few fails =
     (stops_then stopped.step v y w (runs_then v u y runs makes.runs) fails.0, same_refusals_then v y w (same_refusals_then v u y same makes.refusals) fails.1)
 
 -- a change behind a table that was made
@@ -97,6 +97,6 @@ shard_behind key after table u y shard makes change = record {
 }
 
 -- a refused request stored nothing
-pub full_keeps : (reads : ℕ → Type 0) (bytes : ℕ) (fault : AllocFault) (v w : View) (looks : Looks) → fault ≡ Full looks → PutFails reads bytes fault v w → KeepsOwn v w
-full_keeps reads bytes (Full found) v w looks is fails = fails.1
-full_keeps reads bytes (Stopped stopped) v w looks is fails = absurd (cc)
+pub full_keeps : (bytes : ℕ) (fault : AllocFault) (v w : View) (looks : Looks) → fault ≡ Full looks → PutFails bytes fault v w → KeepsOwn v w
+full_keeps bytes (Full found) v w looks is fails = fails.1
+full_keeps bytes (Stopped stopped) v w looks is fails = absurd (cc)

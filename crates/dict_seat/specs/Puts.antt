@@ -22,18 +22,18 @@ pub record IsMissing (v : View) (key : ℕ) (table : Block) : Type 0 where
   pub none : (map : Map) → GivesMap v (shard_of key) map → map key ≡ None
 
 -- a request of so many bytes was refused in this call, the only one: it is the last refusal, and had these looks; the call took at most so many superblocks
-pub record IsRefused (reads : ℕ → Type 0) (bytes most : ℕ) (looks : Looks) (v w : View) : Type 0 where
+pub record IsRefused (bytes most : ℕ) (looks : Looks) (v w : View) : Type 0 where
   pub runs : Runs v w
-  pub found : FoundNoRoom reads bytes looks v w
+  pub found : FoundNoRoom bytes looks v w
   pub count : w.refusals ≡ v.refusals + 1
   pub bytes_are : w.refused_bytes ≡ bytes
   pub looks_are : w.refused_looks ≡ looks
   pub taken : w.taken ≤ v.taken + most
 
 -- why a put was not done: this request was refused, and no word was stored to; or the seat stopped
-abbrev pub PutFails : (ℕ → Type 0) → ℕ → AllocFault → View → View → Type 0
-PutFails reads bytes (Full looks) v w = IsRefused reads bytes 0 looks v w × KeepsOwn v w
-PutFails reads bytes (Stopped stopped) v w = Stops stopped.step v w × SameRefusals v w
+abbrev pub PutFails : ℕ → AllocFault → View → View → Type 0
+PutFails bytes (Full looks) v w = IsRefused bytes 0 looks v w × KeepsOwn v w
+PutFails bytes (Stopped stopped) v w = Stops stopped.step v w × SameRefusals v w
 
 -- as far as loads' view of the shard's root was known, it was null
 abbrev pub WasNull : View → ℕ → Type 0
@@ -46,17 +46,17 @@ pub record RootIsSet (w : View) (shard : ℕ) : Type 0 where
   pub some : value ≢ 0
 
 -- which request a put had refused: its node's, where the shard had a table or just behind one that was made; or that for a missing table
-pub data PutRefused (reads : ℕ → Type 0) (bytes shard : ℕ) (looks : Looks) (v w : View) : Type 0 where
-  of_node : RootIsSet w shard → IsRefused reads bytes 0 looks v w → PutRefused reads bytes shard looks v w
-  of_node_behind_table : WasNull v shard → RootIsSet w shard → IsRefused reads bytes (span_of table_bytes) looks v w
-      → PutRefused reads bytes shard looks v w
-  of_table : w.volatile (root_word shard) ≡ Some 0 → IsRefused reads table_bytes 0 looks v w → PutRefused reads bytes shard looks v w
+pub data PutRefused (bytes shard : ℕ) (looks : Looks) (v w : View) : Type 0 where
+  of_node : RootIsSet w shard → IsRefused bytes 0 looks v w → PutRefused bytes shard looks v w
+  of_node_behind_table : WasNull v shard → RootIsSet w shard → IsRefused bytes (span_of table_bytes) looks v w
+      → PutRefused bytes shard looks v w
+  of_table : w.volatile (root_word shard) ≡ Some 0 → IsRefused table_bytes 0 looks v w → PutRefused bytes shard looks v w
 
 -- why a put answers a fault: a request was refused, and every mixture gives the map as before; or the seat stopped
-abbrev pub PutAnswers : (ℕ → Type 0) → ℕ → ℕ → AllocFault → View → View → Type 0
-PutAnswers reads bytes shard (Full looks) v w =
-    PutRefused reads bytes shard looks v w × ((map : Map) → GivesMap v shard map → GivesMap w shard map)
-PutAnswers reads bytes shard (Stopped stopped) v w = Stops stopped.step v w × SameRefusals v w
+abbrev pub PutAnswers : ℕ → ℕ → AllocFault → View → View → Type 0
+PutAnswers bytes shard (Full looks) v w =
+    PutRefused bytes shard looks v w × ((map : Map) → GivesMap v shard map → GivesMap w shard map)
+PutAnswers bytes shard (Stopped stopped) v w = Stops stopped.step v w × SameRefusals v w
 
 -- the superblocks that a put took: for its node, and for a table where there was none
 pub data PutTakes (bytes shard : ℕ) (v w : View) : Type 0 where

@@ -101,7 +101,7 @@ pub(crate) fn make_node<H: HeapSeat>(
     requires { length value.now ≤ largest_value }
     ensures ok { IfOk result (λ node. MakesNode node key next value.now
         (H.view seat.old) (H.view seat.new)) }
-    ensures cause { IfErr result (λ fault. FailsBy H.reads (node_bytes (length value.now)) fault
+    ensures cause { IfErr result (λ fault. FailsBy (node_bytes (length value.now)) fault
         (H.view seat.old) (H.view seat.new)) }
     ensures full { IfErr result (λ fault. (looks : Looks) → fault ≡ Full looks
         → KeepsOwn (H.view seat.old) (H.view seat.new)) }

@@ -37,7 +37,7 @@ pub(crate) fn put_first<H: HeapSeat>(
     ensures runs { OnOk result (Runs (H.view seat.old) (H.view seat.new)) }
     ensures exact { OnOk result (ReachesAllHeld (H.view seat.old)
         → ReachesAllHeld (H.view seat.new)) }
-    ensures cause { IfErr result (λ fault. PutFails H.reads (node_bytes (length value.now)) fault
+    ensures cause { IfErr result (λ fault. PutFails (node_bytes (length value.now)) fault
         (H.view seat.old) (H.view seat.new)) }
     ensures crash { MayChange (shard_of key) (λ map. with_key map key value.now)
         (H.view seat.old) (H.view seat.new) }
@@ -67,7 +67,7 @@ pub(crate) fn put_over<H: HeapSeat>(
     ensures runs { OnOk result (Runs (H.view seat.old) (H.view seat.new)) }
     ensures exact { OnOk result (ReachesAllHeld (H.view seat.old)
         → ReachesAllHeld (H.view seat.new)) }
-    ensures cause { IfErr result (λ fault. PutFails H.reads (node_bytes (length value.now)) fault
+    ensures cause { IfErr result (λ fault. PutFails (node_bytes (length value.now)) fault
         (H.view seat.old) (H.view seat.new)) }
     ensures crash { MayChange (shard_of key) (λ map. with_key map key value.now)
         (H.view seat.old) (H.view seat.new) }

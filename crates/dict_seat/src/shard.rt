@@ -125,7 +125,7 @@ impl Shard {
             → ReachesAllHeld (H.view seat.old) → ReachesAllHeld (H.view seat.new)) }
         ensures taken { OnOk result (PutTakes (node_bytes (length value.now)) (shard_of key)
             (H.view seat.old) (H.view seat.new)) }
-        ensures cause { IfErr result (λ fault. PutAnswers H.reads (node_bytes (length value.now))
+        ensures cause { IfErr result (λ fault. PutAnswers (node_bytes (length value.now))
             (shard_of key) fault (H.view seat.old) (H.view seat.new)) }
 
         // At every exit.

@@ -47,7 +47,7 @@ pub(crate) fn make_table<H: HeapSeat>(seat: &mut H, key: u64) -> Result<Block, A
         (H.view seat.old) (H.view seat.new)) }
     ensures exact { OnOk result (ReachesAllHeld (H.view seat.old)
         → ReachesAllHeld (H.view seat.new)) }
-    ensures cause { IfErr result (λ fault. PutFails H.reads table_bytes fault
+    ensures cause { IfErr result (λ fault. PutFails table_bytes fault
         (H.view seat.old) (H.view seat.new)) }
     ensures crash { (after : Map → Map) → MayChange (shard_of key) after
         (H.view seat.old) (H.view seat.new) }

@@ -34,9 +34,9 @@ pub record Allocates (bytes : ℕ) (b : Block) (v w : View) : Type 0 where
   pub refusals : SameRefusals v w
 
 -- the request was refused for want of room: it took nothing, and it is the last refusal
-pub record Refuses (reads : ℕ → Type 0) (bytes : ℕ) (looks : Looks) (v w : View) : Type 0 where
+pub record Refuses (bytes : ℕ) (looks : Looks) (v w : View) : Type 0 where
   pub runs : Runs v w
-  pub found : FoundNoRoom reads bytes looks v w
+  pub found : FoundNoRoom bytes looks v w
   pub taken : w.taken ≡ v.taken
   pub count : w.refusals ≡ v.refusals + 1
   pub bytes_are : w.refused_bytes ≡ bytes
@@ -44,6 +44,6 @@ pub record Refuses (reads : ℕ → Type 0) (bytes : ℕ) (looks : Looks) (v w :
   pub pending : (word : ℕ) → IsOwn v.held v.roots word → KeepsPending v w word
 
 -- the cause of each answer that gives no block
-abbrev pub FailsBy : (ℕ → Type 0) → ℕ → AllocFault → View → View → Type 0
-FailsBy reads bytes (Full looks) v w = Refuses reads bytes looks v w
-FailsBy reads bytes (Stopped stopped) v w = Stops stopped.step v w × SameRefusals v w
+abbrev pub FailsBy : ℕ → AllocFault → View → View → Type 0
+FailsBy bytes (Full looks) v w = Refuses bytes looks v w
+FailsBy bytes (Stopped stopped) v w = Stops stopped.step v w × SameRefusals v w

@@ -1,5 +1,5 @@
 -- Worked examples by computation: what a request gets, looks, spots, lines, counts, rows, a refusal, and what an image may have.
-use Rattle.std.specs.Prelude.{◌≡◌, ◌+◌, ◌*◌, ◌/◌, ◌<◌, ◌≤◌, ◌⊎◌, ⊤, nat_le, ℕ, [], ◌∷◌, None, Some, true, refl}
+use Rattle.std.specs.Prelude.{◌≡◌, ◌+◌, ◌*◌, ◌/◌, ◌<◌, ◌≤◌, ◌⊎◌, nat_le, ℕ, [], ◌∷◌, None, Some, true, refl}
 use Rattle.std.proofs.Common.{arith, inl, inr, ap, ◌∙◌}
 use Rattle.std.proofs.lemmas.Bool.{leb-true}
 use Rattle.heap_model.specs.declared.block.Block.{Block}
@@ -10,7 +10,7 @@ use Rattle.heap_seat.specs.declared.look.Look.{Look}
 use Rattle.heap_seat.specs.declared.spot.Spot.TheVariants.{InBlock, Root}
 use Rattle.heap_seat.specs.Alloc.{IsSizeFor, of_class, of_superblocks}
 use Rattle.heap_seat.specs.Calls.{counted, IsWrittenWith}
-use Rattle.heap_seat.specs.Looks.{FoundNoRoom, FoundNone, KnowsNoLess, IsMade, KeepsLooks}
+use Rattle.heap_seat.specs.Looks.{FoundEmpty, FoundNoRoom, KnowsNoLess, IsMade, KeepsLooks}
 use Rattle.heap_seat.specs.Rows.{IsRow}
 use Rattle.heap_seat.specs.View.{View, word_of}
 use Rattle.heap_seat.specs.Words.{IsOwn, in_root, MixesOwn, HasPicked, IsDurable}
@@ -108,7 +108,7 @@ knows_no_less = (omega arith, λ less. omega arith)
 abbrev one_used : Looks
 one_used = record { class_head = 0; free_head = 0; used = 1 }
 
-two_asked : FoundNoRoom (λ _. ⊤) 65537 one_used (seat_with (look_with 0 0) 7) (seat_with (look_with 1 1) 8)
+two_asked : FoundNoRoom 65537 one_used (seat_with (look_with 0 0) 7) (seat_with (look_with 1 1) 8)
 two_asked = record {
   used = record { is = refl; ticket = 7; by = refl; drawn = record { from = omega arith; until = omega arith }; taken = refl };
   past = omega arith;
@@ -122,10 +122,10 @@ two_asked = record {
 }
 
 -- for one superblock there was room; and a look of an earlier call, or from before the seat took one, shows nothing
-one_asked : (v w : View) → w.capacity ≡ 2 → FoundNoRoom (λ _. ⊤) 14337 one_used v w → ⊥
+one_asked : (v w : View) → w.capacity ≡ 2 → FoundNoRoom 14337 one_used v w → ⊥
 one_asked v w two found = let past = found.past in omega arith
 
-seen_earlier : FoundNoRoom (λ _. ⊤) 65537 one_used (seat_with (look_with 1 1) 8) (seat_with (look_with 1 1) 9) → ⊥
+seen_earlier : FoundNoRoom 65537 one_used (seat_with (look_with 1 1) 8) (seat_with (look_with 1 1) 9) → ⊥
 seen_earlier found =
     let last = found.used in
     let by : Some 7 ≡ Some last.ticket = last.by in
@@ -133,7 +133,7 @@ seen_earlier found =
     let same : 7 ≡ last.ticket = cc in
     omega arith
 
-taken_since : FoundNoRoom (λ _. ⊤) 65537 one_used (seat_with (look_with 1 0) 7) (seat_with (look_with 1 0) 8) → ⊥
+taken_since : FoundNoRoom 65537 one_used (seat_with (look_with 1 0) 7) (seat_with (look_with 1 0) 8) → ⊥
 taken_since found = absurd (let taken : 0 ≡ 1 = found.used.taken in omega arith)
 
 -- block 1 of class 3, of 6 words, in superblock 0 of a heap of one: the border of a line is behind its second word
@@ -173,9 +173,27 @@ made_between = (
   λ made. let most = made.most in omega arith,
 )
 
--- a list that a request doesn't read has 0 for its look, whatever was seen there
-unread_list : FoundNone (λ list. list ≡ 0) (seat_with (look_with 0 0) 7) (seat_with (look_with 0 0) 8) 3 0
-unread_list = record { found = λ read. absurd (omega (arith, read)); unread = λ not. refl }
+-- a request of a class is refused by looks of this call at both heads, and never where that of the free superblocks was not read
+abbrev seat_looked : View
+seat_looked = record (seat_with (look_with 2 1) 8) { head_look = λ list. look_with 0 1 }
+
+seen_empty : (list : ℕ) → FoundEmpty (seat_with (look_with 1 1) 7) seat_looked list 0
+seen_empty list = record {
+  last = record { is = refl; ticket = 7; by = refl; drawn = record { from = omega arith; until = omega arith }; taken = refl };
+  empty = refl;
+}
+
+small_asked : FoundNoRoom 14336 (record { class_head = 0; free_head = 0; used = 2 }) (seat_with (look_with 1 1) 7) seat_looked
+small_asked = record {
+  used = record { is = refl; ticket = 7; by = refl; drawn = record { from = omega arith; until = omega arith }; taken = refl };
+  past = omega arith;
+  class = λ c least. seen_empty c;
+  free = λ small. seen_empty 0;
+  large = λ large. (refl, refl);
+}
+
+free_unread : (bytes : ℕ) (looks : Looks) (v w : View) → bytes ≤ largest_small → (w.head_look 0).ticket ≡ None → FoundNoRoom bytes looks v w → ⊥
+free_unread bytes looks v w small unread found = let by = (found.free small).last.by in absurd (cc)
 
 -- two small calls are a row of two, and no row of one
 abbrev seat_called : ℕ → View

@@ -20,17 +20,12 @@ pub record FoundEmpty (v w : View) (list head : ℕ) : Type 0 where
   pub last : IsLastSeen v w (w.head_look list) head
   pub empty : head_first head ≡ 0
 
--- the list was found empty where a request reads such heads, and else its look is 0
-pub record FoundNone (reads : ℕ → Type 0) (v w : View) (list head : ℕ) : Type 0 where
-  pub found : reads list → FoundEmpty v w list head
-  pub unread : (reads list → ⊥) → head ≡ 0
-
--- why the request found no room: the lists that it read were empty, and too few superblocks were left
-pub record FoundNoRoom (reads : ℕ → Type 0) (bytes : ℕ) (looks : Looks) (v w : View) : Type 0 where
+-- why the request found no room: the lists that it may have a block from were empty, and too few superblocks were left
+pub record FoundNoRoom (bytes : ℕ) (looks : Looks) (v w : View) : Type 0 where
   pub used : IsLastSeen v w w.used_look looks.used
   pub past : w.capacity < looks.used + span_of bytes
-  pub class : (c : ℕ) → IsLeastClassFor bytes c → FoundNone reads v w c looks.class_head
-  pub free : bytes ≤ largest_small → FoundNone reads v w 0 looks.free_head
+  pub class : (c : ℕ) → IsLeastClassFor bytes c → FoundEmpty v w c looks.class_head
+  pub free : bytes ≤ largest_small → FoundEmpty v w 0 looks.free_head
   pub large : largest_small < bytes → (looks.class_head ≡ 0) × (looks.free_head ≡ 0)
 
 -- the last look at `used` less what the seat had taken by then: this difference never falls

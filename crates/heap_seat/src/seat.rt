@@ -36,10 +36,6 @@ pub trait HeapSeat {
 
     ghost has_none: { Self → Self → ℕ → Looks → Type 0 } = { λ _ _ _ _. ⊤ };
 
-    // The lists whose heads a request reads before it is refused: 0 is that of the free
-    // superblocks, then the classes. By default each that it may have a block from.
-    ghost reads: { ℕ → Type 0 } = { λ _. ⊤ };
-
     // What is so of a seat before and after it took this block back. By default nothing.
     ghost gives_back: { Self → Self → Block → Type 0 } = { λ _ _ _. ⊤ };
 
@@ -49,7 +45,7 @@ pub trait HeapSeat {
     /// A block of at least so many bytes. What its words hold is not known.
     fn alloc(&mut self, bytes: u64) -> Result<Block, AllocFault>
         ensures ok { IfOk result (λ b. Allocates bytes b (view self.old) (view self.new)) }
-        ensures cause { IfErr result (λ fault. FailsBy reads bytes fault
+        ensures cause { IfErr result (λ fault. FailsBy bytes fault
             (view self.old) (view self.new)) }
         ensures room { OnOk result (has_room self.old self.new bytes) }
         ensures none { IfErr result (λ fault. (looks : Looks) → fault ≡ Full looks

@@ -49,31 +49,31 @@ replied_put key value v w shard changes takes = record {
 }
 
 -- one that was refused may have made one too
-full_takes : (reads : ℕ → Type 0) (key : ℕ) (value : List ℕ) (looks : Looks) (v w : View) → PutRefused reads (node_bytes (length value)) (shard_of key) looks v w → TakesFew (put key value) full v w
-full_takes reads key value looks v w (of_node set refused) = only_node refused.taken
-full_takes reads key value looks v w (of_node_behind_table null set refused) = with_table tt null set (let few = refused.taken in omega arith)
-full_takes reads key value looks v w (of_table null refused) = only_node refused.taken
+full_takes : (key : ℕ) (value : List ℕ) (looks : Looks) (v w : View) → PutRefused (node_bytes (length value)) (shard_of key) looks v w → TakesFew (put key value) full v w
+full_takes key value looks v w (of_node set refused) = only_node refused.taken
+full_takes key value looks v w (of_node_behind_table null set refused) = with_table tt null set (let few = refused.taken in omega arith)
+full_takes key value looks v w (of_table null refused) = only_node refused.taken
 
-refused_room : (reads : ℕ → Type 0) (bytes most : ℕ) (looks : Looks) (key : ℕ) (value : List ℕ) (v w : View) → span_of bytes ≤ span_of (node_bytes (length value)) → IsRefused reads bytes most looks v w
+refused_room : (bytes most : ℕ) (looks : Looks) (key : ℕ) (value : List ℕ) (v w : View) → span_of bytes ≤ span_of (node_bytes (length value)) → IsRefused bytes most looks v w
     → HadNoRoom (put key value) w
-refused_room reads bytes most looks key value v w least refused = record {
+refused_room bytes most looks key value v w least refused = record {
   past = let past = refused.found.past in let seen = refused.found.used.is in omega (arith, least);
   now = refused.found.used.taken;
 }
 
-full_room : (reads : ℕ → Type 0) (key : ℕ) (value : List ℕ) (looks : Looks) (v w : View) → PutRefused reads (node_bytes (length value)) (shard_of key) looks v w → HadNoRoom (put key value) w
-full_room reads key value looks v w (of_node set refused) = refused_room reads (node_bytes (length value)) 0 looks key value v w (omega arith) refused
-full_room reads key value looks v w (of_node_behind_table null set refused) = refused_room reads (node_bytes (length value)) (span_of table_bytes) looks key value v w (omega arith) refused
-full_room reads key value looks v w (of_table null refused) = refused_room reads table_bytes 0 looks key value v w (omega arith) refused
+full_room : (key : ℕ) (value : List ℕ) (looks : Looks) (v w : View) → PutRefused (node_bytes (length value)) (shard_of key) looks v w → HadNoRoom (put key value) w
+full_room key value looks v w (of_node set refused) = refused_room (node_bytes (length value)) 0 looks key value v w (omega arith) refused
+full_room key value looks v w (of_node_behind_table null set refused) = refused_room (node_bytes (length value)) (span_of table_bytes) looks key value v w (omega arith) refused
+full_room key value looks v w (of_table null refused) = refused_room table_bytes 0 looks key value v w (omega arith) refused
 
-pub replied_full : (reads : ℕ → Type 0) (key : ℕ) (value : List ℕ) (looks : Looks) (v w : View) → PutRefused reads (node_bytes (length value)) (shard_of key) looks v w
+pub replied_full : (key : ℕ) (value : List ℕ) (looks : Looks) (v w : View) → PutRefused (node_bytes (length value)) (shard_of key) looks v w
     → ((m : Map) → GivesMap v (shard_of key) m → GivesMap w (shard_of key) m) → Replied (put key value) (Some full) v w
-replied_full reads key value looks v w refused same = record {
+replied_full key value looks v w refused same = record {
   reply = full;
   told_is = refl;
   answers = record { right = λ m gives. put_full key value; gives = same };
-  takes = full_takes reads key value looks v w refused;
-  room = λ e. full_room reads key value looks v w refused;
+  takes = full_takes key value looks v w refused;
+  room = λ e. full_room key value looks v w refused;
 }
 
 -- a value is there or not

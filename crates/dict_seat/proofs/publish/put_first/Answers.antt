@@ -37,7 +37,7 @@ returns-in_err-node-clause-cause g c =
     let u = view c.make_node.new.seat in
     let p = err_from_is_err_and c.from_residual-in_err-node.result c.from_residual-in_err-node.ensures.1 in
     rw (p.1, p.2)
-    (put_fails g.H.HeapSeat.reads (node_bytes (length c.args.value.now)) c.in_err-node.field-0.0 v t u c.in_ok-first.ensures.ok.goes.runs c.follow.ensures.quiet.unchanged
+    (put_fails (node_bytes (length c.args.value.now)) c.in_err-node.field-0.0 v t u c.in_ok-first.ensures.ok.goes.runs c.follow.ensures.quiet.unchanged
     c.follow.ensures.quiet.refusals c.follow.ensures.quiet.calls.few c.in_err-node.ensures.full c.in_err-node.ensures.cause)
 
 pub overflow_mul-node : goal.overflow_mul-node

@@ -20,8 +20,8 @@ pub returns-in-Err-Full-clause-ok : goal.returns-in-Err-Full-clause-ok
 returns-in-Err-Full-clause-ok g c =
     let v = g.H.HeapSeat.view c.args.seat.now in
     let w = g.H.HeapSeat.view c.put.new.seat in
-    let why = subst (λ (fault : AllocFault). PutAnswers g.H.HeapSeat.reads (node_bytes (length c.args.value.now)) (shard_of c.args.key) fault v w) c.in-Err-Full.field-0-is c.in-Err-Full.ensures.cause in
-    replied_full g.H.HeapSeat.reads c.args.key c.args.value.now _ v w why.0 why.1
+    let why = subst (λ (fault : AllocFault). PutAnswers (node_bytes (length c.args.value.now)) (shard_of c.args.key) fault v w) c.in-Err-Full.field-0-is c.in-Err-Full.ensures.cause in
+    replied_full c.args.key c.args.value.now _ v w why.0 why.1
 
 pub returns-in-Err-Full-clause-calls : goal.returns-in-Err-Full-clause-calls
 returns-in-Err-Full-clause-calls g c =

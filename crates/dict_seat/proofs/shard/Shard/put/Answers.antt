@@ -105,7 +105,7 @@ returns-in_err-table-in-NoTable-clause-cause g c =
     let y = view c.make_table.new.seat in
     let p = err_from_is_err_and c.from_residual-in_err-table-in-NoTable.result c.from_residual-in_err-table-in-NoTable.ensures.1 in
     rw (p.1, p.2)
-    (answers_table g.H.HeapSeat.reads (node_bytes (length c.args.value.now)) (shard_of c.args.key) c.in_err-table-in-NoTable.field-0.0 v u y searches.goes.runs grown c.search.ensures.quiet.quiet.refusals
+    (answers_table (node_bytes (length c.args.value.now)) (shard_of c.args.key) c.in_err-table-in-NoTable.field-0.0 v u y searches.goes.runs grown c.search.ensures.quiet.quiet.refusals
     c.search.ensures.quiet.quiet.calls.few (still_owned v u (shard_of c.args.key) keeps c.requires.shard.owned) searches.ends.root c.in_err-table-in-NoTable.ensures.cause)
 
 pub returns-in_err-table-in-NoTable-clause-crash : goal.returns-in_err-table-in-NoTable-clause-crash
@@ -153,9 +153,9 @@ returns-in-Found-clause-cause g c =
     let seat = g.met.H.HeapSeat.seat c.search.new.seat in
     let searches = subst (λ (e : SearchEnd). Searches c.args.key e v u) c.in-Found.is c.in_ok-place.ensures.ok in
     let w = view c.put_over.new.seat in
-    IfErr-weaker c.put_over.result (λ (fault : AllocFault). PutFails g.H.HeapSeat.reads (node_bytes (length c.args.value.now)) fault u w)
-    (λ (fault : AllocFault). PutAnswers g.H.HeapSeat.reads (node_bytes (length c.args.value.now)) (shard_of c.args.key) fault v w)
-    (λ fault fails. answers_node g.H.HeapSeat.reads (node_bytes (length c.args.value.now)) (shard_of c.args.key) fault searches.ends.table v u w searches.goes.runs grown c.search.ensures.quiet.quiet.refusals c.search.ensures.quiet.quiet.calls.few
+    IfErr-weaker c.put_over.result (λ (fault : AllocFault). PutFails (node_bytes (length c.args.value.now)) fault u w)
+    (λ (fault : AllocFault). PutAnswers (node_bytes (length c.args.value.now)) (shard_of c.args.key) fault v w)
+    (λ fault fails. answers_node (node_bytes (length c.args.value.now)) (shard_of c.args.key) fault searches.ends.table v u w searches.goes.runs grown c.search.ensures.quiet.quiet.refusals c.search.ensures.quiet.quiet.calls.few
     (still_owned v u (shard_of c.args.key) keeps c.requires.shard.owned) searches.ends.come.root fails) c.put_over.ensures.cause
 
 pub returns-in-Found-clause-taken : goal.returns-in-Found-clause-taken
@@ -202,9 +202,9 @@ returns-in-Missing-clause-cause g c =
     let seat = g.met.H.HeapSeat.seat c.search.new.seat in
     let searches = subst (λ (e : SearchEnd). Searches c.args.key e v u) c.in-Missing.is c.in_ok-place.ensures.ok in
     let w = view c.put_first.new.seat in
-    IfErr-weaker c.put_first.result (λ (fault : AllocFault). PutFails g.H.HeapSeat.reads (node_bytes (length c.args.value.now)) fault u w)
-    (λ (fault : AllocFault). PutAnswers g.H.HeapSeat.reads (node_bytes (length c.args.value.now)) (shard_of c.args.key) fault v w)
-    (λ fault fails. answers_node g.H.HeapSeat.reads (node_bytes (length c.args.value.now)) (shard_of c.args.key) fault c.in-Missing.table v u w searches.goes.runs grown c.search.ensures.quiet.quiet.refusals c.search.ensures.quiet.quiet.calls.few
+    IfErr-weaker c.put_first.result (λ (fault : AllocFault). PutFails (node_bytes (length c.args.value.now)) fault u w)
+    (λ (fault : AllocFault). PutAnswers (node_bytes (length c.args.value.now)) (shard_of c.args.key) fault v w)
+    (λ fault fails. answers_node (node_bytes (length c.args.value.now)) (shard_of c.args.key) fault c.in-Missing.table v u w searches.goes.runs grown c.search.ensures.quiet.quiet.refusals c.search.ensures.quiet.quiet.calls.few
     (still_owned v u (shard_of c.args.key) keeps c.requires.shard.owned) searches.ends.0.root fails) c.put_first.ensures.cause
 
 pub returns-in-Missing-clause-taken : goal.returns-in-Missing-clause-taken
@@ -262,10 +262,10 @@ returns-in-Found-clause-exact_full g c =
     let grown = grown_keeps v u keeps in
     let seat = g.met.H.HeapSeat.seat c.search.new.seat in
     let w = view c.put_over.new.seat in
-    IfErr-weaker c.put_over.result (λ (fault : AllocFault). PutFails g.H.HeapSeat.reads (node_bytes (length c.args.value.now)) fault u w)
+    IfErr-weaker c.put_over.result (λ (fault : AllocFault). PutFails (node_bytes (length c.args.value.now)) fault u w)
     (λ (fault : AllocFault). (looks : Looks) → fault ≡ Full looks → ReachesAllHeld v → ReachesAllHeld w)
     (λ fault fails looks is all. all_quiet u w (g.met.H.HeapSeat.seat c.put_over.new.seat)
-    (full_keeps g.H.HeapSeat.reads (node_bytes (length c.args.value.now)) fault u w looks is fails) c.put_over.ensures.calls.goes_on.kinds (all_quiet v u seat keeps kinds all)) c.put_over.ensures.cause
+    (full_keeps (node_bytes (length c.args.value.now)) fault u w looks is fails) c.put_over.ensures.calls.goes_on.kinds (all_quiet v u seat keeps kinds all)) c.put_over.ensures.cause
 
 pub returns-in-Missing-clause-exact_full : goal.returns-in-Missing-clause-exact_full
 returns-in-Missing-clause-exact_full g c =
@@ -277,10 +277,10 @@ returns-in-Missing-clause-exact_full g c =
     let grown = grown_keeps v u keeps in
     let seat = g.met.H.HeapSeat.seat c.search.new.seat in
     let w = view c.put_first.new.seat in
-    IfErr-weaker c.put_first.result (λ (fault : AllocFault). PutFails g.H.HeapSeat.reads (node_bytes (length c.args.value.now)) fault u w)
+    IfErr-weaker c.put_first.result (λ (fault : AllocFault). PutFails (node_bytes (length c.args.value.now)) fault u w)
     (λ (fault : AllocFault). (looks : Looks) → fault ≡ Full looks → ReachesAllHeld v → ReachesAllHeld w)
     (λ fault fails looks is all. all_quiet u w (g.met.H.HeapSeat.seat c.put_first.new.seat)
-    (full_keeps g.H.HeapSeat.reads (node_bytes (length c.args.value.now)) fault u w looks is fails) c.put_first.ensures.calls.goes_on.kinds (all_quiet v u seat keeps kinds all)) c.put_first.ensures.cause
+    (full_keeps (node_bytes (length c.args.value.now)) fault u w looks is fails) c.put_first.ensures.calls.goes_on.kinds (all_quiet v u seat keeps kinds all)) c.put_first.ensures.cause
 
 pub returns-in_ok-table-in-NoTable-clause-exact_full : goal.returns-in_ok-table-in-NoTable-clause-exact_full
 returns-in_ok-table-in-NoTable-clause-exact_full g c =
@@ -293,10 +293,10 @@ returns-in_ok-table-in-NoTable-clause-exact_full g c =
     let seat = g.met.H.HeapSeat.seat c.search.new.seat in
     let y = view c.make_table.new.seat in
     let w = view c.put_first-in-NoTable.new.seat in
-    IfErr-weaker c.put_first-in-NoTable.result (λ (fault : AllocFault). PutFails g.H.HeapSeat.reads (node_bytes (length c.args.value.now)) fault y w)
+    IfErr-weaker c.put_first-in-NoTable.result (λ (fault : AllocFault). PutFails (node_bytes (length c.args.value.now)) fault y w)
     (λ (fault : AllocFault). (looks : Looks) → fault ≡ Full looks → ReachesAllHeld v → ReachesAllHeld w)
     (λ fault fails looks is all. all_quiet y w (g.met.H.HeapSeat.seat c.put_first-in-NoTable.new.seat)
-    (full_keeps g.H.HeapSeat.reads (node_bytes (length c.args.value.now)) fault y w looks is fails) c.put_first-in-NoTable.ensures.calls.goes_on.kinds (c.in_ok-table-in-NoTable.ensures.exact (all_quiet v u seat keeps kinds all))) c.put_first-in-NoTable.ensures.cause
+    (full_keeps (node_bytes (length c.args.value.now)) fault y w looks is fails) c.put_first-in-NoTable.ensures.calls.goes_on.kinds (c.in_ok-table-in-NoTable.ensures.exact (all_quiet v u seat keeps kinds all))) c.put_first-in-NoTable.ensures.cause
 
 pub returns-in_err-table-in-NoTable-clause-exact_full : goal.returns-in_err-table-in-NoTable-clause-exact_full
 returns-in_err-table-in-NoTable-clause-exact_full g c =
@@ -311,7 +311,7 @@ returns-in_err-table-in-NoTable-clause-exact_full g c =
     let p = err_from_is_err_and c.from_residual-in_err-table-in-NoTable.result c.from_residual-in_err-table-in-NoTable.ensures.1 in
     rw (p.1, p.2)
     (λ looks is all. all_quiet u y (g.met.H.HeapSeat.seat c.make_table.new.seat)
-    (full_keeps g.H.HeapSeat.reads table_bytes c.in_err-table-in-NoTable.field-0.0 u y looks is c.in_err-table-in-NoTable.ensures.cause) c.make_table.ensures.calls.goes_on.kinds (all_quiet v u seat keeps kinds all))
+    (full_keeps table_bytes c.in_err-table-in-NoTable.field-0.0 u y looks is c.in_err-table-in-NoTable.ensures.cause) c.make_table.ensures.calls.goes_on.kinds (all_quiet v u seat keeps kinds all))
 
 pub returns-in_ok-table-in-NoTable-clause-exact : goal.returns-in_ok-table-in-NoTable-clause-exact
 returns-in_ok-table-in-NoTable-clause-exact g c =
@@ -351,9 +351,9 @@ returns-in_ok-table-in-NoTable-clause-cause g c =
     let w = view c.put_first-in-NoTable.new.seat in
     let makes = c.in_ok-table-in-NoTable.ensures.ok in
     let table = c.in_ok-table-in-NoTable.table in
-    IfErr-weaker c.put_first-in-NoTable.result (λ (fault : AllocFault). PutFails g.H.HeapSeat.reads (node_bytes (length c.args.value.now)) fault y w)
-    (λ (fault : AllocFault). PutAnswers g.H.HeapSeat.reads (node_bytes (length c.args.value.now)) (shard_of c.args.key) fault v w)
-    (λ fault fails. answers_behind g.H.HeapSeat.reads (node_bytes (length c.args.value.now)) c.args.key fault table v u y w searches.goes.runs grown c.search.ensures.quiet.quiet.refusals c.search.ensures.quiet.quiet.calls.few
+    IfErr-weaker c.put_first-in-NoTable.result (λ (fault : AllocFault). PutFails (node_bytes (length c.args.value.now)) fault y w)
+    (λ (fault : AllocFault). PutAnswers (node_bytes (length c.args.value.now)) (shard_of c.args.key) fault v w)
+    (λ fault fails. answers_behind (node_bytes (length c.args.value.now)) c.args.key fault table v u y w searches.goes.runs grown c.search.ensures.quiet.quiet.refusals c.search.ensures.quiet.quiet.calls.few
     (was_null v u (shard_of c.args.key) c.requires.shard.owned grown searches.ends.root) makes c.make_table.ensures.calls.few fails)
     c.put_first-in-NoTable.ensures.cause
 

@@ -11,9 +11,9 @@ use Rattle.dictionary_tests.proofs.OpeningLemmas.{go_on}
 use Rattle.dictionary_tests.proofs.standing.Standing.put.Goals as goal
 
 -- a put that finds no room leaves the map as before
-full_gives : (reads : ℕ → Type 0) (bytes shard : ℕ) (fault : AllocFault) (looks : Looks) (v w : View) → fault ≡ Full looks → PutAnswers reads bytes shard fault v w
+full_gives : (bytes shard : ℕ) (fault : AllocFault) (looks : Looks) (v w : View) → fault ≡ Full looks → PutAnswers bytes shard fault v w
     → (map : Map) → GivesMap v shard map → GivesMap w shard map
-full_gives reads bytes shard fault looks v w is answers = (subst (λ (f : AllocFault). PutAnswers reads bytes shard f v w) is answers).1
+full_gives bytes shard fault looks v w is answers = (subst (λ (f : AllocFault). PutAnswers bytes shard f v w) is answers).1
 
 pub put-requires-clause-shard : goal.put-requires-clause-shard
 put-requires-clause-shard g c = (c.self.invariant c.in_default.is).each _ (mod-lt c.args.key (omega arith))
@@ -25,4 +25,4 @@ invariant_of-self g c = λ running.
 pub invariant_of-self-in-Err-Full : goal.invariant_of-self-in-Err-Full
 invariant_of-self-in-Err-Full g c = λ running.
     go_on c.self.inside.heap c.put.new.seat _ _ (λ map. map) (mod-lt c.args.key (omega arith)) (c.self.invariant running) c.put.ensures.crash
-    (record { gives = full_gives _ _ _ c.in-Err-Full.field-0 c.in-Err-Full.looks _ _ c.in-Err-Full.field-0-is c.in-Err-Full.ensures.cause })
+    (record { gives = full_gives _ _ c.in-Err-Full.field-0 c.in-Err-Full.looks _ _ c.in-Err-Full.field-0-is c.in-Err-Full.ensures.cause })
