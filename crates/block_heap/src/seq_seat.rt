@@ -1,6 +1,5 @@
 //! The calls of the heap for one thread.
-ghost use Rattle.std.specs.Prelude.{◌≡◌, ◌<◌, ◌≤◌, ◌^◌, OnOk, IfErr, None, Some};
-ghost use Rattle.heap_seat.specs.View.{word_of as spot_word};
+ghost use Rattle.std.specs.Prelude.{◌≡◌, ◌≤◌, OnOk, IfErr, None, Some};
 
 use crate::alloc::Asked;
 use crate::seq_heap::SeqHeap;
@@ -8,7 +7,7 @@ use heap_model::Block;
 use heap_seat::{AllocFault, HeapSeat, Spot};
 use line_memory::{Chance, Stopped};
 use size_table::SizeClass;
-use super_block::{ROOT_WORD, WORD_BYTES};
+use super_block::WORD_BYTES;
 
 impl<C: Chance> HeapSeat for SeqHeap<C> {
     ghost use Rattle.block_heap.specs.SeqState.{seat_of, MayLeave};
@@ -57,7 +56,7 @@ impl<C: Chance> HeapSeat for SeqHeap<C> {
 
     fn load(&mut self, s: Spot) -> Result<u64, Stopped> {
         self.check_running()?;
-        let answer = self.arena.medium.load(word_of(s));
+        let answer = self.arena.medium.load(s.word());
         self.small_calls += 1;
         self.stopped = stop_of(&answer);
         answer
@@ -65,7 +64,7 @@ impl<C: Chance> HeapSeat for SeqHeap<C> {
 
     fn store(&mut self, s: Spot, value: u64) -> Result<(), Stopped> {
         self.check_running()?;
-        let answer = self.arena.medium.store(word_of(s), value);
+        let answer = self.arena.medium.store(s.word(), value);
         self.small_calls += 1;
         self.stopped = stop_of(&answer);
         answer
@@ -73,7 +72,7 @@ impl<C: Chance> HeapSeat for SeqHeap<C> {
 
     fn write_back(&mut self, s: Spot) -> Result<(), Stopped> {
         self.check_running()?;
-        let answer = self.arena.medium.write_back(word_of(s));
+        let answer = self.arena.medium.write_back(s.word());
         self.small_calls += 1;
         self.stopped = stop_of(&answer);
         answer
@@ -104,17 +103,6 @@ impl<C: Chance> HeapSeat for SeqHeap<C> {
     ghost keeps_row = { keeps_row_law };
 
     ghost may_be = { may_be_law };
-}
-
-/// The word of the spot.
-fn word_of(s: Spot) -> u64
-    requires { spot_word s < 2 ^ 48 }
-    ensures { result ≡ spot_word s }
-{
-    match s {
-        Spot::InBlock(b, index) => b.first_word + index,
-        Spot::Root(i) => ROOT_WORD + i,
-    }
 }
 
 /// The ticket at which a heap with this answer stopped.

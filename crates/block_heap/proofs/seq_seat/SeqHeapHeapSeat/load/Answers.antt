@@ -11,12 +11,12 @@ use Rattle.block_heap.proofs.FixedLemmas.{fixed_by}
 use Rattle.block_heap.proofs.CountedLemmas.{small_counted}
 use Rattle.block_heap.proofs.seq_seat.SeqHeapHeapSeat.load.Goals as goal
 
-pub word_of-requires : goal.word_of-requires
-word_of-requires g c = own_short _ c.args.s c.self.invariant (subst (λ (s : SeqState). IsOwnSpot (seat_of s) c.args.s) (sym c.self.view_is) c.requires)
+pub word-requires : goal.word-requires
+word-requires g c = own_short _ c.args.s c.self.invariant (subst (λ (s : SeqState). IsOwnSpot (seat_of s) c.args.s) (sym c.self.view_is) c.requires)
 
 pub load-answer-requires-clause-within : goal.load-answer-requires-clause-within
 load-answer-requires-clause-within g c =
-    subst (λ word. word < word_count (medium_view c.self.inside.arena.medium)) (sym c.word_of.ensures)
+    subst (λ word. word < word_count (medium_view c.self.inside.arena.medium)) (sym c.word.ensures)
     (own_within _ c.args.s c.self.invariant (ap (λ (s : SeqState). s.stopped) c.self.view_is ∙ c.in_ok-check_running.ensures.ok) (subst (λ (s : SeqState). IsOwnSpot (seat_of s) c.args.s) (sym c.self.view_is) c.requires))
 
 pub invariant_of-self-inside : goal.invariant_of-self-inside
@@ -35,7 +35,7 @@ invariant_of-self g c =
 pub returns-clause-ok : goal.returns-clause-ok
 returns-clause-ok g c =
     load_ok c.load-answer.result _ c.args.self.now (medium_view c.load-answer.new.self) c.stop_of-self-inside.result (word_of c.args.s) c.self.invariant c.self.view_is c.in_ok-check_running.ensures.ok
-    c.stop_of-self-inside.ensures.ok (subst (λ word. IfOk c.load-answer.result (λ value. IsLoaded word value (medium_view c.self.inside.arena.medium) (medium_view c.load-answer.new.self))) c.word_of.ensures c.load-answer.ensures.ok)
+    c.stop_of-self-inside.ensures.ok (subst (λ word. IfOk c.load-answer.result (λ value. IsLoaded word value (medium_view c.self.inside.arena.medium) (medium_view c.load-answer.new.self))) c.word.ensures c.load-answer.ensures.ok)
 
 pub returns-clause-kept : goal.returns-clause-kept
 returns-clause-kept g c =
