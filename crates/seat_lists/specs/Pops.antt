@@ -1,5 +1,5 @@
 -- What a look at a list of superblocks, and a pop from it, leave of a seat.
-use Rattle.std.specs.Prelude.{◌≡◌, ◌<◌, ◌+◌, ℕ, zero, suc, ◌∷◌, Bool, true, false, get_or, Option, None, Some}
+use Rattle.std.specs.Prelude.{◌≡◌, ◌≢◌, ◌<◌, ◌+◌, ℕ, zero, suc, ◌∷◌, Bool, true, false, get_or, Option, None, Some}
 use Rattle.heap_model.specs.Words.{head_first}
 use Rattle.core_model.specs.Guards.{IsThere}
 use Rattle.core_model.specs.View.{LastLook, Snapshot, View}
@@ -8,7 +8,7 @@ use Rattle.seat_lists.specs.declared.pops.Pop.TheVariants.{Got, Empty}
 use Rattle.heap_rule.specs.Fences.{Owns}
 use Rattle.seat_rows.specs.Words.{KeepsWord}
 use Rattle.seat_rows.specs.Costs.{one_loss}
-use Rattle.seat_rows.specs.Rows.{Parts, ViewRow, parts, next_of}
+use Rattle.seat_rows.specs.Rows.{Parts, ViewRow, head_look, parts, next_of}
 
 abbrev pub list_head : ℕ → ℕ → Option Snapshot
 list_head list word = Some (record { of = list; word = word })
@@ -16,6 +16,11 @@ list_head list word = Some (record { of = list; word = word })
 -- the last look at a list, by the last ticket
 abbrev pub looked : ℕ → View → LastLook
 looked head w = record { word = head; ticket = w.last_ticket; wins = w.wins; taken = w.taken }
+
+-- the last looks at the mark and at the other lists stay
+pub record KeepsOtherLooks (list : ℕ) (v w : View) : Type 0 where
+  pub used : w.used_look ≡ v.used_look
+  pub heads : (other : ℕ) → other ≢ list → head_look w other ≡ head_look v other
 
 -- nothing was won or lost, and the seat goes on with its parts, and knows what it knew
 pub record GoesOn (v w : View) : Type 0 where
@@ -26,6 +31,8 @@ pub record GoesOn (v w : View) : Type 0 where
   pub parts_are : parts w ≡ parts v
   pub wins : w.wins ≡ v.wins
   pub losses : w.losses ≡ v.losses
+  pub taken : w.taken ≡ v.taken
+  pub cuts : w.cuts ≡ v.cuts
   pub anchor : w.seen_anchor ≡ v.seen_anchor
   pub words : (word : ℕ) → Owns v word → KeepsWord v w word
 
@@ -34,6 +41,7 @@ pub record SeesHead (list head : ℕ) (v w : View) : Type 0 where
   pub goes_on : GoesOn v w
   pub is_seen : w.seen_head ≡ list_head list head
   pub look : get_or w.head_looks list (looked head w) ≡ looked head w
+  pub others : KeepsOtherLooks list v w
   pub later : next_of v < next_of w
 
 -- the link of the first one of the list was seen too
@@ -41,6 +49,7 @@ pub record SeesLink (v w : View) : Type 0 where
   pub goes_on : GoesOn v w
   pub head : w.seen_head ≡ v.seen_head
   pub link : IsThere w.seen_link
+  pub others : (list : ℕ) → KeepsOtherLooks list v w
 
 -- superblock d was seen to be the first of the list, and so was its link
 pub record SeesFirst (list d : ℕ) (v : View) : Type 0 where
@@ -61,7 +70,7 @@ pub record HasPopped (list d : ℕ) (v w : View) : Type 0 where
   pub durable : d < w.floor
 
 -- another seat was faster
-pub record HasLost (draws : ℕ) (v w : View) : Type 0 where
+pub record HasLost (list draws : ℕ) (v w : View) : Type 0 where
   pub ran : v.stopped ≡ None
   pub going : w.stopped ≡ None
   pub room : v.draws < v.setup.budget
@@ -69,21 +78,27 @@ pub record HasLost (draws : ℕ) (v w : View) : Type 0 where
   pub parts_are : parts w ≡ parts v
   pub wins : w.wins ≡ v.wins
   pub losses : w.losses ≡ v.losses + 1
+  pub taken : w.taken ≡ v.taken
+  pub cuts : w.cuts ≡ v.cuts
+  pub others : KeepsOtherLooks list v w
   pub row : ViewRow (record one_loss { draws = draws }) v w
   pub unseen : w.seen_head ≡ None
 
 abbrev pub Exchanges : ℕ → ℕ → Bool → View → View → Type 0
 Exchanges list d true v w = HasPopped list d v w
-Exchanges list d false v w = HasLost 1 v w
+Exchanges list d false v w = HasLost list 1 v w
 
 -- the list was empty, as its head said at the last step; nothing was won
 pub record IsEmptyList (list head : ℕ) (v w : View) : Type 0 where
   pub going : w.stopped ≡ None
   pub parts_are : parts w ≡ parts v
   pub wins : w.wins ≡ v.wins
+  pub taken : w.taken ≡ v.taken
+  pub cuts : w.cuts ≡ v.cuts
   pub is_seen : w.seen_head ≡ list_head list head
   pub none : head_first head ≡ 0
   pub look : get_or w.head_looks list (looked head w) ≡ looked head w
+  pub others : KeepsOtherLooks list v w
   pub later : next_of v < next_of w
 
 abbrev pub Pops : ℕ → Pop → View → View → Type 0
@@ -92,5 +107,5 @@ Pops list (Empty head) v w = IsEmptyList list head v w
 
 -- the same of one try
 abbrev pub Tries : ℕ → Option Pop → View → View → Type 0
-Tries list None v w = HasLost 3 v w
+Tries list None v w = HasLost list 3 v w
 Tries list (Some pop) v w = Pops list pop v w

@@ -6,7 +6,7 @@ use Rattle.seat_lists.proofs.PopLemmas.{Trying}
 use Rattle.seat_lists.proofs.pops.pop_from.Given as goal
 
 abbrev pub invariant-loop-pop : goal.invariant-loop-pop
-invariant-loop-pop g l = record { trying : Trying l.initial.seat.view l.seat.view; marks : KeepsMarks (IsHeldWord l.initial.seat.view) l.initial.seat l.seat; is_of : IsSeatOf l.shared l.seat }
+invariant-loop-pop g l = record { trying : Trying l.list l.initial.seat.view l.seat.view; marks : KeepsMarks (IsHeldWord l.initial.seat.view) l.initial.seat l.seat; is_of : IsSeatOf l.shared l.seat }
 
 abbrev pub decreases-loop-pop : goal.decreases-loop-pop
 decreases-loop-pop g l = l.seat.view.setup.budget - l.seat.view.draws

@@ -2,7 +2,7 @@ use Rattle.std.proofs.Common.{arith, subst, ◌∙◌, ◌-◌}
 use Rattle.seat_rows.specs.Costs.{one_win}
 use Rattle.seat_rows.proofs.RowLemmas.{row_then, row_within}
 use Rattle.seat_lists.specs.Pops.{Exchanges}
-use Rattle.seat_lists.proofs.PopLemmas.{goes_then, lost_later, popped_later, sees_first}
+use Rattle.seat_lists.proofs.PopLemmas.{goes_then, lost_later, others_then, popped_later, sees_first}
 use Rattle.seat_lists.proofs.pops.try_pop_from.Goals as goal
 
 pub pop_seen-requires-clause-seen : goal.pop_seen-requires-clause-seen
@@ -49,7 +49,8 @@ returns-clause-done g c =
     let d = c.head_first-first.result - 1 in
     let sees = sees_first c.args.seat.now.view c.look_list.new.seat.view c.look_link.new.seat.view c.args.list c.in_ok-head.head c.head_first-first.result
     c.in_ok-head.ensures.seen c.in_ok-look_link.ensures.seen c.head_first-first.ensures c.if-first-eq0.false in
-    lost_later c.args.seat.now.view c.look_link.new.seat.view c.pop_seen.new.seat.view
+    lost_later c.args.list c.args.seat.now.view c.look_link.new.seat.view c.pop_seen.new.seat.view
     (goes_then c.args.seat.now.view c.look_list.new.seat.view c.look_link.new.seat.view c.in_ok-head.ensures.seen.goes_on c.in_ok-look_link.ensures.seen.goes_on)
+    (others_then c.args.list c.args.seat.now.view c.look_list.new.seat.view c.look_link.new.seat.view c.in_ok-head.ensures.seen.others (c.in_ok-look_link.ensures.seen.others c.args.list))
     (row_then c.args.seat.now c.look_list.new.seat c.look_link.new.seat c.look_list.ensures.row c.look_link.ensures.row).view
     (subst (λ won. Exchanges c.args.list d won c.look_link.new.seat.view c.pop_seen.new.seat.view) c.if-branch.false (c.in_ok-pop_seen.ensures.done c.args.list d sees))
