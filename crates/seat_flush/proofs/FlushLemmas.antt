@@ -16,10 +16,12 @@ use Rattle.core_model.proofs.TotalLemmas.{eq-eqb-one, total_at}
 use Rattle.heap_table.specs.Plays.{HasSoundState}
 use Rattle.heap_rule.specs.Shown.{CanList, as_free, by_look, of_its_class}
 use Rattle.seat_lists.specs.Pops.{with_claim}
-use Rattle.seat_lists.specs.Pushes.{HasPushed, without_claim_of}
+use Rattle.seat_lists.specs.Pushes.{HasPushed, IsClaimOf}
+use Rattle.seat_lists.proofs.AnchorLemmas.{claim_added, claim_free, claim_of_class, claim_pushed}
 use Rattle.seat_lists.proofs.PushLemmas.{freely_still}
-use Rattle.seat_flush.specs.Flushes.{HasFlushed, HasFlushedPrefix, HasListed, IsClaimOf, flush_costs, with_cache}
-use Rattle.seat_flush.specs.Gives.{HasGiven, HasSeenAnchor, IsBatchOf, given_parts}
+use Rattle.seat_flush.specs.Flushes.{HasFlushed, HasFlushedPrefix, HasListed, flush_costs, with_cache}
+use Rattle.seat_lists.specs.Anchors.{HasSeenAnchor}
+use Rattle.seat_flush.specs.Gives.{HasGiven, IsBatchOf, given_parts}
 use Rattle.seat_flush.specs.Lifts.{HasLiftedPrefix}
 use Rattle.seat_flush.proofs.LiftLemmas.{cache_set, lifting_batch}
 use Rattle.seat_rows.specs.Costs.{Costs, IsWithin, no_costs}
@@ -27,20 +29,6 @@ use Rattle.seat_rows.specs.Rows.{Parts, Stops, ViewRow, parts}
 use Rattle.seat_rows.proofs.RowLemmas.{stops_later, view_row_none, view_row_then, view_row_within}
 
 module _ (v : View) (has : HasSoundState v) (class d : ℕ) (claim : IsClaimOf class d v) where
-  raw_none : times_raw d v ≡ 0
-  raw_none =
-      let raw = total_at (times_raw d) has.views has.seat v has.below has.at in
-      let mine = total_at (λ (x : View). times_classed d x.classed) has.views has.seat v has.below has.at in
-      let p = has.sound.good.shaped.placed.one_place d in
-      let one = one_at_most (nat_lt d (used (memory_of v.setup.capacity has.words))) in
-      let some = claim.claimed in omega arith
-
-  pub claim_free : IsFreelyClaimed v d
-  claim_free = let none = raw_none in let some = claim.claimed in record { claimed = omega arith; not_cutting = omega arith }
-
-  pub claim_look : MayLookAt v d
-  claim_look = inl claim_free
-
   -- by what was seen of its anchor
   pub claim_lists : (t : View) (list found : ℕ) → HasSeenAnchor d found v t → anchor_state found < 2
       → (anchor_state found ≡ partial_state → list ≡ class) → (anchor_state found ≢ partial_state → list ≡ 0) → CanList t d list
@@ -48,17 +36,13 @@ module _ (v : View) (has : HasSoundState v) (class d : ℕ) (claim : IsClaimOf c
     | inl is ↦ subst (CanList t d) (sym (partial is)) (of_its_class class claim.is_class
         (subst (λ (p : Parts). 0 < times_classed d p.classed) (sym seen.parts_are) claim.claimed)
         (ap (λ (p : Parts). claim_class d p.classed) seen.parts_are ∙ claim.of))
-    | inr not ↦ subst (CanList t d) (sym (other not)) (as_free (freely_still v t d seen.parts_are claim_free)
+    | inr not ↦ subst (CanList t d) (sym (other not)) (as_free (freely_still v t d seen.parts_are (claim_free v has class d claim))
         (by_look (subst (λ (p : Parts). 0 < times_classed d p.classed) (sym seen.parts_are) claim.claimed) (ap one_if_some seen.is_seen) (ap seen_of seen.is_seen)
         (ap (λ s. anchor_state (seen_word s)) seen.is_seen ∙ (let e : anchor_state found ≡ empty_state = omega (arith, not) in e))))
   ]
 
   pub listed : (t w : View) (list found : ℕ) → HasSeenAnchor d found v t → HasPushed list d 3 t w → HasListed d v w
-  listed t w list found seen pushed = record {
-    going = pushed.going;
-    parts_are = pushed.parts_are ∙ ap (without_claim_of d) seen.parts_are
-        ∙ skip (nat_lt 0 (times d v.raw + times d v.split)) _ _ (not-lt 0 (times d v.raw + times d v.split) (let none = raw_none in omega arith));
-  }
+  listed t w list found seen pushed = record { going = pushed.going; parts_are = claim_pushed v has class d claim t w list seen.parts_are pushed }
 
   pub list_below : (list found : ℕ) → (anchor_state found ≡ partial_state → list ≡ class) → (anchor_state found ≢ partial_state → list ≡ 0) → list < 21
   list_below list found partial other = let last = claim.is_class.last in elim (cases_eq (anchor_state found) partial_state) [
@@ -75,11 +59,6 @@ lifted_batch v t has class d last is prefix = let b = lifting_batch v has class 
   last_is = ap (λ (x : Batch). last_of x.blocks) b ∙ prefix.lifting.last_is;
 }
 
--- a superblock that was full is claimed with the class
-given_claim : (class d : ℕ) (p : Parts) → IsClass class → with_claim class d p ≡ record p { classed = record { descriptor = d; class = class } ∷ p.classed }
-given_claim zero d p is = absurd (let f = is.some in omega arith)
-given_claim (suc class) d p is = refl
-
 module _ (v t x : View) (has : HasSoundState v) (class d last : ℕ) (is : IsClass class) (none : v.batch ≡ no_batch) (prefix : HasLiftedPrefix class d last v t) where
   abbrev lifted : List ℕ
   lifted = prefix.lifting.lifted
@@ -88,14 +67,10 @@ module _ (v t x : View) (has : HasSoundState v) (class d last : ℕ) (is : IsCla
   rest = prefix.lifting.rest
 
   full_parts : HasGiven d class true t x → parts x ≡ record (parts v) { caches = set v.caches class rest; batch = no_batch; classed = record { descriptor = d; class = class } ∷ v.classed }
-  full_parts given = given.parts_are ∙ ap (given_parts true d class) prefix.lifting.parts_are ∙ given_claim class d (record (parts v) { caches = set v.caches class rest; batch = no_batch }) is
+  full_parts given = given.parts_are ∙ ap (given_parts true d class) prefix.lifting.parts_are ∙ claim_added class d (record (parts v) { caches = set v.caches class rest; batch = no_batch }) is
 
   pub given_claimed : HasGiven d class true t x → IsClaimOf class d x
-  given_claimed given = record {
-    is_class = is;
-    claimed = subst (λ (p : Parts). 0 < times_classed d p.classed) (sym (full_parts given)) (let one = eq-eqb-one d d refl in omega arith);
-    of = ap (λ (p : Parts). claim_class d p.classed) (full_parts given) ∙ ap (λ test. cond test class (claim_class d v.classed)) (eq-eqb d d refl);
-  }
+  given_claimed given = claim_of_class class d _ x is given.parts_are
 
   same_batch : (classed : List Claim) → record (parts v) { caches = set v.caches class rest; batch = no_batch; classed = classed } ≡ record (parts v) { caches = set v.caches class rest; classed = classed }
   same_batch classed = ap (λ (b : Batch). record (parts v) { caches = set v.caches class rest; batch = b; classed = classed }) (sym none)

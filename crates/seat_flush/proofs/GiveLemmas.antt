@@ -25,24 +25,14 @@ use Rattle.heap_rule.proofs.LeftLemmas.{give_lost, give_won}
 use Rattle.heap_rule.proofs.RawLemmas.{store_shown}
 use Rattle.heap_rule.proofs.ViewLemmas.{block_below, block_class, block_once, block_range}
 use Rattle.seat_lists.proofs.PopLemmas.{drawn_as}
-use Rattle.seat_flush.specs.Gives.{Gives, GivesSeen, HasGiven, HasLinkedLast, HasNotGiven, HasSeenAnchor, IsBatchOf, anchor_seen, given_parts, with_linked}
+use Rattle.seat_lists.specs.Anchors.{HasSeenAnchor, anchor_seen}
+use Rattle.seat_flush.specs.Gives.{Gives, GivesSeen, HasGiven, HasLinkedLast, HasNotGiven, IsBatchOf, given_parts, with_linked}
 use Rattle.seat_rows.specs.Costs.{no_costs, one_draw, one_give}
 use Rattle.seat_rows.specs.Rows.{HasDrawn, Parts, Stops, ViewRow, parts}
 use Rattle.seat_rows.specs.Words.{IsHeldWord, times_held}
 use Rattle.seat_rows.proofs.OnceLemmas.{not_held}
 use Rattle.seat_rows.proofs.EventLemmas.{give_lost_row}
 use Rattle.seat_rows.proofs.RowLemmas.{stops_later, view_row_none, view_row_then, view_row_within}
-
-pub anchor_looked : (v u w : View) (d anchor : ℕ) → HasDrawn v u → IsEvent (LookAnchor d) u anchor w → HasSeenAnchor d anchor v w
-anchor_looked v u w d anchor drawn event = subst (HasSeenAnchor d anchor v) (sym left) (record { ran = drawn.went; going = drawn.went; room = drawn.room; more = omega arith; parts_are = refl; is_seen = refl }) where
-  left : w ≡ record (drawn_as v drawn.ticket u) { ticket = None; seen_anchor = anchor_seen d anchor }
-  left = event.after ∙ ap (λ (x : View). record (used_up x) { seen_anchor = anchor_seen d anchor }) drawn.left
-
-pub anchor_of_class : (v u w : View) (d found : ℕ) → HasDrawn v u → IsEvent (LookAnchor d) u found w → 0 < times_classed d v.classed → anchor_state found < 2
-anchor_of_class v u w d found drawn event some =
-    let of = (event.before.sound.good.claims event.before.seat u event.before.below event.before.at).is_classed d
-    (subst (λ (x : View). 0 < times_classed d x.classed) (sym drawn.left) some) in
-    subst (λ n. anchor_state n < 2) (sym event.found_is) of.2
 
 -- the last block of the batch may lead to any other
 module _ (v : View) (has : HasSoundState v) (d class last : ℕ) (batch : IsBatchOf d class last v) where

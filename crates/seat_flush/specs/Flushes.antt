@@ -1,16 +1,9 @@
 -- What flushing a cache leaves of a seat.
 use Rattle.std.specs.Prelude.{◌≡◌, ◌<◌, ◌≤◌, ◌*◌, ℕ, List, [], ◌++◌, length, set, None}
-use Rattle.heap_model.specs.Sizes.{IsClass}
-use Rattle.core_model.specs.Effects.{claim_class, without_claim}
-use Rattle.core_model.specs.View.{View, of_class, times_classed}
+use Rattle.core_model.specs.Effects.{without_claim}
+use Rattle.core_model.specs.View.{View, of_class}
 use Rattle.seat_rows.specs.Costs.{Costs, no_costs}
 use Rattle.seat_rows.specs.Rows.{Parts, ViewRow, parts}
-
--- a superblock that is claimed with the class
-pub record IsClaimOf (class d : ℕ) (v : View) : Type 0 where
-  pub is_class : IsClass class
-  pub claimed : 0 < times_classed d v.classed
-  pub of : claim_class d v.classed ≡ class
 
 -- it is in a list, and claimed no more
 pub record HasListed (d : ℕ) (v w : View) : Type 0 where

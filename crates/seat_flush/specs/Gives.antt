@@ -3,7 +3,7 @@ use Rattle.std.specs.Prelude.{◌≡◌, ◌<◌, ◌≤◌, ℕ, Bool, true, fa
 use Rattle.heap_model.specs.Words.{full_anchor}
 use Rattle.core_model.specs.Cells.{data_cell}
 use Rattle.core_model.specs.Effects.{last_of, seen_word}
-use Rattle.core_model.specs.View.{Snapshot, View, no_batch}
+use Rattle.core_model.specs.View.{View, no_batch}
 use Rattle.heap_rule.specs.Shown.{Shows}
 use Rattle.seat_lists.specs.Pops.{with_claim}
 use Rattle.seat_rows.specs.Costs.{one_loss}
@@ -15,18 +15,6 @@ pub record IsBatchOf (d class last : ℕ) (v : View) : Type 0 where
   pub class_is : v.batch.class ≡ class
   pub some : 1 ≤ length v.batch.blocks
   pub last_is : last_of v.batch.blocks ≡ last
-
-abbrev pub anchor_seen : ℕ → ℕ → Option Snapshot
-anchor_seen d anchor = Some (record { of = d; word = anchor })
-
--- the anchor was seen just now
-pub record HasSeenAnchor (d anchor : ℕ) (v w : View) : Type 0 where
-  pub ran : v.stopped ≡ None
-  pub going : w.stopped ≡ None
-  pub room : v.draws < v.setup.budget
-  pub more : v.draws < w.draws
-  pub parts_are : parts w ≡ parts v
-  pub is_seen : w.seen_anchor ≡ anchor_seen d anchor
 
 -- the last block leads to another, by which no block may come behind it any more
 abbrev pub with_linked : Bool → Parts → Parts

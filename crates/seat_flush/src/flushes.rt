@@ -6,14 +6,15 @@ ghost use Rattle.core_model.specs.View.{no_batch, of_class};
 ghost use Rattle.heap_model.specs.Words.{anchor_state, partial_state};
 ghost use Rattle.seat_rows.specs.Costs.{one_push};
 ghost use Rattle.seat_rows.specs.Rows.{Row, Stops};
-ghost use Rattle.seat_flush.specs.Flushes.{HasFlushed, HasFlushedPrefix, HasListed, IsClaimOf, flush_costs};
+ghost use Rattle.seat_lists.specs.Pushes.{IsClaimOf};
+ghost use Rattle.seat_flush.specs.Flushes.{HasFlushed, HasFlushedPrefix, HasListed, flush_costs};
 
-use crate::gives::{give, look_anchor};
+use crate::gives::give;
 use crate::lifts::lift_prefix;
 use anchor_word::is_partial;
 use heap_rule::{Seat, Shared};
 use line_memory::{Chance, Stopped};
-use seat_lists::push_to;
+use seat_lists::{look_anchor, push_to};
 use size_table::SizeClass;
 
 /// The list that a superblock with free blocks belongs to, by its anchor: that of its class, or

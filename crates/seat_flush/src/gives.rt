@@ -1,42 +1,20 @@
 //! A batch goes back to its superblock.
 
 ghost use Rattle.heap_rule.specs.Seated.{IsSeatOf};
-ghost use Rattle.std.specs.Prelude.{◌≡◌, ◌<◌, IfOk, OnOk, IfErr};
-ghost use Rattle.core_model.specs.Guards.{MayLookAt};
-ghost use Rattle.core_model.specs.View.{times_classed};
-ghost use Rattle.heap_model.specs.Words.{anchor_state};
+ghost use Rattle.std.specs.Prelude.{◌≡◌, IfOk, OnOk, IfErr};
 ghost use Rattle.heap_rule.specs.Shown.{CanGive};
 ghost use Rattle.seat_rows.specs.Costs.{one_draw, one_give};
 ghost use Rattle.seat_rows.specs.Rows.{Row, Stops};
-ghost use Rattle.seat_flush.specs.Gives.{Gives, GivesSeen, HasGiven, HasLinkedLast, HasSeenAnchor, IsBatchOf, anchor_seen};
+ghost use Rattle.seat_lists.specs.Anchors.{anchor_seen};
+ghost use Rattle.seat_flush.specs.Gives.{Gives, GivesSeen, HasGiven, HasLinkedLast, IsBatchOf};
 
 use crash_core::{anchor_after_take_all, first_free};
 use heap_rule::{Seat, Shared};
 use line_memory::{Chance, Stopped};
+use seat_lists::look_anchor;
 use seat_rows::draw;
 use size_table::SizeClass;
 use super_block::Geometry;
-
-/// Reads the anchor of a claimed superblock, or of the batch's, which it answers.
-pub fn look_anchor<C: Chance>(
-    seat: &mut Seat,
-    shared: &Shared,
-    d: u64,
-    chance: &mut C,
-) -> Result<u64, Stopped>
-    requires seat { IsSeatOf shared.now seat.old }
-    requires may { MayLookAt seat.old.view d }
-    ensures seen { IfOk result (λ anchor. HasSeenAnchor d anchor
-        seat.old.view seat.new.view) }
-    ensures of_class { IfOk result (λ anchor. 0 < times_classed d seat.old.view.classed
-        → anchor_state anchor < 2) }
-    ensures stopped { IfErr result (λ e. Stops e.step seat.old.view seat.new.view) }
-    ensures row { Row one_draw seat.old seat.new }
-    ensures seat { IsSeatOf shared.now seat.new }
-{
-    draw(seat, shared, chance)?;
-    Ok(seat.look_anchor(shared, d))
-}
 
 /// The last block of the batch leads to another block.
 fn link_last<C: Chance>(

@@ -7,5 +7,5 @@ mod gives;
 mod lifts;
 
 pub use flushes::flush;
-pub use gives::{give, look_anchor};
+pub use gives::give;
 pub use lifts::{Prefix, lift, lift_prefix};

@@ -1,2 +1,3 @@
 pub mod PopLemmas
 pub mod PushLemmas
+pub mod AnchorLemmas

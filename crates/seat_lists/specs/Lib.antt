@@ -1,2 +1,3 @@
 pub mod Pops
 pub mod Pushes
+pub mod Anchors

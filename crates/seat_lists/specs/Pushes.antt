@@ -2,16 +2,23 @@
 use Rattle.std.specs.Prelude.{◌≡◌, ◌≢◌, ◌<◌, ◌+◌, ℕ, Bool, true, false, None, cond, nat_lt}
 use Rattle.heap_model.specs.Counting.{times, without}
 use Rattle.heap_model.specs.Geometry.{link_word}
+use Rattle.heap_model.specs.Sizes.{IsClass}
 use Rattle.heap_model.specs.Words.{head_first}
 use Rattle.core_model.specs.Cells.{link_cell}
-use Rattle.core_model.specs.Effects.{without_claim}
-use Rattle.core_model.specs.View.{View}
+use Rattle.core_model.specs.Effects.{claim_class, without_claim}
+use Rattle.core_model.specs.View.{View, times_classed}
 use Rattle.heap_rule.specs.Fences.{Owns}
 use Rattle.heap_rule.specs.Shown.{CanList, Shows}
 use Rattle.seat_lists.specs.Pops.{list_head}
 use Rattle.seat_rows.specs.Costs.{one_loss, one_move, one_push}
 use Rattle.seat_rows.specs.Rows.{Parts, ViewRow, parts}
 use Rattle.seat_rows.specs.Words.{KeepsWord}
+
+-- a superblock that is claimed with the class
+pub record IsClaimOf (class d : ℕ) (v : View) : Type 0 where
+  pub is_class : IsClass class
+  pub claimed : 0 < times_classed d v.classed
+  pub of : claim_class d v.classed ≡ class
 
 -- the link of a claimed superblock leads to another of the list
 pub record HasSetLink (d first : ℕ) (v w : View) : Type 0 where

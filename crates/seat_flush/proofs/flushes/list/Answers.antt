@@ -1,5 +1,6 @@
 use Rattle.seat_rows.proofs.RowLemmas.{row_then}
-use Rattle.seat_flush.proofs.FlushLemmas.{claim_look, claim_lists, listed, on_ok_then}
+use Rattle.seat_lists.proofs.AnchorLemmas.{claim_look}
+use Rattle.seat_flush.proofs.FlushLemmas.{claim_lists, listed, on_ok_then}
 use Rattle.seat_flush.proofs.flushes.list.Goals as goal
 
 pub look_anchor-requires-clause-may : goal.look_anchor-requires-clause-may

@@ -1,7 +1,7 @@
 use Rattle.seat_rows.proofs.EventLemmas.{look_anchor_row}
 use Rattle.seat_rows.proofs.RowLemmas.{row_of, row_then}
-use Rattle.seat_flush.proofs.GiveLemmas.{anchor_looked, anchor_of_class}
-use Rattle.seat_flush.proofs.gives.look_anchor.Goals as goal
+use Rattle.seat_lists.proofs.AnchorLemmas.{anchor_looked, anchor_of_class}
+use Rattle.seat_lists.proofs.anchors.look_anchor.Goals as goal
 
 pub returns-clause-row : goal.returns-clause-row
 returns-clause-row g c =
