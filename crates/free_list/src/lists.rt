@@ -5,9 +5,9 @@ ghost use Rattle.heap_rule.specs.Seated.{IsSeatOf};
 ghost use Rattle.heap_rule.specs.Shown.{CanList};
 ghost use Rattle.seat_rows.specs.Costs.{one_push, one_win};
 ghost use Rattle.seat_rows.specs.Rows.{Row, Stops};
+ghost use Rattle.seat_lists.specs.Hands.{IsInThisHandAlone};
 ghost use Rattle.seat_lists.specs.Pops.{Pops};
 ghost use Rattle.seat_lists.specs.Pushes.{HasPushed};
-ghost use Rattle.free_list.specs.Hands.{IsInThisHandAlone};
 
 use heap_rule::{Seat, Shared};
 use line_memory::{Chance, Stopped};

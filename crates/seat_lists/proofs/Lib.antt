@@ -1,3 +1,4 @@
 pub mod PopLemmas
 pub mod PushLemmas
 pub mod AnchorLemmas
+pub mod HandLemmas

@@ -1,3 +1,4 @@
 pub mod Pops
 pub mod Pushes
 pub mod Anchors
+pub mod Hands
