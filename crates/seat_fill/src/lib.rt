@@ -1,0 +1,7 @@
+//! How an empty cache is filled: a superblock is cut into blocks of a class, and the blocks are
+//! cached.
+#![tactic(auto)]
+
+mod cuts;
+
+pub use cuts::cut;
