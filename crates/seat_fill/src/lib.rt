@@ -3,5 +3,7 @@
 #![tactic(auto)]
 
 mod cuts;
+mod takes;
 
 pub use cuts::cut;
+pub use takes::take_free_blocks;
