@@ -116,7 +116,7 @@ module _ (v u w : View) (n used found : ℕ) (drawn : HasDrawn v u) (mark : v.se
   exchanged row won (Err x) told is = subst (λ b. Marks n used b v w) (sym is) (mark_lost row told.1)
 
 -- the mark is made durable
-zero_kept : (v w : View) (word : ℕ) → KeepsWord v w word → seen_at v word ≡ Some 0 → left_at v word ≡ Some 0 → left_at w word ≡ Some 0
+pub zero_kept : (v w : View) (word : ℕ) → KeepsWord v w word → seen_at v word ≡ Some 0 → left_at v word ≡ Some 0 → left_at w word ≡ Some 0
 zero_kept v w word keeps seen left = let d = durable_then v w word keeps (record { value = 0; seen = seen; left = left }) in d.left ∙ sym d.seen ∙ keeps.volatile 0 seen
 
 -- infos and anchors of claimed superblocks are own words

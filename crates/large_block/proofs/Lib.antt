@@ -1,1 +1,3 @@
 pub mod FreshLemmas
+pub mod InfoLemmas
+pub mod HoldLemmas

@@ -2,5 +2,9 @@
 #![tactic(auto)]
 
 mod fresh;
+mod holds;
+mod infos;
 
 pub use fresh::{Take, take_fresh};
+pub use holds::hold;
+pub use infos::set_info;
