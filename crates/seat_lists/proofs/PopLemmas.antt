@@ -20,7 +20,7 @@ use Rattle.heap_rule.proofs.LeftLemmas.{pop_won, pop_lost}
 use Rattle.seat_lists.specs.declared.pops.Pop.{Pop as PopAnswer}
 use Rattle.seat_lists.specs.declared.pops.Pop.TheVariants.{Got, Empty}
 use Rattle.seat_lists.specs.Pops.{Exchanges, GoesOn, HasLost, HasPopped, KeepsOtherLooks, Pops, SeesFirst, SeesHead, SeesLink, list_head, with_claim}
-use Rattle.seat_rows.specs.Costs.{no_costs, one_draw, one_win}
+use Rattle.seat_rows.specs.Costs.{Costs, no_costs, one_draw, one_win}
 use Rattle.seat_rows.specs.Rows.{HasDrawn, Parts, Stops, ViewRow, parts}
 use Rattle.seat_rows.proofs.EventLemmas.{pop_lost_row}
 use Rattle.seat_rows.proofs.WordLemmas.{word_then}
@@ -53,10 +53,10 @@ pub goes_then : (v t u : View) → GoesOn v t → GoesOn t u → GoesOn v u
 goes_then v t u p q = record { ran = p.ran; going = q.going; room = p.room; more = let x = p.more in let y = q.more in omega arith; parts_are = q.parts_are ∙ p.parts_are; wins = q.wins ∙ p.wins; losses = q.losses ∙ p.losses; taken = q.taken ∙ p.taken; cuts = q.cuts ∙ p.cuts; anchor = q.anchor ∙ p.anchor; words = λ k own. word_then v t u k (p.words k own) (q.words k (still_owns v t p.parts_are k own)) }
 
 -- the exchange
-won_parts : (list d : ℕ) (v w : View) (ticket : ℕ) (volatile durable : _) → v.stopped ≡ None
+won_parts : (list d : ℕ) (v w : View) (ticket : ℕ) (volatile durable : _) → v.stopped ≡ None → v.draws < v.setup.budget
     → w ≡ claimed (record (won (record (drew v ticket) { volatile = volatile; durable = durable })) { seen_head = None; seen_link = None; seen_anchor = cleared d 1 v.seen_anchor }) d list → HasPopped list d v w
-won_parts zero d v w ticket volatile durable going after = subst (HasPopped zero d v) (sym after) (record { going = going; parts_are = refl; durable = omega arith })
-won_parts (suc class) d v w ticket volatile durable going after = subst (HasPopped (suc class) d v) (sym after) (record { going = going; parts_are = refl; durable = omega arith })
+won_parts zero d v w ticket volatile durable going room after = subst (HasPopped zero d v) (sym after) (record { ran = going; going = going; room = room; more = omega arith; parts_are = refl; durable = omega arith })
+won_parts (suc class) d v w ticket volatile durable going room after = subst (HasPopped (suc class) d v) (sym after) (record { ran = going; going = going; room = room; more = omega arith; parts_are = refl; durable = omega arith })
 
 add-one : (d : ℕ) → d + 1 ≡ suc d
 add-one d = omega arith
@@ -65,7 +65,7 @@ abbrev pub drawn_as : View → ℕ → View → View
 drawn_as v ticket u = record (drew v ticket) { volatile = u.volatile; durable = u.durable }
 
 pub pop_wins : (v u w : View) (list d found : ℕ) → HasDrawn v u → SeesFirst list d v → IsEvent Pop u found w → found ≡ seen_word u.seen_head → HasPopped list d v w
-pop_wins v u w list d found drawn sees event same = won_parts list d v w drawn.ticket u.volatile u.durable drawn.went
+pop_wins v u w list d found drawn sees event same = won_parts list d v w drawn.ticket u.volatile u.durable drawn.went drawn.room
     (pop_won u w found event same
     ∙ ap (λ (x : View). popped x (before (head_first (seen_word x.seen_head)))) drawn.left
     ∙ ap (λ n. popped (drawn_as v drawn.ticket u) n) (ap (λ (s : Option Snapshot). before (head_first (seen_word s))) sees.is_seen ∙ ap before (sees.first ∙ add-one d))
@@ -98,8 +98,15 @@ exchanged v u w list d found won (Err x) drawn row sees event told is = subst (�
 pub claims_alike : (list d : ℕ) (p q : Parts) → p ≡ q → with_claim list d p ≡ with_claim list d q
 claims_alike list d p q same = ap (with_claim list d) same
 
-pub popped_later : (v t w : View) (list d : ℕ) → parts t ≡ parts v → HasPopped list d t w → HasPopped list d v w
-popped_later v t w list d same popped = record { going = popped.going; parts_are = popped.parts_are ∙ ap (with_claim list d) same; durable = popped.durable }
+pub popped_later : {a : Costs} (v t w : View) (list d : ℕ) → v.stopped ≡ None → parts t ≡ parts v → ViewRow a v t → HasPopped list d t w → HasPopped list d v w
+popped_later v t w list d ran same row popped = record {
+  ran = ran;
+  going = popped.going;
+  room = let r = popped.room in let d = row.passes.more.draws in let k = ap (λ (s : Setup). s.budget) row.passes.setup in omega arith;
+  more = let m = popped.more in let d = row.passes.more.draws in omega arith;
+  parts_are = popped.parts_are ∙ ap (with_claim list d) same;
+  durable = popped.durable;
+}
 
 pub lost_later : {n m : ℕ} (list : ℕ) (v t w : View) → GoesOn v t → KeepsOtherLooks list v t → ViewRow (record no_costs { draws = n }) v t → HasLost list m t w → HasLost list (n + m) v w
 lost_later list v t w p others row lost = record { ran = p.ran; going = lost.going; room = p.room; more = let x = p.more in let y = lost.more in omega arith; parts_are = lost.parts_are ∙ p.parts_are; wins = lost.wins ∙ p.wins; losses = lost.losses ∙ ap (λ n. n + 1) p.losses; taken = lost.taken ∙ p.taken; cuts = lost.cuts ∙ p.cuts; others = others_then list v t w others lost.others; row = view_row_then v t w row lost.row; unseen = lost.unseen }
@@ -139,8 +146,8 @@ tries_stop list v t w step trying stop = elim trying.fresh [
 ]
 
 pub tries_done : (v t w : View) (list : ℕ) (pop : PopAnswer) → Trying list v t → Pops list pop t w → Pops list pop v w
-tries_done v t w list (Got d) trying popped = popped_later v t w list d trying.parts_are popped
-tries_done v t w list (Empty head) trying empty = record { going = empty.going; parts_are = empty.parts_are ∙ trying.parts_are; wins = empty.wins ∙ trying.wins; taken = empty.taken ∙ trying.taken; cuts = empty.cuts ∙ trying.cuts; is_seen = empty.is_seen; none = empty.none; look = empty.look; others = others_then list v t w trying.others empty.others; later = let x = trying.row.passes.next in let y = empty.later in omega arith }
+tries_done v t w list (Got d) trying popped = popped_later v t w list d (trying.both popped.ran) trying.parts_are trying.row popped
+tries_done v t w list (Empty head) trying empty = record { ran = trying.both empty.ran; going = empty.going; parts_are = empty.parts_are ∙ trying.parts_are; wins = empty.wins ∙ trying.wins; taken = empty.taken ∙ trying.taken; cuts = empty.cuts ∙ trying.cuts; is_seen = empty.is_seen; none = empty.none; look = empty.look; others = others_then list v t w trying.others empty.others; later = let x = trying.row.passes.next in let y = empty.later in omega arith }
 
 pub tries_row : (list : ℕ) (v t w : View) → Trying list v t → ViewRow (record one_win { draws = 3 }) t w → ViewRow (record one_win { draws = 3 }) v w
 tries_row list v t w trying row = view_row_then v t w trying.row row

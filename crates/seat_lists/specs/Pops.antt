@@ -65,7 +65,10 @@ with_claim (suc class) d p = record p { classed = record { descriptor = d; class
 
 -- it is the seat's, and no crash forgets that it was taken
 pub record HasPopped (list d : ℕ) (v w : View) : Type 0 where
+  pub ran : v.stopped ≡ None
   pub going : w.stopped ≡ None
+  pub room : v.draws < v.setup.budget
+  pub more : v.draws < w.draws
   pub parts_are : parts w ≡ with_claim list d (parts v)
   pub durable : d < w.floor
 
@@ -90,6 +93,7 @@ Exchanges list d false v w = HasLost list 1 v w
 
 -- the list was empty, as its head said at the last step; nothing was won
 pub record IsEmptyList (list head : ℕ) (v w : View) : Type 0 where
+  pub ran : v.stopped ≡ None
   pub going : w.stopped ≡ None
   pub parts_are : parts w ≡ parts v
   pub wins : w.wins ≡ v.wins
