@@ -26,12 +26,12 @@ use Rattle.crash_core.proofs.LiftSteps.{last_there}
 use Rattle.heap_rule.specs.Fences.{Owns}
 use Rattle.heap_rule.specs.Seated.{TellsDraw}
 use Rattle.heap_rule.specs.Shown.{Shows, ShowsLinks, by_claim, as_full, Can, CanCut, CanStore}
-use Rattle.heap_rule.proofs.LeftLemmas.{draw_cuts}
+use Rattle.heap_rule.proofs.LeftLemmas.{draw_cuts, draw_done}
 use Rattle.heap_rule.proofs.RawLemmas.{no_block, raw_blank, raw_inside, raw_once, settle_left, store_durable, store_shown, store_volatile, volatile_long, durable_long}
 use Rattle.heap_rule.proofs.StoredLemmas.{of_none}
 use Rattle.heap_table.specs.Plays.{HasSoundState, IsEvent}
 use Rattle.seat_lists.proofs.PopLemmas.{drawn_as}
-use Rattle.seat_rows.specs.Costs.{no_costs, one_draw}
+use Rattle.seat_rows.specs.Costs.{Costs, no_costs, one_draw}
 use Rattle.seat_rows.specs.Draws.{Settles}
 use Rattle.seat_rows.specs.Rows.{HasDrawn, Parts, Stops, ViewRow, parts}
 use Rattle.seat_rows.specs.Words.{IsHeldWord, KeepsWord, times_held}
@@ -406,3 +406,10 @@ module _ (v : View) (has : HasSoundState v) (d class : ℕ) (is : IsClass class)
       pub cut_stopped : {n : ℕ} → ViewRow (record no_costs { draws = n }) v y → (result : Result ⊤ Stopped) → TellsDraw w result → IfErr result (λ e. Stops e.step v w)
       cut_stopped row (Ok z) going = tt
       cut_stopped row (Err e) told = stops_later v y w e.step set_is.ran filled.going row (stops y early settles (Some (Cut d)) w found event e.step filled.going told)
+
+-- a cut counts as one
+pub cut_counted : {a : Costs} (v y early w : View) (d found : ℕ) → ViewRow a v y → Settles y early → IsEvent (Tick (Some (Cut d))) early found w → (result : Result ⊤ Stopped) → TellsDraw w result → OnOk result (v.cuts < w.cuts)
+cut_counted v y early w d found row settles event (Ok z) going =
+    let one = ap (λ (x : View). x.cuts) (draw_done (Some (Cut d)) early w found event going) in
+    let same = ap (λ (x : View). x.cuts) (early_rest y early settles) in let more = row.passes.more.cuts in omega arith
+cut_counted v y early w d found row settles event (Err e) told = tt

@@ -23,7 +23,7 @@ use Rattle.seat_fill.specs.Takes.{HasNotTaken, HasTakenFree, TakesFree, TakesSee
 use Rattle.seat_lists.specs.Anchors.{HasSeenAnchor}
 use Rattle.seat_lists.specs.Pushes.{IsClaimOf}
 use Rattle.seat_lists.proofs.PopLemmas.{drawn_as}
-use Rattle.seat_rows.specs.Costs.{no_costs, one_draw, one_win}
+use Rattle.seat_rows.specs.Costs.{Costs, no_costs, one_draw, one_win}
 use Rattle.seat_rows.specs.Rows.{HasDrawn, Parts, Stops, ViewRow, parts}
 use Rattle.seat_rows.proofs.EventLemmas.{take_all_lost_row}
 use Rattle.seat_rows.proofs.RowLemmas.{stops_later, view_row_none, view_row_then, view_row_within}
@@ -130,16 +130,16 @@ not_taken_later v t w d found seen row missed = record {
 }
 
 -- how far the tries have come
-pub record Taking (v t : View) : Type 0 where
-  pub row : ViewRow no_costs v t
+pub record Taking (costs : Costs) (v t : View) : Type 0 where
+  pub row : ViewRow costs v t
   pub parts_are : parts t ≡ parts v
   pub both : t.stopped ≡ None → v.stopped ≡ None
   pub fresh : (t ≡ v) ⊎ (t.stopped ≡ None)
 
-pub taking_begins : (v : View) → Taking v v
+pub taking_begins : (v : View) → Taking no_costs v v
 taking_begins v = record { row = view_row_none v; parts_are = refl; both = λ ran. ran; fresh = inl refl }
 
-pub taking_on : (v t w : View) → Taking v t → HasNotTaken 2 t w → Taking v w
+pub taking_on : (v t w : View) → Taking no_costs v t → HasNotTaken 2 t w → Taking no_costs v w
 taking_on v t w taking missed = record {
   row = view_row_within no_costs v w (record { draws = omega arith; wins = omega arith; gives = omega arith; cuts = omega arith; taken = omega arith; moves = omega arith }) (view_row_then v t w taking.row missed.row);
   parts_are = missed.parts_are ∙ taking.parts_are;
@@ -150,16 +150,16 @@ taking_on v t w taking missed = record {
 pub taking_less : (t w : View) → HasNotTaken 2 t w → w.setup.budget - w.draws < t.setup.budget - t.draws
 taking_less t w missed = let same = ap (λ (k : Setup). k.budget) missed.row.passes.setup in let room = missed.room in let more = missed.more in omega arith
 
-pub taking_stops : (v t w : View) (step : ℕ) → Taking v t → Stops step t w → Stops step v w
+pub taking_stops : {a : Costs} (v t w : View) (step : ℕ) → Taking a v t → Stops step t w → Stops step v w
 taking_stops v t w step taking stop = elim taking.fresh [
   | inl same ↦ subst (λ u. Stops step u w) same stop
   | inr going ↦ stops_later v t w step (taking.both going) going taking.row stop
 ]
 
-pub taking_row : (v t w : View) → Taking v t → ViewRow (record one_win { draws = 2 }) t w → ViewRow (record one_win { draws = 2 }) v w
+pub taking_row : (v t w : View) → Taking no_costs v t → ViewRow (record one_win { draws = 2 }) t w → ViewRow (record one_win { draws = 2 }) v w
 taking_row v t w taking row = view_row_then v t w taking.row row
 
-pub taking_done : (v t w : View) (d class : ℕ) (taken : Bool) → Taking v t → TakesFree d class taken t w → TakesFree d class taken v w
+pub taking_done : (v t w : View) (d class : ℕ) (taken : Bool) → Taking no_costs v t → TakesFree d class taken t w → TakesFree d class taken v w
 taking_done v t w d class true taking has = taken_later v t w d class taking.parts_are has
 taking_done v t w d class false taking has = record { going = has.going; parts_are = has.parts_are ∙ taking.parts_are; empty = has.empty; row = view_row_then v t w taking.row has.row }
 

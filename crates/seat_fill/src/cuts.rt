@@ -135,6 +135,7 @@ pub fn cut<C: Chance>(
     requires durable { d < seat.old.view.floor }
     requires uncached { of_class seat.old.view.caches class.number ≡ [] }
     ensures cut { OnOk result (HasCut d class.number seat.old.view seat.new.view) }
+    ensures counted { OnOk result (seat.old.view.cuts < seat.new.view.cuts) }
     ensures stopped { IfErr result (λ e. Stops e.step seat.old.view seat.new.view) }
     ensures row { Row (record no_costs { draws = blocks_of class.number + 2; cuts = 1 })
         seat.old seat.new }

@@ -3,7 +3,9 @@
 #![tactic(auto)]
 
 mod cuts;
+mod refills;
 mod takes;
 
 pub use cuts::cut;
+pub use refills::{Filling, refill};
 pub use takes::take_free_blocks;

@@ -31,7 +31,7 @@ anchor_of_class v u w d found drawn event some =
 
 -- a superblock that is claimed with a class is claimed without one by no seat
 module _ (v : View) (has : HasSoundState v) (class d : ℕ) (claim : IsClaimOf class d v) where
-  raw_none : times_raw d v ≡ 0
+  pub raw_none : times_raw d v ≡ 0
   raw_none =
       let raw = total_at (times_raw d) has.views has.seat v has.below has.at in
       let mine = total_at (λ (x : View). times_classed d x.classed) has.views has.seat v has.below has.at in

@@ -4,7 +4,7 @@ use Rattle.heap_model.proofs.SizeLemmas.{four_blocks}
 use Rattle.seat_rows.specs.Costs.{no_costs}
 use Rattle.seat_rows.proofs.RowLemmas.{row_of, row_then, row_within}
 use Rattle.seat_rows.proofs.ShiftLemmas.{cut_draw_row}
-use Rattle.seat_fill.proofs.CutLemmas.{can_cut, cut_stopped, cut_told}
+use Rattle.seat_fill.proofs.CutLemmas.{can_cut, cut_counted, cut_stopped, cut_told}
 use Rattle.seat_fill.proofs.cuts.cut.Goals as goal
 
 pub returns-in_err-link_blocks-clause-row : goal.returns-in_err-link_blocks-clause-row
@@ -45,3 +45,9 @@ returns-clause-row g c = let four = four_blocks c.args.class.number c.args.class
     let e = c.draw_with.ensures.event going in
     row_within (record no_costs { draws = blocks_of c.args.class.number + 2; cuts = 1 }) c.args.seat.now w (record { draws = omega arith; wins = omega arith; gives = omega arith; cuts = omega arith; taken = omega arith; moves = omega arith })
     (row_then c.args.seat.now x w row (row_of x w c.draw_with.ensures.stores (cut_draw_row x.view e.0 e.1 going w.view e.2 c.args.d e.3)))
+
+pub returns-clause-counted : goal.returns-clause-counted
+returns-clause-counted g c =
+    let row = row_then c.args.seat.now c.link_blocks.new.seat c.fill_anchor.new.seat (row_then c.args.seat.now c.set_info.new.seat c.link_blocks.new.seat c.set_info.ensures.row c.link_blocks.ensures.row) c.fill_anchor.ensures.row in
+    let e = c.draw_with.ensures.event c.in_ok-fill_anchor.ensures.filled.going in
+    cut_counted c.args.seat.now.view c.fill_anchor.new.seat.view e.0 c.draw_with.new.seat.view c.args.d e.2 row.view e.1 e.3 c.draw_with.result c.draw_with.ensures.told

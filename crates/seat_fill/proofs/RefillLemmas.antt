@@ -1,0 +1,243 @@
+-- What the filling of an empty cache leaves.
+use Rattle.std.proofs.Common.{◌≡◌, ◌≢◌, ◌<◌, ◌≤◌, ◌+◌, ◌-◌, inl, inr, ℕ, zero, suc, Bool, true, false, cond, nat_eq, List, [], ◌∷◌, get_or, length, set, Option, None, Some, refl, ap, sym, subst, ◌∙◌, eq-eqb, arith}
+use Rattle.std.proofs.lemmas.List.{get_or_default}
+use Rattle.heap_model.specs.Counting.{times, without}
+use Rattle.heap_model.specs.Geometry.{lists}
+use Rattle.heap_model.specs.Sizes.{IsClass, blocks_of}
+use Rattle.heap_model.proofs.SizeLemmas.{four_blocks}
+use Rattle.heap_model.specs.Words.{head_first}
+use Rattle.core_model.specs.Effects.{class_blocks, without_claim}
+use Rattle.core_model.specs.View.{LastLook, Setup, View, of_class}
+use Rattle.core_model.proofs.CountLemmas.{length_steps}
+use Rattle.core_model.proofs.TotalLemmas.{eq-eqb-one}
+use Rattle.heap_rule.specs.Seated.{SeatView}
+use Rattle.heap_rule.specs.Shown.{CanList, as_free}
+use Rattle.heap_rule.specs.Tickets.{after_ticket}
+use Rattle.heap_seat.specs.declared.fault.Looks.{Looks}
+use Rattle.heap_table.specs.Plays.{HasSoundState}
+use Rattle.large_block.specs.Fresh.{IsPast}
+use Rattle.seat_fill.specs.declared.refills.FromClass.{FromClass}
+use Rattle.seat_fill.specs.declared.refills.FromClass.TheVariants.{Filled as FilledFromClass, Empty}
+use Rattle.seat_fill.specs.Cuts.{HasCut, with_cut}
+use Rattle.seat_fill.specs.Refills.{FillsFrom, HasFilled, HasFilledFrom, HasFound, HasMoved, IsFull, IsLook, IsNoneOfClass, IsNothingFree, fill_costs}
+use Rattle.seat_fill.specs.Takes.{HasTakenFree, IsAllFree, with_taken}
+use Rattle.seat_fill.proofs.TakeLemmas.{Taking, claim_still}
+use Rattle.seat_lists.specs.Pops.{HasPopped, IsEmptyList, looked, with_claim}
+use Rattle.seat_lists.specs.Pushes.{HasPushed, IsClaimOf}
+use Rattle.seat_lists.proofs.AnchorLemmas.{claim_added, claim_free, claim_of_class, claim_pushed, raw_none}
+use Rattle.seat_rows.specs.Costs.{Costs, IsWithin, no_costs, one_move}
+use Rattle.seat_rows.specs.Idle.{IsIdle}
+use Rattle.seat_rows.specs.Rows.{Parts, Row, ViewRow, head_look, next_of, parts}
+use Rattle.seat_rows.proofs.RowLemmas.{row_moves, row_within, view_row_none, view_row_then, view_row_within}
+
+-- a row in which nothing was won or taken
+pub nothing_won : {a : Costs} (v w : View) → w.wins ≡ v.wins → w.taken ≡ v.taken → ViewRow a v w → ViewRow (record a { wins = a.refund; taken = 0 }) v w
+nothing_won v w wins taken p = record {
+  passes = record {
+    setup = p.passes.setup;
+    roots = p.passes.roots;
+    floor = p.passes.floor;
+    next = p.passes.next;
+    more = p.passes.more;
+    most = let m = p.passes.most in record { draws = m.draws; wins = (let more = p.passes.more.moves in omega arith); gives = m.gives; cuts = m.cuts; taken = omega arith; moves = m.moves };
+    looks = p.passes.looks;
+  };
+  small = p.small;
+  large = p.large;
+  words = p.words;
+}
+
+-- a row behind superblocks that were moved
+pub fill_then : {draws wins : ℕ} (v t w : View) → ViewRow (fill_costs 0 0 v t) v t → ViewRow (fill_costs draws wins t w) t w → ViewRow (fill_costs draws wins v w) v w
+fill_then {draws} {wins} v t w p q = view_row_within (fill_costs draws wins v w) v w
+    (record { draws = omega arith; wins = omega arith; gives = omega arith; cuts = omega arith; taken = omega arith; moves = let a = p.passes.more.moves in let b = q.passes.more.moves in omega arith })
+    (view_row_then v t w p q)
+
+-- a row that costs no more than a refill may, but for what it moves
+pub refill_row : {a : Costs} (class : ℕ) (v w : SeatView) → IsWithin (record a { moves = 0 }) (record no_costs { draws = blocks_of class + 11; wins = 2; cuts = 1; taken = 1 }) → Row a v w
+    → Row (record no_costs { draws = blocks_of class + 11; wins = 2; cuts = 1; taken = 1; moves = w.view.moves - v.view.moves }) v w
+refill_row class v w less p = row_within (record no_costs { draws = blocks_of class + 11; wins = 2; cuts = 1; taken = 1; moves = w.view.moves - v.view.moves }) v w
+    (record { draws = less.draws; wins = less.wins; gives = less.gives; cuts = less.cuts; taken = less.taken; moves = omega arith }) (row_moves v w p)
+
+-- the look by the last ticket
+pub looked_is : (w : View) (look : LastLook) (word n : ℕ) → look ≡ looked word w → n < next_of w → (is : IsLook look word w) × (n ≤ is.ticket) × (next_of w ≡ is.ticket + 1)
+looked_is w look word n same later = by_last w.last_ticket refl where
+  by_last : (last : Option ℕ) → w.last_ticket ≡ last → (is : IsLook look word w) × (n ≤ is.ticket) × (next_of w ≡ is.ticket + 1)
+  by_last None none = absurd (let z = ap after_ticket none in omega arith)
+  by_last (Some ticket) some = let z = ap after_ticket some in
+      (record { ticket = ticket; by = ap (λ (l : LastLook). l.ticket) same ∙ some; word_is = ap (λ (l : LastLook). l.word) same; wins = ap (λ (l : LastLook). l.wins) same; taken = ap (λ (l : LastLook). l.taken) same }, omega arith, z)
+
+-- of a view with as many wins and superblocks taken
+abbrev pub look_later : (before now : LastLook) (word : ℕ) (v w : View) → now ≡ before → w.wins ≡ v.wins → w.taken ≡ v.taken → IsLook before word v → IsLook now word w
+look_later before now word v w same wins taken p = record {
+  ticket = p.ticket;
+  by = ap (λ (l : LastLook). l.ticket) same ∙ p.by;
+  word_is = ap (λ (l : LastLook). l.word) same ∙ p.word_is;
+  wins = ap (λ (l : LastLook). l.wins) same ∙ p.wins ∙ sym wins;
+  taken = ap (λ (l : LastLook). l.taken) same ∙ p.taken ∙ sym taken;
+}
+
+pub looks_long : (w : View) → HasSoundState w → length w.head_looks ≡ lists
+looks_long w has = (has.sound.good.set_up has.seat w has.below has.at).looks
+
+-- the claims without the one that was added
+added_off : (v : View) (d class : ℕ) (caches : List (List ℕ)) → record (parts v) { caches = caches; classed = without_claim d (record { descriptor = d; class = class } ∷ v.classed) } ≡ record (parts v) { caches = caches }
+added_off v d class caches = ap (λ test. record (parts v) { caches = caches; classed = cond test v.classed (record { descriptor = d; class = class } ∷ without_claim d v.classed) }) (eq-eqb d d refl)
+
+-- a superblock of the class was popped
+module _ (v t : View) (class d : ℕ) (is : IsClass class) (popped : HasPopped class d v t) where
+  added : parts t ≡ record (parts v) { classed = record { descriptor = d; class = class } ∷ v.classed }
+  added = popped.parts_are ∙ claim_added class d (parts v) is
+
+  pub popped_claim : IsClaimOf class d t
+  popped_claim = claim_of_class class d (parts v) t is popped.parts_are
+
+  pub popped_uncached : of_class v.caches class ≡ [] → of_class t.caches class ≡ []
+  popped_uncached none = ap (λ (p : Parts). of_class p.caches class) added ∙ none
+
+  pub taken_fills : (x : View) → HasTakenFree d class t x → HasFilled class v x
+  taken_fills x taken = record {
+    going = taken.going;
+    blocks = taken.blocks;
+    some = taken.some;
+    most = let f = taken.few in omega arith;
+    parts_are = taken.parts_are ∙ ap (with_taken d class taken.blocks) added ∙ added_off v d class (set v.caches class taken.blocks);
+  }
+
+  module _ (x : View) (has : HasSoundState x) (free : IsAllFree d t x) where
+    claim : IsClaimOf class d x
+    claim = claim_still t x d class free.parts_are popped_claim
+
+    pub free_lists : CanList x d 0
+    free_lists = as_free (claim_free x has class d claim) free.empty
+
+    -- its push is a move
+    pub free_moves : (w : View) → HasPushed 0 d 3 x w → ViewRow (record one_move { draws = 3 }) x w
+    free_moves w pushed = pushed.moved refl (let none = raw_none x has class d claim in omega arith)
+
+    pub moved_on : (w : View) → HasPushed 0 d 3 x w → v.draws < w.draws → ViewRow (fill_costs 0 0 v w) v w → HasMoved v w
+    moved_on w pushed more row = record {
+      ran = popped.ran;
+      going = pushed.going;
+      room = popped.room;
+      more = more;
+      parts_are = claim_pushed x has class d claim x w 0 refl pushed
+          ∙ ap (λ (p : Parts). record p { classed = without_claim d p.classed }) (free.parts_are ∙ added)
+          ∙ added_off v d class v.caches;
+      row = row;
+    }
+
+-- the list of the class was empty
+pub none_of_class : (v w : View) (class head : ℕ) → IsClass class → HasSoundState w → ViewRow (fill_costs 3 0 v w) v w → IsEmptyList class head v w → IsNoneOfClass class head v w
+none_of_class v w class head is has row empty =
+    let look = looked_is w (head_look w class) head (next_of v) (get_or_default w.head_looks class w.used_look (looked head w) (let long = looks_long w has in let last = is.last in omega arith) ∙ empty.look) empty.later in record {
+      ran = empty.ran;
+      going = empty.going;
+      parts_are = empty.parts_are;
+      none = empty.none;
+      look = look.0;
+      since = look.1;
+      last = look.2;
+      row = row;
+    }
+
+-- how far the tries have come
+pub filling_begins : (v : View) → Taking (fill_costs 0 0 v v) v v
+filling_begins v = record { row = view_row_within (fill_costs 0 0 v v) v v (record { draws = omega arith; wins = omega arith; gives = omega arith; cuts = omega arith; taken = omega arith; moves = omega arith }) (view_row_none v); parts_are = refl; both = λ ran. ran; fresh = inl refl }
+
+pub filling_on : (v t w : View) → Taking (fill_costs 0 0 v t) v t → HasMoved t w → Taking (fill_costs 0 0 v w) v w
+filling_on v t w filling moved = record {
+  row = fill_then v t w filling.row moved.row;
+  parts_are = moved.parts_are ∙ filling.parts_are;
+  both = λ ran. filling.both moved.ran;
+  fresh = inr moved.going;
+}
+
+pub filling_less : (t w : View) → HasMoved t w → w.setup.budget - w.draws < t.setup.budget - t.draws
+filling_less t w moved = let same = ap (λ (k : Setup). k.budget) moved.row.passes.setup in let room = moved.room in let more = moved.more in omega arith
+
+filled_later : (v t w : View) (class : ℕ) → parts t ≡ parts v → HasFilled class t w → HasFilled class v w
+filled_later v t w class same filled = record { going = filled.going; blocks = filled.blocks; some = filled.some; most = filled.most; parts_are = filled.parts_are ∙ ap (λ (p : Parts). record p { caches = set p.caches class filled.blocks }) same }
+
+pub filling_done : (v t w : View) (class : ℕ) (from : FromClass) → Taking (fill_costs 0 0 v t) v t → FillsFrom class from t w → FillsFrom class from v w
+filling_done v t w class FilledFromClass filling has = record { filled = filled_later v t w class filling.parts_are has.filled; row = fill_then v t w filling.row has.row }
+filling_done v t w class (Empty head) filling none = record {
+  ran = filling.both none.ran;
+  going = none.going;
+  parts_are = none.parts_are ∙ filling.parts_are;
+  none = none.none;
+  look = none.look;
+  since = let n = filling.row.passes.next in let s = none.since in omega arith;
+  last = none.last;
+  row = fill_then v t w filling.row none.row;
+}
+
+-- neither list nor mark gave a superblock
+pub nothing_free : (v t w : View) (head used : ℕ) → HasSoundState w → ViewRow (record no_costs { draws = 6 }) v w → IsEmptyList 0 head v t → IsPast 1 used t w → IsNothingFree head used v w
+nothing_free v t w head used has row empty past =
+    let long = looks_long w has in
+    let free : head_look w 0 ≡ looked head t = get_or_default w.head_looks 0 w.used_look (looked head t) (omega arith) ∙ ap (λ looks. get_or looks 0 (looked head t)) past.heads ∙ empty.look in
+    let first = looked_is t (looked head t) head (next_of v) refl empty.later in
+    let second = looked_is w w.used_look used (next_of t) past.look past.later in record {
+      going = past.going;
+      parts_are = past.parts_are ∙ empty.parts_are;
+      wins = past.wins ∙ empty.wins;
+      taken = past.taken ∙ empty.taken;
+      none = empty.none;
+      past = subst (λ (k : Setup). k.capacity < used + 1) (ap (λ (p : Parts). p.setup) empty.parts_are) past.past;
+      free_look = look_later (looked head t) (head_look w 0) head t w free past.wins past.taken first.0;
+      used_look = second.0;
+      since = first.1;
+      order = let a = first.2 in let b = second.1 in omega arith;
+      others = λ list less apart. get_or_default w.head_looks list w.used_look t.used_look (omega arith)
+          ∙ ap (λ looks. get_or looks list t.used_look) past.heads ∙ empty.others.heads list apart;
+      row = row;
+    }
+
+-- a superblock without a class was found
+module _ (v t x : View) (class head d : ℕ) (idle : IsIdle v) (none : IsNoneOfClass class head v t) (found : HasFound d t x) where
+  found_parts : parts x ≡ with_claim 0 d (parts v)
+  found_parts = found.parts_are ∙ ap (with_claim 0 d) none.parts_are
+
+  pub found_claimed : 0 < times d x.raw
+  found_claimed = subst (λ (p : Parts). 0 < times d p.raw) (sym found_parts) (let here = eq-eqb-one d d refl in omega arith)
+
+  pub found_uncached : of_class v.caches class ≡ [] → of_class x.caches class ≡ []
+  found_uncached uncached = ap (λ (p : Parts). of_class p.caches class) found_parts ∙ uncached
+
+  pub cut_fills : (w : View) → IsClass class → HasCut d class x w → HasFilled class v w
+  cut_fills w is done = record {
+    going = done.going;
+    blocks = class_blocks v.setup.capacity class d;
+    some = let four = four_blocks class is in let all = count in omega arith;
+    most = let all = count in omega arith;
+    parts_are = done.parts_are ∙ ap (with_cut d class) found_parts
+        ∙ ap (λ test. record cached { raw = cond test v.raw (d ∷ without d v.raw); split = without d v.split; cutting = without d v.cutting }) (eq-eqb d d refl)
+        ∙ ap (λ l. record cached { split = without d l; cutting = without d v.cutting }) idle.split
+        ∙ ap (λ l. record cached { split = l; cutting = without d v.cutting }) (sym idle.split)
+        ∙ ap (λ l. record cached { cutting = without d l }) idle.cutting
+        ∙ ap (λ l. record cached { cutting = l }) (sym idle.cutting);
+  } where
+    cached : Parts
+    cached = record (parts v) { caches = set v.caches class (class_blocks v.setup.capacity class d) }
+
+    count : length (class_blocks v.setup.capacity class d) ≡ blocks_of class
+    count = length_steps _ _ (blocks_of class)
+
+pub nothing_left : (v t w : View) (class class_head free_head used : ℕ) → IsClass class → IsNoneOfClass class class_head v t → IsNothingFree free_head used t w
+    → IsFull class (record { class_head = class_head; free_head = free_head; used = used }) v w
+nothing_left v t w class class_head free_head used is none nothing = record {
+  going = nothing.going;
+  parts_are = nothing.parts_are ∙ none.parts_are;
+  cuts = let a = none.row.passes.more.cuts in let b = none.row.passes.most.cuts in let c = nothing.row.passes.more.cuts in let d = nothing.row.passes.most.cuts in omega arith;
+  taken = let a = none.row.passes.more.taken in let b = none.row.passes.most.taken in let c = nothing.taken in omega arith;
+  class_look = look_later (head_look t class) (head_look w class) class_head t w (nothing.others class (let last = is.last in omega arith) (λ zero_class. let some = is.some in omega arith)) nothing.wins nothing.taken none.look;
+  free_look = nothing.free_look;
+  used_look = nothing.used_look;
+  since = none.since;
+  class_first = let a = none.last in let b = nothing.since in omega arith;
+  free_second = nothing.order;
+  class_empty = none.none;
+  free_empty = nothing.none;
+  past = subst (λ (k : Setup). k.capacity < used + 1) (ap (λ (p : Parts). p.setup) none.parts_are) nothing.past;
+}
