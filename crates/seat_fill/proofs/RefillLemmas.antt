@@ -1,11 +1,10 @@
 -- What the filling of an empty cache leaves.
-use Rattle.std.proofs.Common.{◌≡◌, ◌≢◌, ◌<◌, ◌≤◌, ◌+◌, ◌-◌, inl, inr, ℕ, zero, suc, Bool, true, false, cond, nat_eq, List, [], ◌∷◌, get_or, length, set, Option, None, Some, refl, ap, sym, subst, ◌∙◌, eq-eqb, arith}
+use Rattle.std.proofs.Common.{◌≡◌, ◌<◌, ◌≤◌, ◌+◌, ◌-◌, inl, inr, ℕ, cond, List, [], ◌∷◌, get_or, length, set, Option, None, Some, refl, ap, sym, subst, ◌∙◌, eq-eqb, arith}
 use Rattle.std.proofs.lemmas.List.{get_or_default}
 use Rattle.heap_model.specs.Counting.{times, without}
 use Rattle.heap_model.specs.Geometry.{lists}
 use Rattle.heap_model.specs.Sizes.{IsClass, blocks_of}
 use Rattle.heap_model.proofs.SizeLemmas.{four_blocks}
-use Rattle.heap_model.specs.Words.{head_first}
 use Rattle.core_model.specs.Effects.{class_blocks, without_claim}
 use Rattle.core_model.specs.View.{LastLook, Setup, View, of_class}
 use Rattle.core_model.proofs.CountLemmas.{length_steps}
@@ -13,19 +12,20 @@ use Rattle.core_model.proofs.TotalLemmas.{eq-eqb-one}
 use Rattle.heap_rule.specs.Seated.{SeatView}
 use Rattle.heap_rule.specs.Shown.{CanList, as_free}
 use Rattle.heap_rule.specs.Tickets.{after_ticket}
-use Rattle.heap_seat.specs.declared.fault.Looks.{Looks}
 use Rattle.heap_table.specs.Plays.{HasSoundState}
 use Rattle.large_block.specs.Fresh.{IsPast}
 use Rattle.seat_fill.specs.declared.refills.FromClass.{FromClass}
 use Rattle.seat_fill.specs.declared.refills.FromClass.TheVariants.{Filled as FilledFromClass, Empty}
 use Rattle.seat_fill.specs.Cuts.{HasCut, with_cut}
-use Rattle.seat_fill.specs.Refills.{FillsFrom, HasFilled, HasFilledFrom, HasFound, HasMoved, IsFull, IsLook, IsNoneOfClass, IsNothingFree, fill_costs}
+use Rattle.seat_fill.specs.Refills.{FillsFrom, HasFilled, HasFound, HasMoved, IsFull, IsLook, IsNoneOfClass, IsNothingFree, fill_costs}
 use Rattle.seat_fill.specs.Takes.{HasTakenFree, IsAllFree, with_taken}
 use Rattle.seat_fill.proofs.TakeLemmas.{Taking, claim_still}
-use Rattle.seat_lists.specs.Pops.{HasPopped, IsEmptyList, looked, with_claim}
+use Rattle.seat_lists.specs.declared.pops.Pop.{Pop}
+use Rattle.seat_lists.specs.declared.pops.Pop.TheVariants.{Empty as EmptyList}
+use Rattle.seat_lists.specs.Pops.{HasPopped, IsEmptyList, Pops, looked, with_claim}
 use Rattle.seat_lists.specs.Pushes.{HasPushed, IsClaimOf}
 use Rattle.seat_lists.proofs.AnchorLemmas.{claim_added, claim_free, claim_of_class, claim_pushed, raw_none}
-use Rattle.seat_rows.specs.Costs.{Costs, IsWithin, no_costs, one_move}
+use Rattle.seat_rows.specs.Costs.{Costs, IsWithin, no_costs, one_move, one_win}
 use Rattle.seat_rows.specs.Idle.{IsIdle}
 use Rattle.seat_rows.specs.Rows.{Parts, Row, ViewRow, head_look, next_of, parts}
 use Rattle.seat_rows.proofs.RowLemmas.{row_moves, row_within, view_row_none, view_row_then, view_row_within}
@@ -140,6 +140,15 @@ none_of_class v w class head is has row empty =
       last = look.2;
       row = row;
     }
+
+-- what the look at an empty list cost
+pub empty_list_row : (list head : ℕ) (v w : SeatView) (pop : Pop) → pop ≡ EmptyList head → Pops list pop v.view w.view → Row (record one_win { draws = 3 }) v w → Row (record no_costs { draws = 3 }) v w
+empty_list_row list head v w pop is done row = let empty : IsEmptyList list head v.view w.view = subst (λ p. Pops list p v.view w.view) is done in
+    record { view = nothing_won v.view w.view empty.wins empty.taken row.view; marks = row.marks }
+
+pub empty_class_row : {a : Costs} (class head : ℕ) (v w : SeatView) (from : FromClass) → from ≡ Empty head → FillsFrom class from v.view w.view → Row a v w → Row (fill_costs 3 0 v.view w.view) v w
+empty_class_row class head v w from is done row = let none : IsNoneOfClass class head v.view w.view = subst (λ f. FillsFrom class f v.view w.view) is done in
+    record { view = none.row; marks = row.marks }
 
 -- how far the tries have come
 pub filling_begins : (v : View) → Taking (fill_costs 0 0 v v) v v

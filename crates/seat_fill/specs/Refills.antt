@@ -13,7 +13,7 @@ use Rattle.seat_fill.specs.declared.refills.Filling.{Filling}
 use Rattle.seat_fill.specs.declared.refills.Filling.TheVariants.{Filled, Full}
 use Rattle.seat_lists.specs.Pops.{with_claim}
 use Rattle.seat_rows.specs.Costs.{Costs, no_costs}
-use Rattle.seat_rows.specs.Rows.{Parts, ViewRow, head_look, next_of, parts}
+use Rattle.seat_rows.specs.Rows.{ViewRow, head_look, next_of, parts}
 
 -- so many draws and exchanges that are won, whatever superblocks are moved to the list of the free ones
 abbrev pub fill_costs : ℕ → ℕ → View → View → Costs

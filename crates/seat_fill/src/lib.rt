@@ -1,5 +1,5 @@
-//! How an empty cache is filled: a superblock is cut into blocks of a class, and the blocks are
-//! cached.
+//! How an empty cache is filled: with the free blocks of a superblock of the class, or with all
+//! blocks of one that is cut.
 #![tactic(auto)]
 
 mod cuts;

@@ -28,8 +28,8 @@ pub enum Filling {
 }
 
 /// What the list of a class gives to an empty cache.
-#[derive(Clone, Copy, Debug, PartialEq, Eq)]
-pub enum FromClass {
+#[derive(Clone, Copy)]
+enum FromClass {
     /// There are blocks in the cache.
     Filled,
     /// The list was empty, as its head said.
@@ -37,8 +37,8 @@ pub enum FromClass {
 }
 
 /// Where a superblock without a class comes from.
-#[derive(Clone, Copy, Debug, PartialEq, Eq)]
-pub enum Found {
+#[derive(Clone, Copy)]
+enum Found {
     /// The list of the free ones, or the mark.
     Got(u64),
     /// That list was empty, and the mark left no room.
@@ -58,8 +58,11 @@ fn try_fill_from_class<C: Chance>(
     ensures done { IfOk result (λ from. TriesFrom class.number from
         seat.old.view seat.new.view) }
     ensures stopped { IfErr result (λ e. Stops e.step seat.old.view seat.new.view) }
-    ensures row { Row (record no_costs { draws = 7; wins = 2;
-        moves = seat.new.view.moves - seat.old.view.moves }) seat.old seat.new }
+    ensures row { Row (record no_costs {
+      draws = 7;
+      wins = 2;
+      moves = seat.new.view.moves - seat.old.view.moves;
+    }) seat.old seat.new }
     ensures seat { IsSeatOf shared.now seat.new }
 {
     let pop = partial_list::pop(seat, shared, class, chance)?;
@@ -90,8 +93,11 @@ fn fill_from_class<C: Chance>(
     ensures done { IfOk result (λ from. FillsFrom class.number from
         seat.old.view seat.new.view) }
     ensures stopped { IfErr result (λ e. Stops e.step seat.old.view seat.new.view) }
-    ensures row { Row (record no_costs { draws = 7; wins = 2;
-        moves = seat.new.view.moves - seat.old.view.moves }) seat.old seat.new }
+    ensures row { Row (record no_costs {
+      draws = 7;
+      wins = 2;
+      moves = seat.new.view.moves - seat.old.view.moves;
+    }) seat.old seat.new }
     ensures seat { IsSeatOf shared.now seat.new }
 {
     loop {
@@ -144,11 +150,19 @@ pub fn refill<C: Chance>(
     ensures done { IfOk result (λ filling. Refills class.number filling
         seat.old.view seat.new.view) }
     ensures light { IfOk result (λ _. seat.new.view.cuts ≡ seat.old.view.cuts
-        → Row (record no_costs { draws = 9; wins = 2;
-        moves = seat.new.view.moves - seat.old.view.moves }) seat.old seat.new) }
+        → Row (record no_costs {
+          draws = 9;
+          wins = 2;
+          moves = seat.new.view.moves - seat.old.view.moves;
+        }) seat.old seat.new) }
     ensures stopped { IfErr result (λ e. Stops e.step seat.old.view seat.new.view) }
-    ensures row { Row (record no_costs { draws = blocks_of class.number + 11; wins = 2; cuts = 1;
-        taken = 1; moves = seat.new.view.moves - seat.old.view.moves }) seat.old seat.new }
+    ensures row { Row (record no_costs {
+      draws = blocks_of class.number + 11;
+      wins = 2;
+      cuts = 1;
+      taken = 1;
+      moves = seat.new.view.moves - seat.old.view.moves;
+    }) seat.old seat.new }
     ensures seat { IsSeatOf shared.now seat.new }
 {
     let class_head = match fill_from_class(seat, shared, class, chance)? {

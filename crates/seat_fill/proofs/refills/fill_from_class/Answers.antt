@@ -1,7 +1,7 @@
 use Rattle.std.proofs.Common.{inl, subst}
 use Rattle.seat_rows.proofs.RowLemmas.{marks_behind}
 use Rattle.seat_fill.specs.Refills.{TriesFrom}
-use Rattle.seat_fill.proofs.TakeLemmas.{taking_stops, uncached_still}
+use Rattle.seat_fill.proofs.TakeLemmas.{uncached_still}
 use Rattle.seat_fill.proofs.RefillLemmas.{fill_then, filling_begins, filling_done, filling_less, filling_on}
 use Rattle.seat_fill.proofs.refills.fill_from_class.Goals as goal
 

@@ -1,27 +1,24 @@
-use Rattle.std.proofs.Common.{◌+◌, ◌-◌, subst, arith}
+use Rattle.std.proofs.Common.{subst, arith}
 use Rattle.seat_rows.specs.Costs.{no_costs}
 use Rattle.seat_rows.specs.Rows.{Row}
 use Rattle.seat_rows.proofs.RowLemmas.{row_moves, row_then, row_within}
 use Rattle.seat_fill.specs.Refills.{FillsFrom, Finds, HasFound, IsNoneOfClass, IsNothingFree, fill_costs}
-use Rattle.seat_fill.proofs.RefillLemmas.{cut_fills, nothing_left, refill_row}
+use Rattle.seat_fill.proofs.RefillLemmas.{cut_fills, empty_class_row, nothing_left, refill_row}
 use Rattle.seat_fill.proofs.refills.refill.Goals as goal
 
 pub returns-in_err-d-clause-row : goal.returns-in_err-d-clause-row
 returns-in_err-d-clause-row g c = let v = c.args.seat.now in let t = c.fill_from_class.new.seat in let x = c.find_superblock.new.seat in
-    let none : IsNoneOfClass c.args.class.number c.in-Empty.head v.view t.view = subst (λ from. FillsFrom c.args.class.number from v.view t.view) c.in-Empty.is c.in_ok-fill_from_class.ensures.done in
-    let first : Row (fill_costs 3 0 v.view t.view) v t = record { view = none.row; marks = c.fill_from_class.ensures.row.marks } in
+    let first = empty_class_row c.args.class.number c.in-Empty.head v t c.in_ok-fill_from_class.field-0 c.in-Empty.is c.in_ok-fill_from_class.ensures.done c.fill_from_class.ensures.row in
     refill_row c.args.class.number v x (record { draws = omega arith; wins = omega arith; gives = omega arith; cuts = omega arith; taken = omega arith; moves = omega arith }) (row_then v t x first c.find_superblock.ensures.row)
 
 pub returns-in_err-cut-in-Got-clause-row : goal.returns-in_err-cut-in-Got-clause-row
 returns-in_err-cut-in-Got-clause-row g c = let v = c.args.seat.now in let t = c.fill_from_class.new.seat in let x = c.find_superblock.new.seat in let w = c.cut.new.seat in
-    let none : IsNoneOfClass c.args.class.number c.in-Empty.head v.view t.view = subst (λ from. FillsFrom c.args.class.number from v.view t.view) c.in-Empty.is c.in_ok-fill_from_class.ensures.done in
-    let first : Row (fill_costs 3 0 v.view t.view) v t = record { view = none.row; marks = c.fill_from_class.ensures.row.marks } in
+    let first = empty_class_row c.args.class.number c.in-Empty.head v t c.in_ok-fill_from_class.field-0 c.in-Empty.is c.in_ok-fill_from_class.ensures.done c.fill_from_class.ensures.row in
     refill_row c.args.class.number v w (record { draws = omega arith; wins = omega arith; gives = omega arith; cuts = omega arith; taken = omega arith; moves = omega arith }) (row_then v x w (row_then v t x first c.find_superblock.ensures.row) c.cut.ensures.row)
 
 pub returns-in_ok-cut-in-Got-clause-row : goal.returns-in_ok-cut-in-Got-clause-row
 returns-in_ok-cut-in-Got-clause-row g c = let v = c.args.seat.now in let t = c.fill_from_class.new.seat in let x = c.find_superblock.new.seat in let w = c.cut.new.seat in
-    let none : IsNoneOfClass c.args.class.number c.in-Empty.head v.view t.view = subst (λ from. FillsFrom c.args.class.number from v.view t.view) c.in-Empty.is c.in_ok-fill_from_class.ensures.done in
-    let first : Row (fill_costs 3 0 v.view t.view) v t = record { view = none.row; marks = c.fill_from_class.ensures.row.marks } in
+    let first = empty_class_row c.args.class.number c.in-Empty.head v t c.in_ok-fill_from_class.field-0 c.in-Empty.is c.in_ok-fill_from_class.ensures.done c.fill_from_class.ensures.row in
     refill_row c.args.class.number v w (record { draws = omega arith; wins = omega arith; gives = omega arith; cuts = omega arith; taken = omega arith; moves = omega arith }) (row_then v x w (row_then v t x first c.find_superblock.ensures.row) c.cut.ensures.row)
 
 pub returns-in_ok-cut-in-Got-clause-done : goal.returns-in_ok-cut-in-Got-clause-done
@@ -38,14 +35,12 @@ returns-in-Nothing-clause-done g c = let v = c.args.seat.now.view in let t = c.f
 
 pub returns-in-Nothing-clause-light : goal.returns-in-Nothing-clause-light
 returns-in-Nothing-clause-light g c = let v = c.args.seat.now in let t = c.fill_from_class.new.seat in let w = c.find_superblock.new.seat in λ same.
-    let none : IsNoneOfClass c.args.class.number c.in-Empty.head v.view t.view = subst (λ from. FillsFrom c.args.class.number from v.view t.view) c.in-Empty.is c.in_ok-fill_from_class.ensures.done in
     let nothing : IsNothingFree c.in-Nothing.free_head c.in-Nothing.used t.view w.view = subst (λ found. Finds found t.view w.view) c.in-Nothing.is c.in_ok-d.ensures.done in
-    let first : Row (fill_costs 3 0 v.view t.view) v t = record { view = none.row; marks = c.fill_from_class.ensures.row.marks } in
+    let first = empty_class_row c.args.class.number c.in-Empty.head v t c.in_ok-fill_from_class.field-0 c.in-Empty.is c.in_ok-fill_from_class.ensures.done c.fill_from_class.ensures.row in
     let second : Row (record no_costs { draws = 6 }) t w = record { view = nothing.row; marks = c.find_superblock.ensures.row.marks } in
     row_within (fill_costs 9 2 v.view w.view) v w (record { draws = omega arith; wins = omega arith; gives = omega arith; cuts = omega arith; taken = omega arith; moves = omega arith }) (row_moves v w (row_then v t w first second))
 
 pub returns-in-Nothing-clause-row : goal.returns-in-Nothing-clause-row
 returns-in-Nothing-clause-row g c = let v = c.args.seat.now in let t = c.fill_from_class.new.seat in let w = c.find_superblock.new.seat in
-    let none : IsNoneOfClass c.args.class.number c.in-Empty.head v.view t.view = subst (λ from. FillsFrom c.args.class.number from v.view t.view) c.in-Empty.is c.in_ok-fill_from_class.ensures.done in
-    let first : Row (fill_costs 3 0 v.view t.view) v t = record { view = none.row; marks = c.fill_from_class.ensures.row.marks } in
+    let first = empty_class_row c.args.class.number c.in-Empty.head v t c.in_ok-fill_from_class.field-0 c.in-Empty.is c.in_ok-fill_from_class.ensures.done c.fill_from_class.ensures.row in
     refill_row c.args.class.number v w (record { draws = omega arith; wins = omega arith; gives = omega arith; cuts = omega arith; taken = omega arith; moves = omega arith }) (row_then v t w first c.find_superblock.ensures.row)

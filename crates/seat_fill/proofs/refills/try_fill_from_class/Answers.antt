@@ -1,12 +1,12 @@
-use Rattle.std.proofs.Common.{◌<◌, ◌-◌, true, false, subst, arith}
+use Rattle.std.proofs.Common.{subst, arith}
 use Rattle.std.proofs.lemmas.Result.{err_from_is_err_and}
-use Rattle.seat_lists.specs.Pops.{HasPopped, IsEmptyList, Pops}
+use Rattle.seat_lists.specs.Pops.{HasPopped, Pops}
 use Rattle.seat_lists.specs.Pushes.{HasPushed}
-use Rattle.seat_rows.specs.Costs.{no_costs, one_draw, one_move}
+use Rattle.seat_rows.specs.Costs.{no_costs, one_move}
 use Rattle.seat_rows.specs.Rows.{Row}
 use Rattle.seat_rows.proofs.RowLemmas.{row_moves, row_then, row_within, stops_later}
 use Rattle.seat_fill.specs.Takes.{HasTakenFree, IsAllFree, TakesFree}
-use Rattle.seat_fill.proofs.RefillLemmas.{free_lists, free_moves, moved_on, none_of_class, nothing_won, taken_fills}
+use Rattle.seat_fill.proofs.RefillLemmas.{empty_list_row, free_lists, free_moves, moved_on, none_of_class, taken_fills}
 use Rattle.seat_fill.proofs.refills.try_fill_from_class.Goals as goal
 
 pub returns-in_err-take_free_blocks-in-Got-clause-row : goal.returns-in_err-take_free_blocks-in-Got-clause-row
@@ -64,6 +64,6 @@ returns-in_ok-push-in-Got-clause-done g c = let v = c.args.seat.now in let t = c
 
 pub returns-in-Empty-clause-done : goal.returns-in-Empty-clause-done
 returns-in-Empty-clause-done g c = let v = c.args.seat.now in let w = c.pop.new.seat in
-    let empty : IsEmptyList c.args.class.number c.in-Empty.head v.view w.view = subst (λ pop. Pops c.args.class.number pop v.view w.view) c.in-Empty.is c.in_ok-pop.ensures.done in
-    let row : Row (record no_costs { draws = 3 }) v w = record { view = nothing_won v.view w.view empty.wins empty.taken c.pop.ensures.row.view; marks = c.pop.ensures.row.marks } in
-    none_of_class v.view w.view c.args.class.number c.in-Empty.head c.args.class.is c.has_a_sound_state.ensures (row_moves v w row).view empty
+    let row = empty_list_row c.args.class.number c.in-Empty.head v w c.in_ok-pop.pop c.in-Empty.is c.in_ok-pop.ensures.done c.pop.ensures.row in
+    none_of_class v.view w.view c.args.class.number c.in-Empty.head c.args.class.is c.has_a_sound_state.ensures (row_moves v w row).view
+    (subst (λ pop. Pops c.args.class.number pop v.view w.view) c.in-Empty.is c.in_ok-pop.ensures.done)
