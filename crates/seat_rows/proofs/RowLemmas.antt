@@ -4,7 +4,7 @@ use Rattle.line_memory.specs.Marks.{IsMarked, mark_at}
 use Rattle.core_model.specs.View.{LastLook, Setup, View, one_if_some}
 use Rattle.heap_rule.specs.Seated.{KeepsStores, SeatView}
 use Rattle.seat_rows.specs.Costs.{Costs, IsWithin, NoneFalls, RisesBy, no_costs, sum_of}
-use Rattle.seat_rows.specs.Rows.{HoldingRow, IsKeptOrMade, KeepsLooks, KeepsMarks, Passes, Row, StoringRow, Stops, ViewRow, head_look, next_of}
+use Rattle.seat_rows.specs.Rows.{HoldingRow, IsKeptOrMade, KeepsLooks, KeepsMarks, Passes, Row, RowBut, StoringRow, Stops, ViewRow, head_look, next_of}
 use Rattle.seat_rows.specs.Words.{IsDurableAt, IsHeldWord, KeepsWord}
 use Rattle.seat_rows.proofs.WordLemmas.{durable_then, still_held, word_same, word_then}
 
@@ -211,16 +211,33 @@ then_storing word u v w p q = record {
 pub holding_within : {a : Costs} (b : Costs) (v w : SeatView) → IsWithin a b → HoldingRow a v w → HoldingRow b v w
 holding_within b v w less p = record { passes = passes_within b v.view w.view less p.passes; words = p.words; marks = p.marks }
 
+-- rows that keep other words than the held ones add up where both keep these; a row that keeps some words keeps fewer
+pub but_then : {Kept : ℕ → Type 0} {a b : Costs} (u v w : SeatView) → RowBut Kept a u v → RowBut Kept b v w → RowBut Kept (sum_of a b) u w
+but_then u v w p q = record {
+  passes = passes_then u.view v.view w.view p.passes q.passes;
+  words = λ k kept. word_then u.view v.view w.view k (p.words k kept) (q.words k kept);
+  marks = λ k kept. marks_then u v w k (q.words k kept) (p.marks k kept) (q.marks k kept);
+}
+
+pub but_fewer : {Kept : ℕ → Type 0} (Fewer : ℕ → Type 0) {a : Costs} (b : Costs) (v w : SeatView) → ((k : ℕ) → Fewer k → Kept k) → IsWithin a b → RowBut Kept a v w → RowBut Fewer b v w
+but_fewer Fewer b v w fewer less p = record { passes = passes_within b v.view w.view less p.passes; words = λ k kept. p.words k (fewer k kept); marks = λ k kept. p.marks k (fewer k kept) }
+
+pub row_but : {a : Costs} (v w : SeatView) → Row a v w → RowBut (IsHeldWord v.view) a v w
+row_but v w p = record { passes = p.view.passes; words = p.view.words; marks = p.marks }
+
 -- some step, and none, are not one
 pub not_both : {o : Option ℕ} {step : ℕ} → o ≡ Some step → o ≡ None → {A : Type 0} → A
 not_both some none = absurd (let e = ap one_if_some (sym some ∙ none) in omega arith)
 
 -- a stop in a later view that goes on
-pub stops_later : {a : Costs} (v t w : View) (step : ℕ) → v.stopped ≡ None → t.stopped ≡ None → ViewRow a v t → Stops step t w → Stops step v w
-stops_later v t w step ran going row stop = record {
+pub stops_passed : {a : Costs} (v t w : View) (step : ℕ) → v.stopped ≡ None → t.stopped ≡ None → Passes a v t → Stops step t w → Stops step v w
+stops_passed v t w step ran going passes stop = record {
   at = stop.at;
-  budget = subst (λ (k : Setup). k.budget ≤ step) row.passes.setup stop.budget;
+  budget = subst (λ (k : Setup). k.budget ≤ step) passes.setup stop.budget;
   last = stop.last;
-  now = λ _. let x = row.passes.next in let y = stop.now going in omega arith;
+  now = λ _. let x = passes.next in let y = stop.now going in omega arith;
   before = λ ticket had. not_both had ran;
 }
+
+pub stops_later : {a : Costs} (v t w : View) (step : ℕ) → v.stopped ≡ None → t.stopped ≡ None → ViewRow a v t → Stops step t w → Stops step v w
+stops_later v t w step ran going row stop = stops_passed v t w step ran going row.passes stop
