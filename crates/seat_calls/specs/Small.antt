@@ -1,0 +1,68 @@
+-- What holding and freeing a block of a class leaves of a seat.
+use Rattle.std.specs.Prelude.{◌≡◌, ◌<◌, ◌≤◌, ◌⊎◌, ℕ, ◌+◌, ◌*◌, List, [], ◌∷◌, None, length, set}
+use Rattle.heap_model.specs.declared.block.Block.{Block}
+use Rattle.heap_model.specs.Blocks.{IsIn}
+use Rattle.heap_model.specs.Counting.{without}
+use Rattle.heap_model.specs.Sizes.{blocks_of, words_of_class}
+use Rattle.core_model.specs.Cells.{data_cell}
+use Rattle.core_model.specs.Effects.{first_of}
+use Rattle.core_model.specs.View.{View, of_class}
+use Rattle.heap_rule.specs.Shown.{Shows}
+use Rattle.seat_rows.specs.Costs.{Costs, no_costs}
+use Rattle.seat_rows.specs.Rows.{Parts, parts}
+use Rattle.seat_rows.specs.Words.{IsHeldWord}
+
+-- the block is held, and the cache of the class has these blocks
+abbrev pub with_allocated : ℕ → ℕ → List ℕ → Parts → Parts
+with_allocated class block cache p = record p { small = set p.small class (block ∷ of_class p.small class); caches = set p.caches class cache }
+
+-- the block is one of the class, and new; the cache has fewer blocks than a superblock
+pub record HasAllocated (class : ℕ) (b : Block) (v w : View) : Type 0 where
+  pub going : w.stopped ≡ None
+  pub size : b.words ≡ words_of_class class
+  pub cache : List ℕ
+  pub short : length cache < blocks_of class
+  pub parts_are : parts w ≡ with_allocated class b.first_word cache (parts v)
+
+-- the block of the class that begins at the word
+abbrev pub block_of : ℕ → ℕ → Block
+block_of class first = record { first_word = first; words = words_of_class class }
+
+-- the word is held, and none of the block's
+abbrev pub IsHeldOutside : View → Block → ℕ → Type 0
+IsHeldOutside v b word = IsHeldWord v word × (IsIn b word → ⊥)
+
+-- the block leads to the first one of the cache of the class
+pub record HasWay (block class : ℕ) (v w : View) : Type 0 where
+  pub ran : v.stopped ≡ None
+  pub going : w.stopped ≡ None
+  pub parts_are : parts w ≡ parts v
+  pub way : 1 ≤ length (of_class v.caches class) → Shows w (data_cell block) (first_of (of_class v.caches class))
+
+-- the block is held no more, and the cache of the class has these blocks
+abbrev pub with_freed : ℕ → ℕ → List ℕ → Parts → Parts
+with_freed class block cache p = record p { small = set p.small class (without block (of_class p.small class)); caches = set p.caches class cache }
+
+-- it is the first one of the cache
+pub record HasCached (block class : ℕ) (v w : View) : Type 0 where
+  pub ran : v.stopped ≡ None
+  pub going : w.stopped ≡ None
+  pub parts_are : parts w ≡ with_freed class block (block ∷ of_class v.caches class) (parts v)
+
+-- the cache is flushed once it has as many blocks as a superblock
+pub record HasFreed (block class : ℕ) (v w : View) : Type 0 where
+  pub going : w.stopped ≡ None
+  pub cache : List ℕ
+  pub kept : length (of_class v.caches class) + 1 < blocks_of class → cache ≡ block ∷ of_class v.caches class
+  pub flushed : blocks_of class ≤ length (of_class v.caches class) + 1 → cache ≡ []
+  pub short : length cache < blocks_of class
+  pub parts_are : parts w ≡ with_freed class block cache (parts v)
+
+-- the block may be held no more; all others are, as before
+pub record MayHaveFreed (block class : ℕ) (v w : View) : Type 0 where
+  pub large : w.large ≡ v.large
+  pub small : (w.small ≡ v.small) ⊎ (w.small ≡ set v.small class (without block (of_class v.small class)))
+
+-- two draws, and what flushing so many blocks costs
+abbrev pub free_costs : ℕ → Costs
+free_costs n = record no_costs { draws = 9 * n + 2; wins = 2 * n; gives = n; moves = n }

@@ -1,0 +1,6 @@
+//! The calls of a seat that give and take blocks.
+#![tactic(auto)]
+
+mod small;
+
+pub use small::free_small;

@@ -1,0 +1,136 @@
+//! Blocks of a class are held and freed: they come from the seat's cache of the class, and go back
+//! there.
+
+ghost use Rattle.std.specs.Prelude.{◌≡◌, ◌<◌, ◌≤◌, ◌+◌, None, length, IfOk, OnOk, OnErr, IfErr};
+ghost use Rattle.heap_model.specs.Counting.{times};
+ghost use Rattle.heap_model.specs.Sizes.{blocks_of};
+ghost use Rattle.core_model.specs.View.{of_class};
+ghost use Rattle.heap_rule.specs.Seated.{IsSeatOf};
+ghost use Rattle.seat_rows.specs.Costs.{no_costs, one_draw};
+ghost use Rattle.seat_rows.specs.Idle.{HasShortCaches, IsIdle};
+ghost use Rattle.seat_rows.specs.Rows.{HoldingRow, Row, RowBut, Stops, StoringRow};
+ghost use Rattle.seat_calls.specs.Small.{HasAllocated, HasCached, HasFreed, HasWay, IsHeldOutside, MayHaveFreed, block_of, free_costs};
+
+use core_model::Shift;
+use heap_rule::{Seat, Shared};
+use line_memory::{Chance, Stopped};
+use seat_flush::flush;
+use seat_rows::{draw, draw_with};
+use size_table::{SizeClass, blocks_of};
+use super_block::{Block, block_words};
+
+/// Holds the first block of the cache of a class, which it answers.
+pub(crate) fn alloc_cached<C: Chance>(
+    seat: &mut Seat,
+    shared: &Shared,
+    class: SizeClass,
+    chance: &mut C,
+) -> Result<Block, Stopped>
+    requires seat { IsSeatOf shared.now seat.old }
+    requires going { seat.old.view.stopped ≡ None }
+    requires cached { 1 ≤ length (of_class seat.old.view.caches class.number) }
+    requires most { length (of_class seat.old.view.caches class.number)
+        ≤ blocks_of class.number }
+    ensures allocated { IfOk result (λ block. HasAllocated class.number block
+        seat.old.view seat.new.view) }
+    ensures stopped { IfErr result (λ e. Stops e.step seat.old.view seat.new.view) }
+    ensures none { OnErr result (Row one_draw seat.old seat.new) }
+    ensures row { HoldingRow one_draw seat.old seat.new }
+    ensures seat { IsSeatOf shared.now seat.new }
+{
+    seat.has_a_sound_state();
+    let (first_word, _) = seat.cache(shared, class);
+    let shift = Shift::Alloc {
+        class: class.number as u64,
+    };
+    draw_with(seat, shared, Some(shift), chance)?;
+    Ok(Block {
+        first_word,
+        words: block_words(class),
+    })
+}
+
+/// The first word of a held block leads to the first block of the cache of its class, where there
+/// is one.
+fn lead_to_cache<C: Chance>(
+    seat: &mut Seat,
+    shared: &Shared,
+    block: u64,
+    class: SizeClass,
+    chance: &mut C,
+) -> Result<(), Stopped>
+    requires seat { IsSeatOf shared.now seat.old }
+    requires held { 0 < times block (of_class seat.old.view.small class.number) }
+    ensures way { OnOk result (HasWay block class.number seat.old.view seat.new.view) }
+    ensures stopped { IfErr result (λ e. Stops e.step seat.old.view seat.new.view) }
+    ensures row { StoringRow block one_draw seat.old seat.new }
+    ensures seat { IsSeatOf shared.now seat.new }
+{
+    seat.has_a_sound_state();
+    draw(seat, shared, chance)?;
+    let (first, count) = seat.cache(shared, class);
+    if count == 0 {
+        return Ok(());
+    }
+    seat.store_word(shared, block, first);
+    Ok(())
+}
+
+/// Puts a held block before the others of the cache of its class.
+fn free_cached<C: Chance>(
+    seat: &mut Seat,
+    shared: &Shared,
+    block: u64,
+    class: SizeClass,
+    chance: &mut C,
+) -> Result<(), Stopped>
+    requires seat { IsSeatOf shared.now seat.old }
+    requires held { 0 < times block (of_class seat.old.view.small class.number) }
+    ensures cached { OnOk result (HasCached block class.number seat.old.view seat.new.view) }
+    ensures may { MayHaveFreed block class.number seat.old.view seat.new.view }
+    ensures stopped { IfErr result (λ e. Stops e.step seat.old.view seat.new.view) }
+    ensures row { RowBut (IsHeldOutside seat.old.view (block_of class.number block))
+        (record no_costs { draws = 2 }) seat.old seat.new }
+    ensures seat { IsSeatOf shared.now seat.new }
+{
+    seat.has_a_sound_state();
+    lead_to_cache(seat, shared, block, class, chance)?;
+    draw_with(seat, shared, Some(Shift::Free { block }), chance)
+}
+
+/// Frees a held block of a class: it goes before the others of the cache of the class, which is
+/// flushed once it has as many blocks as a superblock.
+///
+/// Where the seat stops, the block may be held still, but its words may be others. No word outside
+/// it that is held is stored to.
+pub fn free_small<C: Chance>(
+    seat: &mut Seat,
+    shared: &Shared,
+    block: u64,
+    class: SizeClass,
+    chance: &mut C,
+) -> Result<(), Stopped>
+    requires seat { IsSeatOf shared.now seat.old }
+    requires held { 0 < times block (of_class seat.old.view.small class.number) }
+    requires going { seat.old.view.stopped ≡ None }
+    requires idle { IsIdle seat.old.view }
+    requires short { HasShortCaches seat.old.view }
+    ensures freed { OnOk result (HasFreed block class.number seat.old.view seat.new.view) }
+    ensures may { MayHaveFreed block class.number seat.old.view seat.new.view }
+    ensures stopped { IfErr result (λ e. Stops e.step seat.old.view seat.new.view) }
+    ensures light { length (of_class seat.old.view.caches class.number) + 1
+        < blocks_of class.number
+        → RowBut (IsHeldOutside seat.old.view (block_of class.number block))
+        (record no_costs { draws = 2 }) seat.old seat.new }
+    ensures row { RowBut (IsHeldOutside seat.old.view (block_of class.number block))
+        (free_costs (blocks_of class.number)) seat.old seat.new }
+    ensures seat { IsSeatOf shared.now seat.new }
+{
+    seat.has_a_sound_state();
+    free_cached(seat, shared, block, class, chance)?;
+    let (_, count) = seat.cache(shared, class);
+    if count < blocks_of(class.number) {
+        return Ok(());
+    }
+    flush(seat, shared, class, chance)
+}
