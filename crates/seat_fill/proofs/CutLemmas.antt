@@ -3,7 +3,7 @@ use Rattle.std.proofs.Common.{◌≡◌, ◌≢◌, ◌≤◌, ◌<◌, ℕ, zer
 use Rattle.std.specs.Bool.{⊤}
 use Rattle.std.specs.Prelude.{Result, Ok, Err, OnOk, IfErr}
 use Rattle.std.proofs.lemmas.Bool.{cases_lt}
-use Rattle.std.proofs.lemmas.List.{get_or-set_other, get_or-set_same}
+use Rattle.std.proofs.lemmas.List.{get_or-set_other}
 use Rattle.heap_model.specs.Counting.{times, without}
 use Rattle.heap_model.specs.Geometry.{start_word, superblocks_end, info_word, anchor_word}
 use Rattle.heap_model.specs.Sizes.{IsClass, words_of_class, blocks_of}
@@ -11,7 +11,7 @@ use Rattle.heap_model.specs.Words.{full_anchor}
 use Rattle.heap_model.proofs.BlockLemmas.{block_step}
 use Rattle.heap_model.proofs.SizeLemmas.{two_words}
 use Rattle.line_memory.specs.declared.memory.Stopped.{Stopped}
-use Rattle.core_model.specs.declared.event.Event.TheVariants.{Store, Settle, Tick}
+use Rattle.core_model.specs.declared.event.Event.TheVariants.{Store, Tick}
 use Rattle.core_model.specs.declared.event.Shift.TheVariants.{Cut}
 use Rattle.core_model.specs.Cells.{Cell, anchor_cell, data_cell, info_cell, cell_at, superblock_at}
 use Rattle.core_model.specs.Effects.{class_blocks, last_of, learn, steps, stored, used_up}
@@ -27,9 +27,10 @@ use Rattle.heap_rule.specs.Fences.{Owns}
 use Rattle.heap_rule.specs.Seated.{TellsDraw}
 use Rattle.heap_rule.specs.Shown.{Shows, ShowsLinks, by_claim, as_full, Can, CanCut, CanStore}
 use Rattle.heap_rule.proofs.LeftLemmas.{draw_cuts, draw_done}
-use Rattle.heap_rule.proofs.RawLemmas.{no_block, raw_blank, raw_inside, raw_once, settle_left, store_durable, store_shown, store_volatile, volatile_long, durable_long}
+use Rattle.heap_rule.proofs.RawLemmas.{no_block, raw_blank, raw_inside, raw_once, store_durable, store_shown, store_volatile}
 use Rattle.heap_rule.proofs.StoredLemmas.{of_none}
 use Rattle.heap_table.specs.Plays.{HasSoundState, IsEvent}
+use Rattle.large_block.specs.Infos.{HasInfo}
 use Rattle.seat_lists.proofs.PopLemmas.{drawn_as}
 use Rattle.seat_rows.specs.Costs.{Costs, no_costs, one_draw}
 use Rattle.seat_rows.specs.Draws.{Settles}
@@ -39,7 +40,7 @@ use Rattle.seat_rows.proofs.DrawLemmas.{early_rest, early_words, stops}
 use Rattle.seat_rows.proofs.OnceLemmas.{own_once}
 use Rattle.seat_rows.proofs.RowLemmas.{stops_later, view_row_none, view_row_then, view_row_within}
 use Rattle.seat_rows.proofs.WordLemmas.{durable_then, word_same, word_then}
-use Rattle.seat_fill.specs.Cuts.{HasCut, HasDurableInfo, HasFilledAnchor, HasLink, HasLinks, HasSetInfo, Leads, with_cut, with_making}
+use Rattle.seat_fill.specs.Cuts.{HasCut, HasDurableInfo, HasFilledAnchor, HasLink, HasLinks, Leads, with_cut, with_making}
 
 -- of another word than the one that is stored to, what was known is known
 other_kept : (v u w : View) (word value found k : ℕ) → HasDrawn v u → IsEvent (Store word value) u found w → k ≢ word → Owns v k → KeepsWord v w k
@@ -59,62 +60,6 @@ info_owned v d inside raw = subst (IsOwn v) (sym (cell_at_index v.setup.capacity
 
 pub raw_claimed : (v : View) (d : ℕ) → 0 < times d v.raw → 0 < times_raw d v
 raw_claimed v d claimed = omega (arith, claimed)
-
--- the info of a claimed superblock is set
-module _ (v : View) (has : HasSoundState v) (d : ℕ) (raw : 0 < times_raw d v) where
-  pub inside : d < v.setup.capacity
-  inside = raw_inside v has d raw
-
-  info_is : cell_at v.setup.capacity (info_word d) ≡ info_cell d
-  info_is = cell_at_index v.setup.capacity (info_cell d) (lt-ltb d v.setup.capacity inside)
-
-  drawn_info : (ticket info : ℕ) (u : View) → v.stopped ≡ None → Can (drawn_as v ticket u) (Store (info_word d) info)
-  drawn_info ticket info u going = record {
-    going = going;
-    ticket = refl;
-    shown = subst (λ (cell : Cell). IsOwn (drawn_as v ticket u) cell × CanStore (drawn_as v ticket u) cell info) (sym info_is) (raw, tt);
-  }
-
-  pub can_info : (u : View) (info : ℕ) → HasDrawn v u → Can u (Store (info_word d) info)
-  can_info u info drawn = subst (λ (x : View). Can x (Store (info_word d) info)) (sym drawn.left) (drawn_info drawn.ticket info u drawn.went)
-
-  module _ (u x : View) (info found : ℕ) (drawn : HasDrawn v u) (event : IsEvent (Store (info_word d) info) u found x) where
-    info_here : cell_at u.setup.capacity (info_word d) ≡ info_cell d
-    info_here = ap (λ (y : View). cell_at y.setup.capacity (info_word d)) drawn.left ∙ info_is
-
-    pub info_not_held : IsHeldWord u (info_word d) → ⊥
-    info_not_held held = let e = ap (times_held u) info_here in omega arith
-
-    info_stored : x ≡ record (used_up (drawn_as v drawn.ticket u)) { volatile = learn u.volatile (info_word d) info }
-    info_stored = event.after
-        ∙ ap (λ (cell : Cell). stored (record (used_up u) { volatile = learn u.volatile (info_word d) info }) cell info) info_here
-        ∙ ap (λ (y : View). record (used_up y) { volatile = learn u.volatile (info_word d) info }) drawn.left
-
-    same_cells : x.setup.capacity ≡ v.setup.capacity
-    same_cells = ap (λ (y : View). y.setup.capacity) info_stored
-
-    pub can_settle : Can x (Settle (info_word d))
-    can_settle = subst (λ (y : View). Can y (Settle (info_word d))) (sym info_stored) (record {
-      going = drawn.went;
-      ticket = tt;
-      shown = subst (λ (cell : Cell). IsOwn (record (used_up (drawn_as v drawn.ticket u)) { volatile = learn u.volatile (info_word d) info }) cell) (sym info_is) raw;
-    })
-
-    pub info_set : (w : View) (met : ℕ) → IsEvent (Settle (info_word d)) x met w → HasSetInfo d info v w
-    info_set w met settled = record {
-      ran = drawn.went;
-      going = ap (λ (y : View). y.stopped) left ∙ ap (λ (y : View). y.stopped) info_stored ∙ drawn.went;
-      parts_are = ap parts left ∙ ap parts info_stored;
-      info_is = record {
-        seen = ap (λ (y : View). get_or y.volatile (info_word d) None) left
-            ∙ get_or-set_same x.volatile (info_word d) (Some info) None (let long = volatile_long x settled.before in let i = inside in let c = same_cells in omega arith);
-        left = ap (λ (y : View). get_or y.durable (info_word d) None) left
-            ∙ get_or-set_same x.durable (info_word d) (Some info) None (let long = durable_long x settled.before in let i = inside in let c = same_cells in omega arith);
-      };
-    } where
-      left : w ≡ record x { volatile = learn x.volatile (info_word d) info; durable = learn x.durable (info_word d) info }
-      left = settle_left (info_word d) info x w met settled
-          (subst (λ (c : ℕ). Shows x (cell_at c (info_word d)) info) (ap (λ (y : View). y.setup.capacity) drawn.left ∙ sym same_cells) (store_shown (info_word d) info u x found event))
 
 -- a word of a claimed superblock leads to another
 module _ (v : View) (has : HasSoundState v) (word : ℕ) (from : start_word v.setup.capacity 0 ≤ word) (until : word < superblocks_end v.setup.capacity) (raw : 0 < times_raw (superblock_at v.setup.capacity word) v) where
@@ -242,10 +187,10 @@ module _ (v t : View) (has : HasSoundState v) (d class n : ℕ) (is : IsClass cl
 
   module _ (block : ℕ) (below : n < blocks_of class) (at_block : block ≡ start_word v.setup.capacity d + n * words_of_class class) where
     pub link_from : start_word t.setup.capacity 0 ≤ block
-    link_from = let f = block_from v.setup.capacity class d n is below (inside v has d raw) in let c = same_capacity in omega (arith, at_block)
+    link_from = let f = block_from v.setup.capacity class d n is below (raw_inside v has d raw) in let c = same_capacity in omega (arith, at_block)
 
     pub link_until : block < superblocks_end t.setup.capacity
-    link_until = let f = block_until v.setup.capacity class d n is below (inside v has d raw) in let c = same_capacity in omega (arith, at_block)
+    link_until = let f = block_until v.setup.capacity class d n is below (raw_inside v has d raw) in let c = same_capacity in omega (arith, at_block)
 
     pub link_raw : 0 < times_raw (superblock_at t.setup.capacity block) t
     link_raw = subst (λ e. 0 < times_raw e t) (sym (block_in v.setup.capacity class d n is below) ∙ ap (superblock_at v.setup.capacity) (sym at_block) ∙ ap (λ c. superblock_at c block) (sym same_capacity)) raw_still
@@ -261,13 +206,13 @@ module _ (v t : View) (has : HasSoundState v) (d class n : ℕ) (is : IsClass cl
       ran = linking.ran;
       going = linked.going;
       parts_are = linked.parts_are ∙ linking.parts_are;
-      info_is = info_kept t w d class (linked.words (info_word d) (λ same. let low = block_from v.setup.capacity class d n is below (inside v has d raw) in let i = inside v has d raw in omega (arith, same, at_block))
-          (info_owned t d (subst (λ c. d < c) (sym same_capacity) (inside v has d raw)) raw_still)) linking.info_is;
+      info_is = info_kept t w d class (linked.words (info_word d) (λ same. let low = block_from v.setup.capacity class d n is below (raw_inside v has d raw) in let i = raw_inside v has d raw in omega (arith, same, at_block))
+          (info_owned t d (subst (λ c. d < c) (sym same_capacity) (raw_inside v has d raw)) raw_still)) linking.info_is;
       links = leads_more t w (start_word v.setup.capacity d) (words_of_class class) n linking.links
           (λ j less. linked.words (start_word v.setup.capacity d + j * words_of_class class)
           (λ same. let step = block_step j n (words_of_class class) less in let two = two_words class is in omega (arith, same, step, at_block))
           (subst (λ c. Owns t (start_word c d + j * words_of_class class)) same_capacity
-          (block_owned t class d j is (subst (λ c. d < c) (sym same_capacity) (inside v has d raw)) raw_still (omega (arith, less, below)))))
+          (block_owned t class d j is (subst (λ c. d < c) (sym same_capacity) (raw_inside v has d raw)) raw_still (omega (arith, less, below)))))
           (subst (λ b. Shows w (data_cell (start_word v.setup.capacity d + n * words_of_class class)) b) link_next (subst (λ a. Shows w (data_cell a) (block + words_of_class class)) at_block linked.link));
       row = view_row_then v t w linking.row row;
     }
@@ -275,7 +220,7 @@ module _ (v t : View) (has : HasSoundState v) (d class n : ℕ) (is : IsClass cl
 -- the anchor of a claimed superblock becomes full
 module _ (v : View) (has : HasSoundState v) (d : ℕ) (raw : 0 < times d v.raw) where
   anchor_is : cell_at v.setup.capacity (anchor_word d) ≡ anchor_cell d
-  anchor_is = cell_at_index v.setup.capacity (anchor_cell d) (lt-ltb d v.setup.capacity (inside v has d (omega (arith, raw))))
+  anchor_is = cell_at_index v.setup.capacity (anchor_cell d) (lt-ltb d v.setup.capacity (raw_inside v has d (omega (arith, raw))))
 
   drawn_fills : (ticket : ℕ) (u : View) → v.stopped ≡ None → Can (drawn_as v ticket u) (Store (anchor_word d) full_anchor)
   drawn_fills ticket u going = record {
@@ -349,12 +294,12 @@ module _ (v : View) (has : HasSoundState v) (d class : ℕ) (is : IsClass class)
     capacity = ap (λ (p : Parts). p.setup.capacity) ready.parts_are
 
     below : d < z.setup.capacity
-    below = subst (λ c. d < c) (sym capacity) (inside v has d raw)
+    below = subst (λ c. d < c) (sym capacity) (raw_inside v has d raw)
 
     cutting : 0 < times_raw d z
     cutting = let m = making z ready in omega (arith, m)
 
-  module _ (t x y : View) (durable : d < v.floor) (set_is : HasSetInfo d class v t) (linked : HasLinks d class t x) (filled : HasFilledAnchor d x y) (floor : v.floor ≤ y.floor) where
+  module _ (t x y : View) (durable : d < v.floor) (set_is : HasInfo d class v t) (linked : HasLinks d class t x) (filled : HasFilledAnchor d x y) (floor : v.floor ≤ y.floor) where
     x_parts : parts x ≡ parts v
     x_parts = linked.parts_are ∙ set_is.parts_are
 
@@ -362,7 +307,7 @@ module _ (v : View) (has : HasSoundState v) (d class : ℕ) (is : IsClass class)
     x_capacity = ap (λ (p : Parts). p.setup.capacity) x_parts
 
     x_below : d < x.setup.capacity
-    x_below = subst (λ c. d < c) (sym x_capacity) (inside v has d raw)
+    x_below = subst (λ c. d < c) (sym x_capacity) (raw_inside v has d raw)
 
     x_raw : 0 < times_raw d x
     x_raw = subst (λ (p : Parts). 0 < times d p.raw + times d p.split + times d p.cutting) (sym x_parts) raw
@@ -374,7 +319,7 @@ module _ (v : View) (has : HasSoundState v) (d class : ℕ) (is : IsClass class)
       info_is = info_kept x y d class (filled.words (info_word d) (λ same. omega (arith, same)) (info_owned x d x_below x_raw)) linked.info_is;
       links = leads_kept x y (start_word v.setup.capacity d) (words_of_class class) (blocks_of class - 1)
           (λ j less. filled.words (start_word v.setup.capacity d + j * words_of_class class)
-          (λ same. let low = block_from v.setup.capacity class d j is (omega (arith, less)) (inside v has d raw) in let i = inside v has d raw in omega (arith, same, low, i))
+          (λ same. let low = block_from v.setup.capacity class d j is (omega (arith, less)) (raw_inside v has d raw) in let i = raw_inside v has d raw in omega (arith, same, low, i))
           (subst (λ c. Owns x (start_word c d + j * words_of_class class)) x_capacity (block_owned x class d j is x_below x_raw (omega (arith, less)))))
           (subst (λ (p : Parts). Leads x (start_word p.setup.capacity d) (words_of_class class) (blocks_of class - 1)) set_is.parts_are linked.links);
       floor = omega (arith, durable, floor);

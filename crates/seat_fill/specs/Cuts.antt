@@ -20,13 +20,6 @@ pub record HasDurableInfo (d info : ℕ) (v : View) : Type 0 where
 abbrev pub Leads : View → ℕ → ℕ → ℕ → Type 0
 Leads v from apart n = (j : ℕ) → j < n → Shows v (data_cell (from + j * apart)) (from + (j + 1) * apart)
 
--- the info is this number, durably
-pub record HasSetInfo (d info : ℕ) (v w : View) : Type 0 where
-  pub ran : v.stopped ≡ None
-  pub going : w.stopped ≡ None
-  pub parts_are : parts w ≡ parts v
-  pub info_is : HasDurableInfo d info w
-
 -- the word leads to the value; of all other own words what was known is known
 pub record HasLink (word value : ℕ) (v w : View) : Type 0 where
   pub going : w.stopped ≡ None

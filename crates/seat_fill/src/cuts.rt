@@ -9,40 +9,16 @@ ghost use Rattle.core_model.specs.View.{of_class, times_raw};
 ghost use Rattle.heap_rule.specs.Seated.{IsSeatOf};
 ghost use Rattle.seat_rows.specs.Costs.{no_costs, one_draw};
 ghost use Rattle.seat_rows.specs.Rows.{Row, Stops};
-ghost use Rattle.seat_fill.specs.Cuts.{HasCut, HasDurableInfo, HasFilledAnchor, HasLink, HasLinks, HasSetInfo};
+ghost use Rattle.seat_fill.specs.Cuts.{HasCut, HasDurableInfo, HasFilledAnchor, HasLink, HasLinks};
 
 use core_model::Shift;
 use crash_core::anchor_after_take_all;
 use heap_rule::{Seat, Shared};
+use large_block::set_info;
 use line_memory::{Chance, Stopped};
 use seat_rows::{draw, draw_with};
 use size_table::{SizeClass, blocks_of};
 use super_block::{Geometry, block_words};
-
-/// The info of a claimed superblock says what becomes of it, and durably: the class that its blocks
-/// are made for. It is settled and not fenced, so that what the caller has written back stays
-/// pending.
-fn set_info<C: Chance>(
-    seat: &mut Seat,
-    shared: &Shared,
-    d: u64,
-    info: u64,
-    chance: &mut C,
-) -> Result<(), Stopped>
-    requires seat { IsSeatOf shared.now seat.old }
-    requires claimed { 0 < times_raw d seat.old.view }
-    ensures set { OnOk result (HasSetInfo d info seat.old.view seat.new.view) }
-    ensures stopped { IfErr result (λ e. Stops e.step seat.old.view seat.new.view) }
-    ensures row { Row one_draw seat.old seat.new }
-    ensures seat { IsSeatOf shared.now seat.new }
-{
-    seat.has_a_sound_state();
-    let place = Geometry::new(seat.capacity(shared)).info(d);
-    draw(seat, shared, chance)?;
-    seat.store_word(shared, place, info);
-    seat.settle(shared, place);
-    Ok(())
-}
 
 /// The first word of a block of a claimed superblock leads to another.
 fn link_block<C: Chance>(

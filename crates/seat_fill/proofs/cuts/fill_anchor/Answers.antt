@@ -5,14 +5,15 @@ use Rattle.core_model.specs.declared.event.Event.TheVariants.{Store}
 use Rattle.heap_rule.specs.Seated.{HasNewStore}
 use Rattle.heap_rule.specs.Shown.{Can}
 use Rattle.heap_table.specs.Plays.{IsEvent}
+use Rattle.heap_rule.proofs.RawLemmas.{raw_inside}
 use Rattle.seat_rows.proofs.RowLemmas.{row_then}
 use Rattle.seat_rows.proofs.StoreLemmas.{row_of_store, store_row}
-use Rattle.seat_fill.proofs.CutLemmas.{anchor_filled, anchor_not_held, can_fill, inside, raw_claimed}
+use Rattle.seat_fill.proofs.CutLemmas.{anchor_filled, anchor_not_held, can_fill, raw_claimed}
 use Rattle.seat_fill.proofs.cuts.fill_anchor.Goals as goal
 
 pub anchor-anchor-requires : goal.anchor-anchor-requires
 anchor-anchor-requires g c = subst (λ n. c.args.d < n) (sym (c.new.ensures ∙ c.capacity.ensures))
-    (inside c.args.seat.now.view c.has_a_sound_state.ensures c.args.d (raw_claimed c.args.seat.now.view c.args.d c.requires.claimed))
+    (raw_inside c.args.seat.now.view c.has_a_sound_state.ensures c.args.d (raw_claimed c.args.seat.now.view c.args.d c.requires.claimed))
 
 pub store_word-requires-clause-can : goal.store_word-requires-clause-can
 store_word-requires-clause-can g c =

@@ -3,13 +3,14 @@ use Rattle.heap_model.specs.Geometry.{start_word, largest_capacity_fits}
 use Rattle.heap_model.specs.Sizes.{blocks_of, words_of_class}
 use Rattle.heap_model.proofs.SizeLemmas.{four_blocks}
 use Rattle.seat_rows.specs.Costs.{no_costs}
+use Rattle.heap_rule.proofs.RawLemmas.{raw_inside}
 use Rattle.seat_rows.proofs.RowLemmas.{marks_behind, view_row_within}
 use Rattle.seat_fill.specs.Cuts.{HasLink}
-use Rattle.seat_fill.proofs.CutLemmas.{Linking, inside, link_end, link_next, link_raw, link_until, linking_begins, linking_on, linking_row}
+use Rattle.seat_fill.proofs.CutLemmas.{Linking, link_end, link_next, link_raw, link_until, linking_begins, linking_on, linking_row}
 use Rattle.seat_fill.proofs.cuts.link_blocks.Goals as goal
 
 pub start-block-requires : goal.start-block-requires
-start-block-requires g c = subst (λ n. c.args.d < n) (sym (c.new.ensures ∙ c.capacity.ensures)) (inside c.args.seat.now.view c.has_a_sound_state.ensures c.args.d c.requires.claimed)
+start-block-requires g c = subst (λ n. c.args.d < n) (sym (c.new.ensures ∙ c.capacity.ensures)) (raw_inside c.args.seat.now.view c.has_a_sound_state.ensures c.args.d c.requires.claimed)
 
 pub loop-i-init : goal.loop-i-init
 loop-i-init g c = record {
@@ -25,7 +26,7 @@ overflow_add-block g c =
     let v = c.args.seat.now.view in
     let below : c.loop-i._i - 1 < blocks_of c.args.class.number = omega arith in
     let end = link_end v c.loop-i.seat.view c.has_a_sound_state.ensures c.args.d c.args.class.number (c.loop-i._i - 1) c.args.class.is c.requires.claimed c.loop-i.invariant.linking c.loop-i.block below c.loop-i.invariant.place in
-    let less = inside v c.has_a_sound_state.ensures c.args.d c.requires.claimed in let s = c.block_words-words.ensures.words in
+    let less = raw_inside v c.has_a_sound_state.ensures c.args.d c.requires.claimed in let s = c.block_words-words.ensures.words in
     let a = c.new.ensures in let b = c.capacity.ensures in let small = c.new.result.small in let fits = largest_capacity_fits in omega arith
 
 pub link_block-requires-clause-until : goal.link_block-requires-clause-until
@@ -47,7 +48,7 @@ overflow_add-block-in-loop-i g c =
     let v = c.args.seat.now.view in
     let below : c.loop-i._i - 1 < blocks_of c.args.class.number = omega arith in
     let end = link_end v c.loop-i.seat.view c.has_a_sound_state.ensures c.args.d c.args.class.number (c.loop-i._i - 1) c.args.class.is c.requires.claimed c.loop-i.invariant.linking c.loop-i.block below c.loop-i.invariant.place in
-    let less = inside v c.has_a_sound_state.ensures c.args.d c.requires.claimed in let s = c.block_words-words.ensures.words in
+    let less = raw_inside v c.has_a_sound_state.ensures c.args.d c.requires.claimed in let s = c.block_words-words.ensures.words in
     let a = c.new.ensures in let b = c.capacity.ensures in let small = c.new.result.small in let fits = largest_capacity_fits in omega arith
 
 pub loop-i-preserved : goal.loop-i-preserved
