@@ -1,8 +1,8 @@
 -- Marks of the numbers of a list, and stakes of a range, as they are given one after the other.
-use Rattle.std.proofs.Common.{◌≡◌, ◌≢◌, ℕ, zero, suc, ◌+◌, ◌<◌, inl, inr, Bool, false, List, [], ◌∷◌, get_or, set, take, length, refl, ap, sym, subst, ◌∙◌, length-set, add-one, arith}
+use Rattle.std.proofs.Common.{◌≡◌, ◌≢◌, ℕ, zero, suc, ◌+◌, ◌<◌, inl, inr, Bool, true, false, ◌/◌, List, [], ◌∷◌, get_or, set, take, length, refl, ap, sym, subst, ◌∙◌, length-set, add-one, arith}
 use Rattle.std.proofs.lemmas.Bool.{cases_eq}
 use Rattle.std.proofs.lemmas.List.{get_or-set_same, get_or-set_other}
-use Rattle.heap_model.specs.Counting.{times}
+use Rattle.heap_model.specs.Counting.{times, one_if}
 use Rattle.core_model.proofs.TotalLemmas.{eq-eqb-one, ne-eqb-none}
 use Rattle.heap_rule.specs.declared.owned.Stake.{Stake}
 use Rattle.heap_rule.specs.declared.owned.Stake.TheVariants as stake
@@ -44,3 +44,17 @@ staking_step old new from n d x s at inside = record {
   ];
   outside = λ e out. get_or-set_other new d e x stake.Nothing (λ here. out (omega (arith, here)) (omega (arith, here))) ∙ s.outside e (λ low high. out low (omega arith));
 }
+
+-- only words that have a mark are marked
+mark_below : (marks : List Bool) (k : ℕ) → get_or marks k false ≡ true → k < length marks
+mark_below [] k marked = let e = ap one_if marked in absurd (omega arith)
+mark_below (m ∷ marks) zero marked = omega arith
+mark_below (m ∷ marks) (suc k) marked = let rest = mark_below marks k marked in omega arith
+
+-- a line that is marked leaves the marks that there were
+pub line_kept : (old new : List Bool) (line : ℕ) → ((k : ℕ) → k < length old → k / 8 ≡ line → get_or new k false ≡ true)
+    → ((k : ℕ) → k / 8 ≢ line → get_or new k false ≡ get_or old k false) → (k : ℕ) → get_or old k false ≡ true → get_or new k false ≡ true
+line_kept old new line inside others k marked = elim (cases_eq (k / 8) line) as (λ _. get_or new k false ≡ true) [
+  | inl same ↦ inside k (mark_below old k marked) same
+  | inr other ↦ others k other ∙ marked
+]

@@ -12,12 +12,13 @@ use Rattle.heap_table.specs.Plays.{IsEvent}
 use Rattle.heap_rule.specs.Seated.{SeatView, KeepsStores}
 use Rattle.heap_rule.specs.Shown.{Shows, ShowsDurable}
 
--- the words of the word's line are marked, and no other mark has changed
+-- the words of the word's line are marked beside those that were, and no other mark has changed
 pub record IsLineMarked (word : ℕ) (v w : SeatView) : Type 0 where
   pub view : w.view ≡ v.view
   pub stores : w.stores ≡ v.stores
   pub in_line : (k : ℕ) → k < image_words v.view.setup.capacity → k / 8 ≡ word / 8 → IsMarked w.marks k
   pub others : (k : ℕ) → k / 8 ≢ word / 8 → mark_at w.marks k ≡ mark_at v.marks k
+  pub kept : (k : ℕ) → IsMarked v.marks k → IsMarked w.marks k
 
 -- the word is own to the seat
 abbrev pub Owns : View → ℕ → Type 0

@@ -15,7 +15,7 @@ use Rattle.heap_rule.proofs.TicketLemmas.{rises}
 use Rattle.heap_rule.proofs.ToldLemmas.{drawn_told, stop_told}
 use Rattle.seat_rows.specs.Draws.{Settles}
 use Rattle.seat_rows.specs.Costs.{one_draw}
-use Rattle.seat_rows.specs.Rows.{HasDrawn, Stops, ViewRow, next_of}
+use Rattle.seat_rows.specs.Rows.{HasDrawn, SameLooks, Stops, ViewRow, next_of}
 use Rattle.seat_rows.specs.Words.{KeepsWord}
 use Rattle.seat_rows.proofs.AlikeLemmas.{drew_row, holding, row_as, row_words}
 use Rattle.seat_rows.proofs.RowLemmas.{not_both, view_row_none, view_row_within}
@@ -102,6 +102,13 @@ module _ (v early : View) (settles : Settles v early) where
       by_stop None going = row_of_drawn going
       by_stop (Some step) stop = row_of_stop None w found event step went stop
 
+    pub looks_of_draw : v.stopped ≡ None → SameLooks v w
+    looks_of_draw went = by_stop w.stopped refl where
+      by_stop : (o : Option ℕ) → w.stopped ≡ o → SameLooks v w
+      by_stop None going = record { used = ap (λ (u : View). u.used_look) (drawn_is going); heads = ap (λ (u : View). u.head_looks) (drawn_is going) }
+      by_stop (Some step) stop = let is = stop_is None w found event step went stop in
+          record { used = ap (λ (u : View). u.used_look) is; heads = ap (λ (u : View). u.head_looks) is }
+
 -- the clauses of a draw, by what the seat was
 module _ (v w : View) (event : v.stopped ≡ None → (early : View) × Settles v early × (found : ℕ) × IsEvent (Tick None) early found w) (idle : (step : ℕ) → v.stopped ≡ Some step → w ≡ v) where
   was_going : w.stopped ≡ None → v.stopped ≡ None
@@ -138,3 +145,9 @@ module _ (v w : View) (event : v.stopped ≡ None → (early : View) × Settles 
     by_stop : (o : Option ℕ) → v.stopped ≡ o → ViewRow one_draw v w
     by_stop None went = let e = event went in row_of_draw v e.0 e.1 w e.2 e.3 went
     by_stop (Some before) had = subst (ViewRow one_draw v) (sym (idle before had)) (view_row_within one_draw v v (record { draws = omega arith; wins = omega arith; gives = omega arith; cuts = omega arith; taken = omega arith; moves = omega arith }) (view_row_none v))
+
+  pub told_looks : SameLooks v w
+  told_looks = by_stop v.stopped refl where
+    by_stop : (o : Option ℕ) → v.stopped ≡ o → SameLooks v w
+    by_stop None went = let e = event went in looks_of_draw v e.0 e.1 w e.2 e.3 went
+    by_stop (Some before) had = subst (SameLooks v) (sym (idle before had)) (record { used = refl; heads = refl })

@@ -97,7 +97,7 @@ two same = let e = ap one_if same in omega arith
 
 -- a fence
 module _ (v w : SeatView) (fence : IsSeatFence v w) where
-  fenced : (k : ℕ) → Owns v.view k → IsMarked v.marks k → IsDurableAt w.view k
+  pub fenced : (k : ℕ) → Owns v.view k → IsMarked v.marks k → IsDurableAt w.view k
   fenced k own marked = let d = fence.durable k marked own in record {
     value = d.value;
     seen = sym (at_cell v.view k own w.view.volatile) ∙ there w.view.volatile d.volatile;

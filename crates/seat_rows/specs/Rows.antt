@@ -33,6 +33,11 @@ pub record KeepsLooks (v w : View) : Type 0 where
   pub heads : (list : ℕ) → IsKeptOrMade v w (head_look v list) (head_look w list)
   pub no_less : v.used_look.word + w.used_look.taken ≤ w.used_look.word + v.used_look.taken
 
+-- the last looks stay
+pub record SameLooks (v w : View) : Type 0 where
+  pub used : w.used_look ≡ v.used_look
+  pub heads : w.head_looks ≡ v.head_looks
+
 -- what any row of steps leaves, whatever it answers, and what it costs
 pub record Passes (costs : Costs) (v w : View) : Type 0 where
   pub setup : w.setup ≡ v.setup

@@ -9,7 +9,7 @@ ghost use Rattle.heap_rule.specs.Seated.{KeepsStores, TellsDraw};
 ghost use Rattle.heap_rule.specs.Shown.{Can};
 ghost use Rattle.seat_rows.specs.Draws.{Settles};
 ghost use Rattle.seat_rows.specs.Costs.{one_draw};
-ghost use Rattle.seat_rows.specs.Rows.{HasDrawn, Row, Stops};
+ghost use Rattle.seat_rows.specs.Rows.{HasDrawn, Row, SameLooks, Stops};
 
 use core_model::Shift;
 use heap_rule::{Seat, Shared};
@@ -41,6 +41,7 @@ pub fn draw<C: Chance>(seat: &mut Seat, shared: &Shared, chance: &mut C) -> Resu
     ensures drawn { OnOk result (HasDrawn seat.old.view seat.new.view) }
     ensures stopped { IfErr result (λ e. Stops e.step seat.old.view seat.new.view) }
     ensures row { Row one_draw seat.old seat.new }
+    ensures looks { SameLooks seat.old.view seat.new.view }
     ensures stores { KeepsStores seat.old seat.new }
     ensures seat { IsSeatOf shared.now seat.new }
 {

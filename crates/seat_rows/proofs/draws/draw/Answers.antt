@@ -1,6 +1,6 @@
 use Rattle.heap_rule.specs.Seated.{SeatView}
 use Rattle.std.proofs.Common.{ap}
-use Rattle.seat_rows.proofs.DrawLemmas.{told_drawn, told_row, told_stopped}
+use Rattle.seat_rows.proofs.DrawLemmas.{told_drawn, told_looks, told_row, told_stopped}
 use Rattle.seat_rows.proofs.RowLemmas.{row_of}
 use Rattle.seat_rows.proofs.draws.draw.Goals as goal
 
@@ -15,3 +15,7 @@ returns-clause-stopped g c =
 pub returns-clause-row : goal.returns-clause-row
 returns-clause-row g c = row_of c.args.seat.now c.draw_with.new.seat c.draw_with.ensures.stores
     (told_row c.args.seat.now.view c.draw_with.new.seat.view c.draw_with.ensures.event (λ step stop. ap (λ (x : SeatView). x.view) (c.draw_with.ensures.had_stopped step stop)))
+
+pub returns-clause-looks : goal.returns-clause-looks
+returns-clause-looks g c =
+    told_looks c.args.seat.now.view c.draw_with.new.seat.view c.draw_with.ensures.event (λ step stop. ap (λ (x : SeatView). x.view) (c.draw_with.ensures.had_stopped step stop))

@@ -1,7 +1,8 @@
-use Rattle.std.proofs.Common.{refl, subst, arith}
+use Rattle.std.proofs.Common.{◌/◌, refl, subst, arith}
 use Rattle.heap_rule.specs.Fences.{IsLineMarked}
 use Rattle.heap_table.specs.SeatViews.{view_in}
 use Rattle.heap_rule.specs.Seated.{SeatView}
+use Rattle.heap_rule.proofs.MarkLemmas.{line_kept}
 use Rattle.heap_rule.proofs.seat.Seat.write_back.Goals as goal
 
 pub returns-clause-marked : goal.returns-clause-marked
@@ -10,4 +11,5 @@ returns-clause-marked c = subst (λ (s : SeatView). IsLineMarked c.args.word s (
   stores = refl;
   in_line = λ k less same. c.mark_line.ensures.in_line k (let l = c.self.invariant.marks_long in let e = c.self.invariant.seat.capacity_is in omega arith) same;
   others = c.mark_line.ensures.others;
+  kept = line_kept c.self.inside.pending c.mark_line.new.self (c.args.word / 8) c.mark_line.ensures.in_line c.mark_line.ensures.others;
 })

@@ -1,0 +1,11 @@
+use Rattle.seat_rows.proofs.RowLemmas.{row_then}
+use Rattle.seat_rows.proofs.StoreLemmas.{fence_row}
+use Rattle.seat_words.proofs.OwnLemmas.{has_fenced}
+use Rattle.seat_words.proofs.words.fence.Goals as goal
+
+pub returns-clause-fenced : goal.returns-clause-fenced
+returns-clause-fenced g c =
+    has_fenced c.args.seat.now c.draw.new.seat c.fence.new.self c.in_ok-draw.ensures.drawn c.draw.ensures.stores.marks c.fence.ensures.fence
+
+pub returns-clause-row : goal.returns-clause-row
+returns-clause-row g c = row_then c.args.seat.now c.draw.new.seat c.fence.new.self c.draw.ensures.row (fence_row c.draw.new.seat c.fence.new.self c.fence.ensures.fence)

@@ -1,0 +1,12 @@
+use Rattle.seat_rows.proofs.RowLemmas.{row_of, row_then}
+use Rattle.seat_rows.proofs.StoreLemmas.{load_row}
+use Rattle.seat_words.proofs.OwnLemmas.{loaded}
+use Rattle.seat_words.proofs.words.load.Goals as goal
+
+pub returns-clause-loaded : goal.returns-clause-loaded
+returns-clause-loaded g c =
+    loaded c.args.seat.now.view c.draw.new.seat.view c.args.word c.in_ok-draw.ensures.drawn c.requires.own c.load_word.new.self.view c.load_word.result c.load_word.ensures.event
+
+pub returns-clause-row : goal.returns-clause-row
+returns-clause-row g c = row_then c.args.seat.now c.draw.new.seat c.load_word.new.self c.draw.ensures.row
+    (row_of c.draw.new.seat c.load_word.new.self c.load_word.ensures.stores (load_row c.args.word c.draw.new.seat.view c.load_word.new.self.view c.load_word.result c.load_word.ensures.event))

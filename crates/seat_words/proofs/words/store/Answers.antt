@@ -1,0 +1,25 @@
+use Rattle.seat_rows.proofs.RowLemmas.{then_storing}
+use Rattle.seat_rows.proofs.StoreLemmas.{storing_row}
+use Rattle.seat_words.proofs.OwnLemmas.{can_store, has_stored, store_crash, store_looks}
+use Rattle.seat_words.proofs.words.store.Goals as goal
+
+pub store_word-requires-clause-can : goal.store_word-requires-clause-can
+store_word-requires-clause-can g c =
+    can_store c.args.seat.now.view c.draw.new.seat.view c.has_a_sound_state.ensures c.args.word c.args.value c.in_ok-draw.ensures.drawn c.requires.held c.requires.no_batch
+
+pub returns-clause-stored : goal.returns-clause-stored
+returns-clause-stored g c = let e = c.store_word.ensures.event in
+    has_stored c.args.seat.now.view c.draw.new.seat.view c.has_a_sound_state.ensures c.args.word c.args.value c.in_ok-draw.ensures.drawn c.requires.held c.requires.no_batch c.store_word.new.self.view e.0 e.1
+
+pub returns-clause-row : goal.returns-clause-row
+returns-clause-row g c = let e = c.store_word.ensures.event in
+    then_storing c.args.word c.args.seat.now c.draw.new.seat c.store_word.new.self c.draw.ensures.row
+    (storing_row c.args.word c.args.value c.draw.new.seat c.store_word.new.self e.0 e.1 c.store_word.ensures.stores)
+
+pub returns-clause-crash : goal.returns-clause-crash
+returns-clause-crash g c = let e = c.store_word.ensures.event in
+    store_crash c.args.seat.now.view c.draw.new.seat.view c.has_a_sound_state.ensures c.args.word c.args.value c.in_ok-draw.ensures.drawn c.requires.held c.requires.no_batch c.store_word.new.self.view e.0 e.1
+
+pub returns-clause-looks : goal.returns-clause-looks
+returns-clause-looks g c = let e = c.store_word.ensures.event in
+    store_looks c.args.seat.now.view c.draw.new.seat.view c.has_a_sound_state.ensures c.args.word c.args.value c.in_ok-draw.ensures.drawn c.requires.held c.requires.no_batch c.store_word.new.self.view e.0 e.1 c.draw.ensures.looks
