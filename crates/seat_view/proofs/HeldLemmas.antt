@@ -42,7 +42,7 @@ use Rattle.seat_rows.proofs.WordLemmas.{at_cell, owns_held}
 use Rattle.seat_view.specs.CacheState.{CacheState, blocks_of_words, small_blocks, large_blocks, held_blocks, heap_view, opened_kinds, IsStateOf}
 
 -- a fact that can be decided, and that does not fail
-decided : {A B : Type 0} → A ⊎ (A → ⊥) → (B → A) → ∥ B ∥₁ → A
+pub decided : {A B : Type 0} → A ⊎ (A → ⊥) → (B → A) → ∥ B ∥₁ → A
 decided (inl is) gives lasts = is
 decided (inr not) gives lasts = absurd (∥∥₁_elim lasts (λ a b. absurd a) (λ b. not (gives b)))
 
@@ -67,7 +67,7 @@ is_placed b = elim (both (at_most fixed_words b.first_word)
       | inr not ↦ inr (λ placed. not (placed.behind, (placed.some, placed.short)))
     ]
 
-contains_cons : {X : Type 0} (x z : X) (xs : List X) (k : ℕ) → k < length (x ∷ xs) → get_or (x ∷ xs) k z ≡ z → (x ≡ z) ⊎ Contains xs z
+pub contains_cons : {X : Type 0} (x z : X) (xs : List X) (k : ℕ) → k < length (x ∷ xs) → get_or (x ∷ xs) k z ≡ z → (x ≡ z) ⊎ Contains xs z
 contains_cons x z xs zero l e = inl e
 contains_cons x z xs (suc k) l e = inr (k, omega arith, e)
 
@@ -83,12 +83,12 @@ words_there words (x ∷ bs) b c = elim (contains_cons (record { first_word = x;
 ]
 
 -- the class of a small one
-record IsSmall (class : ℕ) (lists : List (List ℕ)) (b : Block) : Type 0 where
-  n : ℕ
-  there : 0 < times b.first_word (get_or lists n [])
-  words : b.words ≡ words_of_class (class + n)
+pub record IsSmall (class : ℕ) (lists : List (List ℕ)) (b : Block) : Type 0 where
+  pub n : ℕ
+  pub there : 0 < times b.first_word (get_or lists n [])
+  pub words : b.words ≡ words_of_class (class + n)
 
-small_there : (class : ℕ) (lists : List (List ℕ)) (b : Block) → Contains (small_blocks class lists) b → IsSmall class lists b
+pub small_there : (class : ℕ) (lists : List (List ℕ)) (b : Block) → Contains (small_blocks class lists) b → IsSmall class lists b
 small_there class [] b c = absurd (let l = c.1 in omega arith)
 small_there class (bs ∷ lists) b c = elim (Contains-append_cases (blocks_of_words (words_of_class class) bs) (small_blocks (class + 1) lists) b c) [
   | inl here ↦ let h = words_there (words_of_class class) bs b here in record { n = 0; there = h.0; words = h.1 ∙ ap words_of_class (let e : class ≡ class + 0 = omega arith in e) }
@@ -170,7 +170,7 @@ module _ (v : View) (s : HasSoundState v) where
   root_below i c = (s.sound.good.set_up s.seat v s.below s.at).roots i (contains_times v.roots i c)
 
   -- the words of held blocks are so for the core
-  block_word : (b : Block) → IsHeld v b → (word : ℕ) → IsIn b word → 0 < times_held v (data_cell word)
+  pub block_word : (b : Block) → IsHeld v b → (word : ℕ) → IsIn b word → 0 < times_held v (data_cell word)
   block_word b (a_small class first there) word within = let from = within.from in let until = within.until in
       let own = in_classes_word word first 0 class v.small from (let e = ap words_of_class (let p : class ≡ 0 + class = omega arith in p) in omega arith) there in omega arith
   block_word b (a_large d n some count) word within = let from = within.from in let until = within.until in

@@ -1,7 +1,9 @@
-//! What follows for a heap's seat that is one of the core, as a function with nothing to run.
+//! What follows for a heap's seat that is one of the core, as functions with nothing to run.
 
 ghost use Rattle.std.specs.Prelude.{◌≡◌, ℕ, Bool};
+ghost use Rattle.heap_model.specs.declared.block.Block.{Block};
 ghost use Rattle.heap_model.specs.Image.{Image};
+ghost use Rattle.heap_seat.specs.Alloc.{Adds};
 ghost use Rattle.heap_seat.specs.Sound.{IsSeat};
 ghost use Rattle.heap_seat.specs.Words.{HasPicked, IsOwn, KeepsOwn, KeepsPending, MixesOwn, NamesAll, StoresKinds};
 ghost use Rattle.heap_rule.specs.Left.{MayBeLeft};
@@ -9,6 +11,7 @@ ghost use Rattle.heap_rule.specs.Seated.{SeatView};
 ghost use Rattle.seat_rows.specs.Costs.{Costs};
 ghost use Rattle.seat_rows.specs.Rows.{Passes, Row};
 ghost use Rattle.seat_view.specs.CacheState.{CacheState, IsStateOf, heap_view};
+ghost use Rattle.seat_view.specs.Changes.{GivesBlock, GivesSpan, HoldsBlock, HoldsSpan, Loses};
 
 /// A heap's seat that is one of the core keeps the laws of such seats, whatever is left of it: a
 /// mixture of volatile and durable words, or what a crash leaves, or a close, has the kinds of the
@@ -31,4 +34,17 @@ pub fn a_seat_of_the_core_is_a_seat_of_a_heap()
     ensures pending { (costs : Costs) (s t : CacheState) (v w : SeatView) → IsStateOf s v
         → IsStateOf t w → Row costs v w → (word : ℕ) → IsOwn (heap_view s).held s.view.roots word
         → KeepsPending (heap_view s) (heap_view t) word }
+{}
+
+/// A block that a seat of the core holds besides comes to those of the seat of the heap, and is
+/// new there; one that it holds no more goes, and all others stay.
+pub fn blocks_come_and_go()
+    ensures holds { (class : ℕ) (b : Block) (s t : CacheState)
+        → HoldsBlock class b s.view t.view → Adds b (heap_view s) (heap_view t) }
+    ensures holds_span { (d n : ℕ) (b : Block) (s t : CacheState)
+        → HoldsSpan d n b s.view t.view → Adds b (heap_view s) (heap_view t) }
+    ensures gives { (class : ℕ) (b : Block) (s t : CacheState)
+        → GivesBlock class b s.view t.view → Loses b (heap_view s) (heap_view t) }
+    ensures gives_span { (d : ℕ) (b : Block) (s t : CacheState)
+        → GivesSpan d b s.view t.view → Loses b (heap_view s) (heap_view t) }
 {}

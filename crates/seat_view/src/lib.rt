@@ -3,4 +3,4 @@
 
 mod laws;
 
-pub use laws::a_seat_of_the_core_is_a_seat_of_a_heap;
+pub use laws::{a_seat_of_the_core_is_a_seat_of_a_heap, blocks_come_and_go};
