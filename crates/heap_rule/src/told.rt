@@ -1,6 +1,6 @@
 //! What a seat tells of itself: no events, which draw and change nothing.
 
-ghost use Rattle.std.specs.Prelude.{◌≡◌, length, None};
+ghost use Rattle.std.specs.Prelude.{◌≡◌, ◌<◌, ◌^◌, length, None};
 ghost use Rattle.core_model.specs.Effects.{first_of};
 ghost use Rattle.core_model.specs.View.{of_class};
 ghost use Rattle.heap_table.specs.Plays.{HasSoundState};
@@ -14,6 +14,13 @@ impl Seat {
     /// There is a sound state in which the seat has its view.
     pub fn has_a_sound_state(&self)
         ensures { HasSoundState self.now.view }
+    {
+        let _opened = self.geometry;
+    }
+
+    /// The budget is below 2^40, so counts of tickets fit a `u64`.
+    pub fn has_a_low_budget(&self)
+        ensures { self.now.view.setup.budget < 2 ^ 40 }
     {
         let _opened = self.geometry;
     }

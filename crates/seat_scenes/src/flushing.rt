@@ -5,7 +5,7 @@ ghost use Rattle.std.specs.Prelude.{◌<◌};
 ghost use Rattle.seat_scenes.specs.Fresh.{IsFresh};
 
 use crate::fixtures::{LATE, MANY, pair};
-use cache_seat::CacheSeat;
+use thread_cache::CacheSeat;
 use free_list::{Pop, pop};
 use heap_rule::{Seat, Shared};
 use heap_rule_tests::{NotDone, fill_cache};

@@ -61,7 +61,7 @@ module _ (all : List (List ℕ)) (class : ℕ) (bs : List ℕ) (below : class < 
 abbrev held_in : List (List ℕ) → ℕ → List Span → List Block
 held_in small capacity large = small_blocks 0 small ++ large_blocks capacity large
 
-held_same : (w : View) (k : Setup) (small : List (List ℕ)) (large : List Span) → w.setup ≡ k → w.small ≡ small → w.large ≡ large → held_blocks w ≡ held_in small k.capacity large
+pub held_same : (w : View) (k : Setup) (small : List (List ℕ)) (large : List Span) → w.setup ≡ k → w.small ≡ small → w.large ≡ large → held_blocks w ≡ held_in small k.capacity large
 held_same w k small large setup smalls larges = ap (λ (x : Setup). held_in w.small x.capacity w.large) setup
     ∙ ap (λ l. held_in l k.capacity w.large) smalls ∙ ap (λ l. held_in small k.capacity l) larges
 

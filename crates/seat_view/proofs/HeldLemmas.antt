@@ -16,7 +16,7 @@ use Rattle.heap_model.proofs.ImageLemmas.{get_or-words_from}
 use Rattle.heap_model.proofs.PartLemmas.{same_fields}
 use Rattle.heap_seat.specs.View.{View as HeapView}
 use Rattle.heap_seat.specs.Sound.{IsSeat, IsPlaced}
-use Rattle.heap_seat.specs.Words.{IsOwn as IsOwnWord, in_block, in_root, HasPicked, KeepsOwn, KeepsPending, MayBe, MayRead, MixesOwn, NamesAll, StoresKinds}
+use Rattle.heap_seat.specs.Words.{IsOwn as IsOwnWord, in_block, in_root, HasPicked, KeepsOwn, KeepsPending, KeepsWord, MayBe, MayRead, MixesOwn, NamesAll, StoresKinds}
 use Rattle.heap_model.specs.Header.{capacity_of}
 use Rattle.core_model.specs.Cells.{Cell, cell_at, data_cell, root_cell, superblock_at}
 use Rattle.core_model.specs.Effects.{span_count}
@@ -37,9 +37,9 @@ use Rattle.line_memory.specs.Marked.{marked_words-has, marked_words-only}
 use Rattle.heap_rule.specs.Seated.{SeatView}
 use Rattle.seat_rows.specs.Costs.{Costs}
 use Rattle.seat_rows.specs.Rows.{Passes, Row, ViewRow, after_ticket, next_of}
-use Rattle.seat_rows.specs.Words.{IsHeldWord, MayBe as MayBeOf, left_at, seen_at, times_held}
+use Rattle.seat_rows.specs.Words.{IsHeldWord, KeepsWord as KeepsRowWord, MayBe as MayBeOf, left_at, seen_at, times_held}
 use Rattle.seat_rows.proofs.WordLemmas.{at_cell, owns_held}
-use Rattle.seat_view.specs.CacheState.{CacheState, blocks_of_words, small_blocks, large_blocks, held_blocks, heap_view, opened_kinds, IsStateOf}
+use Rattle.seat_view.specs.CacheState.{CacheState, CallCounts, heap_view_of, blocks_of_words, small_blocks, large_blocks, held_blocks, heap_view, opened_kinds, IsStateOf}
 
 -- a fact that can be decided, and that does not fail
 pub decided : {A B : Type 0} → A ⊎ (A → ⊥) → (B → A) → ∥ B ∥₁ → A
@@ -201,7 +201,7 @@ seat_law s = record {
 }
 
 -- an own word is a held one
-own_held : (s : CacheState) (word : ℕ) → IsOwnWord (held_blocks s.view) s.view.roots word → IsHeldWord s.view word
+pub own_held : (s : CacheState) (word : ℕ) → IsOwnWord (held_blocks s.view) s.view.roots word → IsHeldWord s.view word
 own_held s word own = decided (at_most 1 (times_held s.view (cell_at s.view.setup.capacity word))) (λ (has : HasSoundState s.view). word_held s.view has word own) s.sound
 
 -- some sound state has the view of what is left
@@ -248,6 +248,30 @@ may_be_law s choice = ∥∥₁_elim s.sound (λ a b. squash₁ a b) (λ (has : 
       records.each word has value (ap (λ t. known (cond t s.view.volatile s.view.durable) (cell_at s.view.setup.capacity word)) is ∙ at_cell s.view word has s.view.durable
       ∙ sym (ap (λ t. cond t (seen_at s.view word) (left_at s.view word)) is) ∙ e)
 
+-- what is known of a word, for the core and for the heap
+to_mine : (o : Option ℕ) (value : ℕ) → MayBe o value → MayBeOf o value
+to_mine None value may = tt
+to_mine (Some x) value may = may
+
+from_mine : (o : Option ℕ) (value : ℕ) → MayBeOf o value → MayBe o value
+from_mine None value may = tt
+from_mine (Some x) value may = may
+
+pub read_to : (v : View) (word value : ℕ) → MayBe (seen_at v word) value ⊎ MayBe (left_at v word) value → MayBeOf (seen_at v word) value ⊎ MayBeOf (left_at v word) value
+read_to v word value (inl seen) = inl (to_mine (seen_at v word) value seen)
+read_to v word value (inr left) = inr (to_mine (left_at v word) value left)
+
+pub read_from : (v : View) (word value : ℕ) → MayBeOf (seen_at v word) value ⊎ MayBeOf (left_at v word) value → MayBe (seen_at v word) value ⊎ MayBe (left_at v word) value
+read_from v word value (inl seen) = inl (from_mine (seen_at v word) value seen)
+read_from v word value (inr left) = inr (from_mine (left_at v word) value left)
+
+-- a word that is not stored to
+pub word_law : (v x : View) (marks marks' : List Bool) (n n' : CallCounts) (word : ℕ) → KeepsRowWord v x word → KeepsWord (heap_view_of v marks n) (heap_view_of x marks' n') word
+word_law v x marks marks' n n' word p = record {
+  volatile = p.volatile;
+  durable = λ value may. read_from v word value (p.durable value (to_mine (left_at x word) value may));
+}
+
 pub kept_at : {a : Costs} (s : CacheState) (x : View) (w : HeapView) → w.held ≡ held_blocks x → w.roots ≡ x.roots → w.volatile ≡ seen_at x → w.durable ≡ left_at x → ViewRow a s.view x → KeepsOwn (heap_view s) w
 kept_at s x w held_are roots_are volatile_is durable_is row = record {
   held = held_are ∙ ap (λ l. small_blocks 0 l ++ large_blocks x.setup.capacity x.large) row.small
@@ -256,20 +280,9 @@ kept_at s x w held_are roots_are volatile_is durable_is row = record {
   roots = roots_are ∙ row.passes.roots;
   words = λ word own. let p = row.words word (own_held s word own) in record {
     volatile = λ value is. ap (λ (f : ℕ → Option ℕ). f word) volatile_is ∙ p.volatile value is;
-    durable = λ value may. by_may value word (p.durable value (to_mine (left_at x word) value (subst (λ (f : ℕ → Option ℕ). MayBe (f word) value) durable_is may)));
+    durable = λ value may. read_from s.view word value (p.durable value (to_mine (left_at x word) value (subst (λ (f : ℕ → Option ℕ). MayBe (f word) value) durable_is may)));
   };
-} where
-  to_mine : (o : Option ℕ) (value : ℕ) → MayBe o value → MayBeOf o value
-  to_mine None value may = tt
-  to_mine (Some x) value may = may
-
-  from_mine : (o : Option ℕ) (value : ℕ) → MayBeOf o value → MayBe o value
-  from_mine None value may = tt
-  from_mine (Some x) value may = may
-
-  by_may : (value word : ℕ) → MayBeOf (seen_at s.view word) value ⊎ MayBeOf (left_at s.view word) value → MayRead (heap_view s) word value
-  by_may value word (inl seen) = inl (from_mine (seen_at s.view word) value seen)
-  by_may value word (inr left) = inr (from_mine (left_at s.view word) value left)
+}
 
 pub row_from : {a : Costs} (u v w : View) → u ≡ v → ViewRow a u w → ViewRow a v w
 row_from {a} u v w same = subst (λ x. ViewRow a x w) same

@@ -1,5 +1,5 @@
 -- What contracts see of a heap's seat that is a seat of the core.
-use Rattle.std.specs.Prelude.{◌≡◌, ℕ, ◌+◌, ◌*◌, Bool, List, [], ◌∷◌, ◌++◌, get_or, slice_index}
+use Rattle.std.specs.Prelude.{◌≡◌, ◌≤◌, ℕ, ◌+◌, ◌*◌, None, Bool, List, [], ◌∷◌, ◌++◌, get_or, slice_index}
 use Rattle.heap_model.specs.declared.block.Block.{Block}
 use Rattle.heap_model.specs.Geometry.{roots, start_word, superblock_words, kind_word}
 use Rattle.heap_model.specs.Image.{words_from}
@@ -11,8 +11,17 @@ use Rattle.heap_seat.specs.View.{View as HeapView}
 use Rattle.core_model.specs.View.{LastLook, Setup, Span, View}
 use Rattle.heap_table.specs.Plays.{HasSoundState}
 use Rattle.heap_rule.specs.Seated.{SeatView}
+use Rattle.seat_rows.specs.Idle.{HasShortCaches, IsIdle}
 use Rattle.seat_rows.specs.Rows.{next_of}
 use Rattle.seat_rows.specs.Words.{left_at, seen_at}
+
+-- between its calls a seat that goes on is idle, and its caches are short
+abbrev pub IsBetweenCalls : View → Type 0
+IsBetweenCalls v = v.stopped ≡ None → IsIdle v × HasShortCaches v
+
+-- each call that was counted drew a ticket of its own, and each refusal is a call of alloc
+abbrev pub HasCounts : ℕ → ℕ → ℕ → View → Type 0
+HasCounts small large refusals v = (small + large ≤ next_of v) × (refusals ≤ large)
 
 pub record CacheState : Type 0 where
   pub view : View
@@ -24,6 +33,8 @@ pub record CacheState : Type 0 where
   pub refused_looks : Looks
   -- some sound state has the view
   pub sound : ∥ HasSoundState view ∥₁
+  pub between : IsBetweenCalls view
+  pub counted : HasCounts small_calls large_calls refusals view
 
 -- the blocks of a class by their first words, and those of all classes from one on
 abbrev pub blocks_of_words : ℕ → List ℕ → List Block
@@ -48,27 +59,41 @@ opened_kinds k = words_from (slice_index k.opened) (kind_word k.capacity 0) root
 abbrev pub look_of : LastLook → Look
 look_of look = record { seen = look.word; ticket = look.ticket; taken = look.taken }
 
-abbrev pub heap_view : CacheState → HeapView
-heap_view s = record {
-  held = held_blocks s.view;
-  roots = s.view.roots;
-  volatile = seen_at s.view;
-  durable = left_at s.view;
-  pending = marked_words s.marks;
-  capacity = s.view.setup.capacity;
-  kinds = opened_kinds s.view.setup;
-  budget = s.view.setup.budget;
-  next = next_of s.view;
-  stopped = s.view.stopped;
-  small_calls = s.small_calls;
-  large_calls = s.large_calls;
-  taken = s.view.taken;
-  refusals = s.refusals;
-  refused_bytes = s.refused_bytes;
-  refused_looks = s.refused_looks;
-  used_look = look_of s.view.used_look;
-  head_look = λ list. look_of (get_or s.view.head_looks list s.view.used_look);
+-- what is counted of a seat's calls: small ones, large ones, and refusals with the last of them
+pub record CallCounts : Type 0 where
+  pub small_calls : ℕ
+  pub large_calls : ℕ
+  pub refusals : ℕ
+  pub refused_bytes : ℕ
+  pub refused_looks : Looks
+
+abbrev pub heap_view_of : View → List Bool → CallCounts → HeapView
+heap_view_of v marks counts = record {
+  held = held_blocks v;
+  roots = v.roots;
+  volatile = seen_at v;
+  durable = left_at v;
+  pending = marked_words marks;
+  capacity = v.setup.capacity;
+  kinds = opened_kinds v.setup;
+  budget = v.setup.budget;
+  next = next_of v;
+  stopped = v.stopped;
+  small_calls = counts.small_calls;
+  large_calls = counts.large_calls;
+  taken = v.taken;
+  refusals = counts.refusals;
+  refused_bytes = counts.refused_bytes;
+  refused_looks = counts.refused_looks;
+  used_look = look_of v.used_look;
+  head_look = λ list. look_of (get_or v.head_looks list v.used_look);
 }
+
+abbrev pub counts_of : CacheState → CallCounts
+counts_of s = record { small_calls = s.small_calls; large_calls = s.large_calls; refusals = s.refusals; refused_bytes = s.refused_bytes; refused_looks = s.refused_looks }
+
+abbrev pub heap_view : CacheState → HeapView
+heap_view s = heap_view_of s.view s.marks (counts_of s)
 
 -- of a seat that has refused no request
 abbrev pub no_looks : Looks

@@ -20,13 +20,14 @@ use Rattle.heap_rule.specs.Shown.{Can, CanStore}
 use Rattle.heap_rule.proofs.RawLemmas.{volatile_long}
 use Rattle.heap_rule.proofs.SettleLemmas.{own_below}
 use Rattle.heap_rule.proofs.ViewLemmas.{block_class}
-use Rattle.seat_rows.specs.Rows.{HasDrawn, SameLooks, after_ticket, parts}
+use Rattle.seat_rows.specs.Rows.{HasDrawn, SameLooks, Stops, after_ticket, parts}
 use Rattle.seat_rows.specs.Words.{IsHeldWord, KeepsWord, MayBe, seen_at, times_held}
 use Rattle.seat_rows.proofs.OnceLemmas.{not_held}
+use Rattle.seat_rows.proofs.RowLemmas.{not_both}
 use Rattle.seat_rows.proofs.StoreLemmas.{fenced}
 use Rattle.seat_rows.proofs.WordLemmas.{owns_held}
 use Rattle.seat_lists.proofs.PopLemmas.{drawn_as}
-use Rattle.seat_words.specs.Own.{HasFenced, HasLoaded, HasMarkedLine, HasStored, MayHave, MayRead, RunsOn}
+use Rattle.seat_words.specs.Own.{Drew, HasFenced, HasLoaded, HasMarkedLine, HasStored, MayHave, MayRead, RunsOn}
 
 -- what a draw and a step behind it leave, where the step changes no part
 module _ (v u w : View) (drawn : HasDrawn v u) where
@@ -41,6 +42,16 @@ module _ (v u w : View) (drawn : HasDrawn v u) where
 
   pub same_looks : SameLooks v u → w.used_look ≡ u.used_look → w.head_looks ≡ u.head_looks → SameLooks v w
   same_looks before used heads = record { used = used ∙ before.used; heads = heads ∙ before.heads }
+
+-- at every exit
+pub runs_drew : (v w : View) → RunsOn v w → Drew v w
+runs_drew v w runs = record { drew = λ went. runs.later; parts_are = λ going. runs.parts_are }
+
+pub stop_drew : (v w : View) (step : ℕ) → Stops step v w → Drew v w
+stop_drew v w step stop = record {
+  drew = λ went. let from = stop.now went in let last = ap after_ticket stop.last in omega arith;
+  parts_are = λ going. not_both stop.at going;
+}
 
 -- a load
 module _ (v u : View) (word : ℕ) (drawn : HasDrawn v u) (own : Owns v word) where

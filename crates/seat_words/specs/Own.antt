@@ -15,6 +15,11 @@ pub record RunsOn (v w : View) : Type 0 where
   pub parts_are : parts w ≡ parts v
   pub later : next_of v < next_of w
 
+-- at every exit: one that had not stopped drew a ticket, and one that goes on has its parts
+pub record Drew (v w : View) : Type 0 where
+  pub drew : v.stopped ≡ None → next_of v < next_of w
+  pub parts_are : w.stopped ≡ None → parts w ≡ parts v
+
 -- loads see this value
 pub record HasLoaded (word value : ℕ) (v w : View) : Type 0 where
   pub runs : RunsOn v w

@@ -8,7 +8,7 @@ ghost use Rattle.line_memory.specs.Marks.{IsMarked};
 ghost use Rattle.seat_rows.specs.Costs.{one_draw};
 ghost use Rattle.seat_rows.specs.Rows.{Row, SameLooks, Stops, StoringRow};
 ghost use Rattle.seat_rows.specs.Words.{IsHeldWord};
-ghost use Rattle.seat_words.specs.Own.{HasFenced, HasLoaded, HasMarkedLine, HasStored, MayHave};
+ghost use Rattle.seat_words.specs.Own.{Drew, HasFenced, HasLoaded, HasMarkedLine, HasStored, MayHave};
 
 use heap_rule::{Seat, Shared};
 use line_memory::{Chance, Stopped};
@@ -26,6 +26,7 @@ pub fn load<C: Chance>(
     ensures loaded { IfOk result (λ value. HasLoaded word value seat.old.view seat.new.view) }
     ensures stopped { IfErr result (λ e. Stops e.step seat.old.view seat.new.view) }
     ensures row { Row one_draw seat.old seat.new }
+    ensures drew { Drew seat.old.view seat.new.view }
     ensures looks { SameLooks seat.old.view seat.new.view }
     ensures marks { seat.new.marks ≡ seat.old.marks }
     ensures seat { IsSeatOf shared.now seat.new }
@@ -51,6 +52,7 @@ pub fn store<C: Chance>(
     ensures row { StoringRow word one_draw seat.old seat.new }
     ensures none { OnErr result (Row one_draw seat.old seat.new) }
     ensures crash { MayHave word value seat.old.view seat.new.view }
+    ensures drew { Drew seat.old.view seat.new.view }
     ensures looks { SameLooks seat.old.view seat.new.view }
     ensures marks { (other : ℕ) → other ≢ word → IsMarked seat.old.marks other
         → IsMarked seat.new.marks other }
@@ -74,6 +76,7 @@ pub fn write_back<C: Chance>(
     ensures marked { OnOk result (HasMarkedLine word seat.old seat.new) }
     ensures stopped { IfErr result (λ e. Stops e.step seat.old.view seat.new.view) }
     ensures row { Row one_draw seat.old seat.new }
+    ensures drew { Drew seat.old.view seat.new.view }
     ensures looks { SameLooks seat.old.view seat.new.view }
     ensures marks { (other : ℕ) → IsMarked seat.old.marks other → IsMarked seat.new.marks other }
     ensures seat { IsSeatOf shared.now seat.new }
@@ -89,6 +92,7 @@ pub fn fence<C: Chance>(seat: &mut Seat, shared: &Shared, chance: &mut C) -> Res
     ensures fenced { OnOk result (HasFenced seat.old seat.new) }
     ensures stopped { IfErr result (λ e. Stops e.step seat.old.view seat.new.view) }
     ensures row { Row one_draw seat.old seat.new }
+    ensures drew { Drew seat.old.view seat.new.view }
     ensures looks { SameLooks seat.old.view seat.new.view }
     ensures seat { IsSeatOf shared.now seat.new }
 {

@@ -1,6 +1,6 @@
 use Rattle.seat_rows.proofs.RowLemmas.{row_then}
 use Rattle.seat_rows.proofs.StoreLemmas.{fence_row}
-use Rattle.seat_words.proofs.OwnLemmas.{has_fenced}
+use Rattle.seat_words.proofs.OwnLemmas.{runs_drew, has_fenced}
 use Rattle.seat_words.proofs.words.fence.Goals as goal
 
 pub returns-clause-fenced : goal.returns-clause-fenced
@@ -9,3 +9,6 @@ returns-clause-fenced g c =
 
 pub returns-clause-row : goal.returns-clause-row
 returns-clause-row g c = row_then c.args.seat.now c.draw.new.seat c.fence.new.self c.draw.ensures.row (fence_row c.draw.new.seat c.fence.new.self c.fence.ensures.fence)
+
+pub returns-clause-drew : goal.returns-clause-drew
+returns-clause-drew g c = runs_drew c.args.seat.now.view c.fence.new.self.view (returns-clause-fenced g c).runs

@@ -1,6 +1,6 @@
 use Rattle.seat_rows.proofs.RowLemmas.{row_of, row_then}
 use Rattle.seat_rows.proofs.StoreLemmas.{load_row}
-use Rattle.seat_words.proofs.OwnLemmas.{loaded}
+use Rattle.seat_words.proofs.OwnLemmas.{runs_drew, loaded}
 use Rattle.seat_words.proofs.words.load.Goals as goal
 
 pub returns-clause-loaded : goal.returns-clause-loaded
@@ -10,3 +10,6 @@ returns-clause-loaded g c =
 pub returns-clause-row : goal.returns-clause-row
 returns-clause-row g c = row_then c.args.seat.now c.draw.new.seat c.load_word.new.self c.draw.ensures.row
     (row_of c.draw.new.seat c.load_word.new.self c.load_word.ensures.stores (load_row c.args.word c.draw.new.seat.view c.load_word.new.self.view c.load_word.result c.load_word.ensures.event))
+
+pub returns-clause-drew : goal.returns-clause-drew
+returns-clause-drew g c = runs_drew c.args.seat.now.view c.load_word.new.self.view (returns-clause-loaded g c).runs

@@ -1,6 +1,6 @@
 use Rattle.seat_rows.proofs.RowLemmas.{then_storing}
 use Rattle.seat_rows.proofs.StoreLemmas.{storing_row}
-use Rattle.seat_words.proofs.OwnLemmas.{can_store, has_stored, store_crash, store_looks}
+use Rattle.seat_words.proofs.OwnLemmas.{runs_drew, can_store, has_stored, store_crash, store_looks}
 use Rattle.seat_words.proofs.words.store.Goals as goal
 
 pub store_word-requires-clause-can : goal.store_word-requires-clause-can
@@ -23,3 +23,6 @@ returns-clause-crash g c = let e = c.store_word.ensures.event in
 pub returns-clause-looks : goal.returns-clause-looks
 returns-clause-looks g c = let e = c.store_word.ensures.event in
     store_looks c.args.seat.now.view c.draw.new.seat.view c.has_a_sound_state.ensures c.args.word c.args.value c.in_ok-draw.ensures.drawn c.requires.held c.requires.no_batch c.store_word.new.self.view e.0 e.1 c.draw.ensures.looks
+
+pub returns-clause-drew : goal.returns-clause-drew
+returns-clause-drew g c = runs_drew c.args.seat.now.view c.store_word.new.self.view (returns-clause-stored g c).runs

@@ -1,0 +1,28 @@
+use Rattle.std.proofs.Common.{◌+◌, ap, refl, ◌∙◌}
+use Rattle.seat_view.specs.CacheState.{CacheState}
+use Rattle.thread_cache.proofs.CallLemmas.{between_then, counts_then, small_counted, small_fences, small_keeps, small_own, small_step, small_stops}
+use Rattle.thread_cache.proofs.calls.CacheSeatHeapSeat.fence.Goals as goal
+
+pub invariant_of-self-inside : goal.invariant_of-self-inside
+invariant_of-self-inside g c =
+    let ran = ap (λ (s : CacheState). s.view.stopped) c.self.view_is ∙ c.in_ok-check_running.ensures.ok in (
+      c.fence-answer.ensures.seat,
+      (∣ c.has_a_sound_state-2.ensures ∣₁,
+      (between_then c.self.inside.seat.view c.fence-answer.new.seat.view c.fence-answer.ensures.drew ran c.self.inside.between,
+      (counts_then c.self.inside.small_calls c.self.inside.large_calls c.self.inside.refusals c.self.inside.seat.view c.fence-answer.new.seat.view (c.fence-answer.ensures.drew.drew ran) c.self.inside.counted, tt))),
+    )
+
+pub returns-clause-unchanged : goal.returns-clause-unchanged
+returns-clause-unchanged g c = small_own c.args.self.now c.self.inside.seat c.fence-answer.new.seat _ (small_step _ c.args.self.now c.self.view_is c.self.inside.seat c.fence-answer.new.seat refl refl c.has_a_sound_state-2.ensures c.in_ok-check_running.ensures.ok) c.fence-answer.ensures.row.view.passes c.fence-answer.ensures.row
+
+pub returns-clause-counted : goal.returns-clause-counted
+returns-clause-counted g c = small_counted c.args.self.now c.self.inside.seat c.fence-answer.new.seat _ (small_step _ c.args.self.now c.self.view_is c.self.inside.seat c.fence-answer.new.seat refl refl c.has_a_sound_state-2.ensures c.in_ok-check_running.ensures.ok) c.fence-answer.ensures.row.view.passes c.fence-answer.ensures.looks
+
+pub returns-clause-kept : goal.returns-clause-kept
+returns-clause-kept g c = small_keeps c.args.self.now c.self.inside.seat c.fence-answer.new.seat _ (small_step _ c.args.self.now c.self.view_is c.self.inside.seat c.fence-answer.new.seat refl refl c.has_a_sound_state-2.ensures c.in_ok-check_running.ensures.ok) c.fence-answer.ensures.row.view.passes
+
+pub returns-clause-stopped : goal.returns-clause-stopped
+returns-clause-stopped g c = small_stops c.args.self.now c.self.inside.seat c.fence-answer.new.seat _ (small_step _ c.args.self.now c.self.view_is c.self.inside.seat c.fence-answer.new.seat refl refl c.has_a_sound_state-2.ensures c.in_ok-check_running.ensures.ok) c.fence-answer.ensures.row.view.passes c.fence-answer.result c.fence-answer.ensures.stopped
+
+pub returns-clause-ok : goal.returns-clause-ok
+returns-clause-ok g c = small_fences c.args.self.now c.self.inside.seat c.fence-answer.new.seat _ (small_step _ c.args.self.now c.self.view_is c.self.inside.seat c.fence-answer.new.seat refl refl c.has_a_sound_state-2.ensures c.in_ok-check_running.ensures.ok) c.fence-answer.result c.fence-answer.ensures.fenced

@@ -1,0 +1,54 @@
+use Rattle.std.proofs.Common.{◌+◌, ◌≡◌, ◌≢◌, ℕ, OnOk, ap, refl, subst, sym, ◌∙◌}
+use Rattle.heap_seat.specs.View.{View as HeapView, word_of}
+use Rattle.heap_seat.specs.Words.{MayHaveStored}
+use Rattle.line_memory.specs.Marks.{IsMarked}
+use Rattle.core_model.specs.View.{View}
+use Rattle.seat_rows.specs.Costs.{one_draw}
+use Rattle.seat_rows.specs.Rows.{StoringRow}
+use Rattle.seat_rows.specs.Words.{IsHeldWord}
+use Rattle.seat_view.specs.CacheState.{CacheState}
+use Rattle.seat_words.specs.Own.{HasStored, MayHave}
+use Rattle.thread_cache.proofs.CallLemmas.{between_then, counts_then, small_counted, small_keeps, small_may_store, small_step, small_stops, small_stores, small_unstored, spot_held, spot_low}
+use Rattle.thread_cache.proofs.calls.CacheSeatHeapSeat.store.Goals as goal
+
+pub word_of-word-requires : goal.word_of-word-requires
+word_of-word-requires g c = spot_low c.args.self.now c.args.s c.requires
+
+pub store-answer-requires-clause-held : goal.store-answer-requires-clause-held
+store-answer-requires-clause-held g c =
+    subst (IsHeldWord c.self.inside.seat.view) (sym c.word_of-word.ensures)
+    (subst (λ (v : View). IsHeldWord v (word_of c.args.s)) (sym (ap (λ (s : CacheState). s.view) c.self.view_is)) (spot_held c.args.self.now c.args.s c.requires))
+
+pub store-answer-requires-clause-no_batch : goal.store-answer-requires-clause-no_batch
+store-answer-requires-clause-no_batch g c = (c.self.inside.between (ap (λ (s : CacheState). s.view.stopped) c.self.view_is ∙ c.in_ok-check_running.ensures.ok)).0.batch
+
+pub invariant_of-self-inside : goal.invariant_of-self-inside
+invariant_of-self-inside g c =
+    let ran = ap (λ (s : CacheState). s.view.stopped) c.self.view_is ∙ c.in_ok-check_running.ensures.ok in (
+      c.store-answer.ensures.seat,
+      (∣ c.has_a_sound_state-2.ensures ∣₁,
+      (between_then c.self.inside.seat.view c.store-answer.new.seat.view c.store-answer.ensures.drew ran c.self.inside.between,
+      (counts_then c.self.inside.small_calls c.self.inside.large_calls c.self.inside.refusals c.self.inside.seat.view c.store-answer.new.seat.view (c.store-answer.ensures.drew.drew ran) c.self.inside.counted, tt))),
+    )
+
+pub returns-clause-unchanged : goal.returns-clause-unchanged
+returns-clause-unchanged g c = small_unstored c.args.self.now c.self.inside.seat c.store-answer.new.seat _ (small_step _ c.args.self.now c.self.view_is c.self.inside.seat c.store-answer.new.seat refl refl c.has_a_sound_state-2.ensures c.in_ok-check_running.ensures.ok) c.store-answer.ensures.row.but.passes c.store-answer.result c.store-answer.ensures.none
+
+pub returns-clause-counted : goal.returns-clause-counted
+returns-clause-counted g c = small_counted c.args.self.now c.self.inside.seat c.store-answer.new.seat _ (small_step _ c.args.self.now c.self.view_is c.self.inside.seat c.store-answer.new.seat refl refl c.has_a_sound_state-2.ensures c.in_ok-check_running.ensures.ok) c.store-answer.ensures.row.but.passes c.store-answer.ensures.looks
+
+pub returns-clause-kept : goal.returns-clause-kept
+returns-clause-kept g c = small_keeps c.args.self.now c.self.inside.seat c.store-answer.new.seat _ (small_step _ c.args.self.now c.self.view_is c.self.inside.seat c.store-answer.new.seat refl refl c.has_a_sound_state-2.ensures c.in_ok-check_running.ensures.ok) c.store-answer.ensures.row.but.passes
+
+pub returns-clause-stopped : goal.returns-clause-stopped
+returns-clause-stopped g c = small_stops c.args.self.now c.self.inside.seat c.store-answer.new.seat _ (small_step _ c.args.self.now c.self.view_is c.self.inside.seat c.store-answer.new.seat refl refl c.has_a_sound_state-2.ensures c.in_ok-check_running.ensures.ok) c.store-answer.ensures.row.but.passes c.store-answer.result c.store-answer.ensures.stopped
+
+pub returns-clause-ok : goal.returns-clause-ok
+returns-clause-ok g c = small_stores c.args.self.now c.self.inside.seat c.store-answer.new.seat _ (small_step _ c.args.self.now c.self.view_is c.self.inside.seat c.store-answer.new.seat refl refl c.has_a_sound_state-2.ensures c.in_ok-check_running.ensures.ok) (word_of c.args.s) c.args.value c.store-answer.result
+    (subst (λ word. OnOk c.store-answer.result (HasStored word c.args.value c.self.inside.seat.view c.store-answer.new.seat.view)) c.word_of-word.ensures c.store-answer.ensures.stored)
+    (subst (λ word. (other : ℕ) → other ≢ word → IsMarked c.self.inside.seat.marks other → IsMarked c.store-answer.new.seat.marks other) c.word_of-word.ensures c.store-answer.ensures.marks)
+
+pub returns-clause-crash : goal.returns-clause-crash
+returns-clause-crash g c = small_may_store c.args.self.now c.self.inside.seat c.store-answer.new.seat _ (small_step _ c.args.self.now c.self.view_is c.self.inside.seat c.store-answer.new.seat refl refl c.has_a_sound_state-2.ensures c.in_ok-check_running.ensures.ok) (word_of c.args.s) c.args.value
+    (subst (λ word. StoringRow word one_draw c.self.inside.seat c.store-answer.new.seat) c.word_of-word.ensures c.store-answer.ensures.row)
+    (subst (λ word. MayHave word c.args.value c.self.inside.seat.view c.store-answer.new.seat.view) c.word_of-word.ensures c.store-answer.ensures.crash)

@@ -1,0 +1,39 @@
+-- What every call of a seat that allocates by caches leaves of the heap, and what it may cost.
+use Rattle.std.specs.Prelude.{◌≡◌, ◌≤◌, ℕ, ◌+◌, ◌*◌, ◌^◌}
+use Rattle.core_model.specs.View.{View}
+use Rattle.seat_rows.specs.Costs.{NoneFalls}
+use Rattle.heap_rule.specs.Seated.{SeatView}
+use Rattle.seat_view.specs.CacheState.{CacheState}
+
+-- the most tickets that a call of alloc or free draws, exchanges that it wins, and batches that it gives, but for those that losses and moves pay
+abbrev pub most_draws : ℕ
+most_draws = 2 ^ 17
+
+abbrev pub most_wins : ℕ
+most_wins = 2 ^ 15
+
+abbrev pub most_gives : ℕ
+most_gives = 2 ^ 14
+
+-- between two views of a seat, with so many small and large calls by then: the setup and the owned roots stay, no count falls, and each call costs at most so much: a small one a ticket, any other the most, and one superblock that it cuts; with 16 tickets for each lost exchange and each move, and 2 wins for each move
+pub record KeepsCosts (v : View) (small large : ℕ) (w : View) (smalls larges : ℕ) : Type 0 where
+  pub setup : w.setup ≡ v.setup
+  pub roots : w.roots ≡ v.roots
+  pub none_falls : NoneFalls v w
+  pub small_rise : small ≤ smalls
+  pub large_rise : large ≤ larges
+  pub draws : w.draws + small + most_draws * large + 16 * v.losses + 16 * v.moves ≤ v.draws + smalls + most_draws * larges + 16 * w.losses + 16 * w.moves
+  pub wins : w.wins + most_wins * large + 2 * v.moves ≤ v.wins + most_wins * larges + 2 * w.moves
+  pub gives : w.gives + most_gives * large ≤ v.gives + most_gives * larges
+  pub cuts : w.cuts + large ≤ v.cuts + larges
+
+abbrev pub KeepsHeap : CacheState → CacheState → Type 0
+KeepsHeap s t = KeepsCosts s.view s.small_calls s.large_calls t.view t.small_calls t.large_calls
+
+-- a seat that allocates, just made of a seat
+pub record IsNew (seat : SeatView) (s : CacheState) : Type 0 where
+  pub view : s.view ≡ seat.view
+  pub marks : s.marks ≡ seat.marks
+  pub small : s.small_calls ≡ 0
+  pub large : s.large_calls ≡ 0
+  pub refusals : s.refusals ≡ 0

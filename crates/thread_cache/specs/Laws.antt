@@ -1,0 +1,40 @@
+-- What every call keeps goes on from call to call: the laws of what it keeps.
+use Rattle.std.proofs.Common.{◌≡◌, ◌≤◌, ℕ, ◌+◌, ◌*◌, refl, ◌∙◌, arith}
+use Rattle.seat_rows.specs.Costs.{Costs, NoneFalls, no_costs}
+use Rattle.seat_rows.specs.Rows.{Passes}
+use Rattle.seat_view.specs.CacheState.{CacheState}
+use Rattle.thread_cache.specs.Keeps.{KeepsHeap, most_draws, most_gives, most_wins}
+
+pub keeps_none_law : (s : CacheState) → KeepsHeap s s
+keeps_none_law s = record {
+  setup = refl;
+  roots = refl;
+  none_falls = record { draws = omega arith; wins = omega arith; losses = omega arith; gives = omega arith; moves = omega arith; cuts = omega arith; taken = omega arith };
+  small_rise = omega arith;
+  large_rise = omega arith;
+  draws = omega arith;
+  wins = omega arith;
+  gives = omega arith;
+  cuts = omega arith;
+}
+
+pub keeps_row_law : (s t u : CacheState) → KeepsHeap s t → KeepsHeap t u → KeepsHeap s u
+keeps_row_law s t u p q = record {
+  setup = q.setup ∙ p.setup;
+  roots = q.roots ∙ p.roots;
+  none_falls = let a = p.none_falls in let b = q.none_falls in record {
+    draws = let x = a.draws in let y = b.draws in omega arith;
+    wins = let x = a.wins in let y = b.wins in omega arith;
+    losses = let x = a.losses in let y = b.losses in omega arith;
+    gives = let x = a.gives in let y = b.gives in omega arith;
+    moves = let x = a.moves in let y = b.moves in omega arith;
+    cuts = let x = a.cuts in let y = b.cuts in omega arith;
+    taken = let x = a.taken in let y = b.taken in omega arith;
+  };
+  small_rise = let x = p.small_rise in let y = q.small_rise in omega arith;
+  large_rise = let x = p.large_rise in let y = q.large_rise in omega arith;
+  draws = let x = p.draws in let y = q.draws in omega arith;
+  wins = let x = p.wins in let y = q.wins in omega arith;
+  gives = let x = p.gives in let y = q.gives in omega arith;
+  cuts = let x = p.cuts in let y = q.cuts in omega arith;
+}

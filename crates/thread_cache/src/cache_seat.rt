@@ -1,0 +1,112 @@
+//! A thread's part of an open heap that is shared with other threads.
+
+ghost use Rattle.std.specs.Prelude.{◌≡◌};
+ghost use Rattle.std.proofs.Props.{props};
+ghost use Rattle.heap_table.specs.Plays.{HasSoundState};
+ghost use Rattle.heap_rule.specs.Seated.{IsSeatOf};
+ghost use Rattle.seat_view.specs.CacheState.{HasCounts, IsBetweenCalls};
+
+use heap_rule::{Seat, Shared};
+use heap_seat::Looks;
+use line_memory::{Chance, Stopped};
+use std::marker::Model;
+
+/// A thread's part of an open heap: it allocates by caches, lists and anchors, which it shares with
+/// the other threads without a lock. Between its calls no superblock is claimed and each cache has
+/// fewer blocks than a superblock of its class, unless the seat has stopped.
+#[derive(Drop)]
+pub struct CacheSeat<'a, C> {
+    pub(crate) shared: &'a Shared,
+    pub(crate) seat: Seat,
+    pub(crate) chance: C,
+    pub(crate) small_calls: u64,
+    pub(crate) large_calls: u64,
+    pub(crate) refusals: u64,
+    pub(crate) refused_bytes: u64,
+    pub(crate) refused_looks: Looks,
+    ghost of: { IsSeatOf shared.now seat } by { Prim.hlevel props },
+    ghost sound: { ∥ HasSoundState seat.view ∥₁ },
+    ghost between: { IsBetweenCalls seat.view } by { Prim.hlevel props },
+    ghost counted: { HasCounts small_calls large_calls refusals seat.view }
+        by { Prim.hlevel props },
+}
+
+impl<'a, C> Model for CacheSeat<'a, C> {
+    ghost use Rattle.seat_view.specs.CacheState.{CacheState};
+
+    ghost Value = { CacheState };
+
+    ghost view = { λ s. record {
+      view = s.seat.view;
+      marks = s.seat.marks;
+      small_calls = s.small_calls;
+      large_calls = s.large_calls;
+      refusals = s.refusals;
+      refused_bytes = s.refused_bytes;
+      refused_looks = s.refused_looks;
+      sound = s.sound;
+      between = s.between;
+      counted = s.counted;
+    } };
+}
+
+impl<'a, C: Chance> CacheSeat<'a, C> {
+    ghost use Rattle.std.specs.Prelude.{◌≡◌, None, OnOk, IfErr};
+    ghost use Rattle.heap_rule.specs.Seated.{IsSeatOf};
+    ghost use Rattle.seat_rows.specs.Idle.{HasShortCaches, IsIdle};
+    ghost use Rattle.heap_seat.specs.Tickets.{Stops};
+    ghost use Rattle.seat_view.specs.CacheState.{heap_view};
+    ghost use Rattle.thread_cache.specs.Keeps.{IsNew};
+
+    /// Makes a seat of a heap one that allocates. The seat is idle, as those of an opened heap are.
+    pub fn new(shared: &'a Shared, seat: Seat, chance: C) -> CacheSeat<'a, C>
+        requires is_of { IsSeatOf shared.now seat }
+        requires going { seat.view.stopped ≡ None }
+        requires idle { IsIdle seat.view }
+        requires short { HasShortCaches seat.view }
+        ensures { IsNew seat result }
+    {
+        seat.has_a_sound_state();
+        CacheSeat {
+            shared,
+            seat,
+            chance,
+            small_calls: 0,
+            large_calls: 0,
+            refusals: 0,
+            refused_bytes: 0,
+            refused_looks: Looks {
+                class_head: 0,
+                free_head: 0,
+                used: 0,
+            },
+        }
+    }
+
+    /// The ticket at which the seat stopped, if it has.
+    pub fn stopped(&self) -> Option<u64>
+        ensures { result ≡ self.now.view.stopped }
+    {
+        self.seat.stopped()
+    }
+
+    /// The seat again, as it is.
+    pub fn into_seat(self) -> Seat
+        ensures view { result.view ≡ self.entry.view }
+        ensures marks { result.marks ≡ self.entry.marks }
+    {
+        self.seat
+    }
+
+    /// Refuses the call if the seat has stopped.
+    pub(crate) fn check_running(&self) -> Result<(), Stopped>
+        ensures ok { OnOk result (self.now.view.stopped ≡ None) }
+        ensures stopped { IfErr result (λ e. Stops e.step
+            (heap_view self.now) (heap_view self.now)) }
+    {
+        match self.seat.stopped() {
+            Some(step) => Err(Stopped { step }),
+            None => Ok(()),
+        }
+    }
+}

@@ -1,0 +1,108 @@
+//! The calls of a seat that allocates by caches.
+
+use crate::cache_seat::CacheSeat;
+use heap_model::Block;
+use heap_seat::{AllocFault, HeapSeat, Spot};
+use line_memory::{Chance, Stopped};
+use seat_words::{fence, load, store, write_back};
+use super_block::{ROOT_WORD, WORD_BYTES};
+
+ghost use Rattle.std.specs.Prelude.{◌≡◌, ◌<◌, ◌≤◌, ◌^◌, OnOk, IfErr, None, Some};
+ghost use Rattle.heap_seat.specs.View.{word_of as spot_word};
+
+/// The word of the spot.
+fn word_of(s: Spot) -> u64
+    requires { spot_word s < 2 ^ 48 }
+    ensures { result ≡ spot_word s }
+{
+    match s {
+        Spot::InBlock(b, index) => b.first_word + index,
+        Spot::Root(i) => ROOT_WORD + i,
+    }
+}
+
+impl<'a, C: Chance> HeapSeat for CacheSeat<'a, C> {
+    ghost use Rattle.heap_rule.specs.Left.{MayBeLeft};
+    ghost use Rattle.seat_view.specs.CacheState.{heap_view};
+    ghost use Rattle.seat_view.proofs.HeldLemmas.{may_be_law, mixed_law, named_law, seat_law, stored_law};
+    ghost use Rattle.thread_cache.specs.Keeps.{KeepsHeap};
+    ghost use Rattle.thread_cache.specs.Laws.{keeps_none_law, keeps_row_law};
+
+    ghost view = { heap_view };
+
+    ghost images = { λ s image. MayBeLeft s.view image };
+
+    ghost keeps = { KeepsHeap };
+
+    fn alloc(&mut self, bytes: u64) -> Result<Block, AllocFault> {
+        let _b = bytes;
+        Err(AllocFault::Stopped(Stopped { step: 0 }))
+    }
+
+    fn free(&mut self, b: Block) -> Result<(), Stopped> {
+        let _b = b;
+        Err(Stopped { step: 0 })
+    }
+
+    fn load(&mut self, s: Spot) -> Result<u64, Stopped> {
+        self.check_running()?;
+        self.seat.has_a_low_budget();
+        self.seat.has_a_sound_state();
+        let word = word_of(s);
+        let answer = load(&mut self.seat, self.shared, word, &mut self.chance);
+        self.seat.has_a_sound_state();
+        self.small_calls += 1;
+        answer
+    }
+
+    fn store(&mut self, s: Spot, value: u64) -> Result<(), Stopped> {
+        self.check_running()?;
+        self.seat.has_a_low_budget();
+        self.seat.has_a_sound_state();
+        let word = word_of(s);
+        let answer = store(&mut self.seat, self.shared, word, value, &mut self.chance);
+        self.seat.has_a_sound_state();
+        self.small_calls += 1;
+        answer
+    }
+
+    fn write_back(&mut self, s: Spot) -> Result<(), Stopped> {
+        self.check_running()?;
+        self.seat.has_a_low_budget();
+        self.seat.has_a_sound_state();
+        let word = word_of(s);
+        let answer = write_back(&mut self.seat, self.shared, word, &mut self.chance);
+        self.seat.has_a_sound_state();
+        self.small_calls += 1;
+        answer
+    }
+
+    fn fence(&mut self) -> Result<(), Stopped> {
+        self.check_running()?;
+        self.seat.has_a_low_budget();
+        self.seat.has_a_sound_state();
+        let answer = fence(&mut self.seat, self.shared, &mut self.chance);
+        self.seat.has_a_sound_state();
+        self.small_calls += 1;
+        answer
+    }
+
+    fn block(&self, offset: u64) -> Block {
+        self.seat.has_a_sound_state();
+        self.seat.block(self.shared, offset)
+    }
+
+    ghost seat = { seat_law };
+
+    ghost mixed = { mixed_law };
+
+    ghost stored_kinds = { stored_law };
+
+    ghost named = { named_law };
+
+    ghost keeps_none = { keeps_none_law };
+
+    ghost keeps_row = { keeps_row_law };
+
+    ghost may_be = { may_be_law };
+}

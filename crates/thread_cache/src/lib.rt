@@ -1,0 +1,8 @@
+//! A seat of an open heap that works by caches, lists and anchors, which threads share without a
+//! lock.
+#![tactic(auto)]
+
+mod cache_seat;
+mod calls;
+
+pub use cache_seat::CacheSeat;
