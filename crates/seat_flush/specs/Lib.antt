@@ -1,3 +1,4 @@
 pub mod Lifts
 pub mod Gives
 pub mod Flushes
+pub mod All

@@ -2,10 +2,12 @@
 //! as lie together.
 #![tactic(auto)]
 
+mod all;
 mod flushes;
 mod gives;
 mod lifts;
 
+pub use all::flush_all;
 pub use flushes::flush;
 pub use gives::give;
 pub use lifts::{Prefix, lift, lift_prefix};

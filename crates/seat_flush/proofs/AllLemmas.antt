@@ -1,0 +1,73 @@
+-- How far the flushing of all caches has come.
+use Rattle.std.proofs.Common.{◌≡◌, ◌<◌, ◌≤◌, ℕ, ◌+◌, inl, inr, List, [], get_or, length, set, None, refl, ap, sym, ◌∙◌, arith}
+use Rattle.std.proofs.lemmas.Bool.{cases_eq}
+use Rattle.std.proofs.lemmas.List.{get_or_default, get_or-set_other}
+use Rattle.heap_model.specs.Counting.{total}
+use Rattle.heap_model.specs.Geometry.{lists}
+use Rattle.heap_model.specs.Sizes.{IsClass}
+use Rattle.core_model.specs.View.{View, of_class}
+use Rattle.core_model.proofs.TotalLemmas.{total_set}
+use Rattle.heap_table.specs.Plays.{HasSoundState}
+use Rattle.seat_rows.specs.Rows.{Parts, Stops, ViewRow, parts}
+use Rattle.seat_rows.proofs.RowLemmas.{stops_later, view_row_none, view_row_then, view_row_within}
+use Rattle.seat_flush.specs.All.{HasFlushedAll, cached}
+use Rattle.seat_flush.specs.Flushes.{HasFlushed, flush_costs}
+use Rattle.seat_flush.proofs.LiftLemmas.{cache_set}
+
+-- the caches of the classes below a number are empty
+pub record FlushedBelow (number : ℕ) (v t : View) : Type 0 where
+  pub ran : v.stopped ≡ None
+  pub going : t.stopped ≡ None
+  pub parts_are : parts t ≡ record (parts v) { caches = t.caches }
+  pub empty : (class : ℕ) → IsClass class → class < number → of_class t.caches class ≡ []
+  pub flushed : ℕ
+  pub few : flushed + cached t ≡ cached v
+  pub row : ViewRow (flush_costs flushed) v t
+
+pub all_begins : (v : View) → v.stopped ≡ None → FlushedBelow 1 v v
+all_begins v going = record {
+  ran = going;
+  going = going;
+  parts_are = refl;
+  empty = λ class is low. let some = is.some in absurd (omega arith);
+  flushed = 0;
+  few = omega arith;
+  row = view_row_none v;
+}
+
+module _ (v t : View) (has : HasSoundState t) (number : ℕ) (is : IsClass number) (so_far : FlushedBelow number v t) where
+  below : number < length t.caches
+  below = let long = (has.sound.good.set_up has.seat t has.below has.at).caches in let last = is.last in omega arith
+
+  -- the cache of the class, among all
+  without_one : total length (set t.caches number []) + length (of_class t.caches number) ≡ cached t
+  without_one = let sum = total_set length t.caches number (of_class t.caches number) [] below (get_or_default t.caches number (of_class t.caches number) [] below) in omega arith
+
+  pub all_most : (w : View) → ViewRow (flush_costs (length (of_class t.caches number))) t w → ViewRow (flush_costs (cached v)) v w
+  all_most w row = let f = so_far.few in let one = without_one in
+      view_row_within (flush_costs (cached v)) v w (record { draws = omega arith; wins = omega arith; gives = omega arith; cuts = omega arith; taken = omega arith; moves = omega arith }) (view_row_then v t w so_far.row row)
+
+  pub all_stops : (w : View) (step : ℕ) → Stops step t w → Stops step v w
+  all_stops w step stop = stops_later v t w step so_far.ran so_far.going so_far.row stop
+
+  pub all_on : (w : View) → HasFlushed number t w → ViewRow (flush_costs (length (of_class t.caches number))) t w → FlushedBelow (number + 1) v w
+  all_on w done row =
+      let caches : w.caches ≡ set t.caches number [] = ap (λ (p : Parts). p.caches) done.parts_are in record {
+        ran = so_far.ran;
+        going = done.going;
+        parts_are = done.parts_are ∙ ap (λ (p : Parts). record p { caches = set t.caches number [] }) so_far.parts_are ∙ ap (λ l. record (parts v) { caches = l }) (sym caches);
+        empty = λ class is_class low. elim (cases_eq class number) as (λ _. of_class w.caches class ≡ []) [
+          | inl same ↦ ap (λ n. of_class w.caches n) same ∙ ap (λ l. of_class l number) caches ∙ cache_set t has number is []
+          | inr other ↦ ap (λ l. of_class l class) caches ∙ get_or-set_other t.caches number class [] [] other ∙ so_far.empty class is_class (omega (arith, other))
+        ];
+        flushed = so_far.flushed + length (of_class t.caches number);
+        few = let one = without_one in let f = so_far.few in let e = ap (λ l. total length l) caches in omega arith;
+        row = view_row_within (flush_costs (so_far.flushed + length (of_class t.caches number))) v w (record { draws = omega arith; wins = omega arith; gives = omega arith; cuts = omega arith; taken = omega arith; moves = omega arith }) (view_row_then v t w so_far.row row);
+      }
+
+pub all_done : (v t : View) → FlushedBelow 21 v t → HasFlushedAll v t
+all_done v t so_far = record { going = so_far.going; parts_are = so_far.parts_are; empty = λ class is. so_far.empty class is (let last = is.last in omega arith) }
+
+pub all_row : (v t : View) (number : ℕ) → FlushedBelow number v t → ViewRow (flush_costs (cached v)) v t
+all_row v t number so_far = let f = so_far.few in
+    view_row_within (flush_costs (cached v)) v t (record { draws = omega arith; wins = omega arith; gives = omega arith; cuts = omega arith; taken = omega arith; moves = omega arith }) so_far.row
