@@ -75,6 +75,7 @@ to_plain v w p = record {
   roots = p.roots;
   floor = p.floor;
   next = p.next;
+  tickets = p.tickets;
   more = record { draws = p.more.draws; wins = p.more.wins; losses = p.more.losses; gives = p.more.gives; moves = p.more.moves; cuts = p.more.cuts; taken = p.more.taken };
   most = record { draws = p.most.draws; wins = p.most.wins; gives = p.most.gives; cuts = p.most.cuts; taken = p.most.taken; moves = p.most.moves };
   looks = record { used = p.looks.used; heads = p.looks.heads; no_less = p.looks.no_less };
@@ -86,6 +87,7 @@ from_plain v w p = record {
   roots = p.roots;
   floor = p.floor;
   next = p.next;
+  tickets = p.tickets;
   more = record { draws = p.more.draws; wins = p.more.wins; losses = p.more.losses; gives = p.more.gives; moves = p.more.moves; cuts = p.more.cuts; taken = p.more.taken };
   most = record { draws = p.most.draws; wins = p.most.wins; gives = p.most.gives; cuts = p.most.cuts; taken = p.most.taken; moves = p.most.moves };
   looks = record { used = p.looks.used; heads = p.looks.heads; no_less = p.looks.no_less };
@@ -115,12 +117,13 @@ row_as {a} u v w same = subst (ViewRow a u) (sym same)
 abbrev pub counted : View → View → Standing
 counted v w = record (standing v) { floor = w.floor; taken = w.taken; draws = w.draws; cuts = w.cuts; wins = w.wins; losses = w.losses; gives = w.gives; moves = w.moves }
 
-pub passes_counted : {a : Costs} (v w : View) → standing w ≡ counted v w → v.floor ≤ w.floor → NoneFalls v w → RisesBy a v w → Passes a v w
-passes_counted v w same floor more most = record {
+pub passes_counted : {a : Costs} (v w : View) → standing w ≡ counted v w → v.floor ≤ w.floor → w.draws ≤ v.draws → NoneFalls v w → RisesBy a v w → Passes a v w
+passes_counted v w same floor few more most = record {
   setup = ap (λ (s : Standing). s.setup) same;
   roots = ap (λ (s : Standing). s.roots) same;
   floor = floor;
   next = let e = ap (λ (s : Standing). after_ticket s.last_ticket) same in omega arith;
+  tickets = let e = ap (λ (s : Standing). after_ticket s.last_ticket) same in omega arith;
   more = more;
   most = most;
   looks = record {
@@ -130,9 +133,9 @@ passes_counted v w same floor more most = record {
   };
 }
 
-pub row_counted : {a : Costs} (v w : View) → recording w ≡ (counted v w, v.small, v.large, v.volatile, v.durable) → v.floor ≤ w.floor → NoneFalls v w → RisesBy a v w → ViewRow a v w
-row_counted v w same floor more most = record {
-  passes = passes_counted v w (ap (λ r. r.0) same) floor more most;
+pub row_counted : {a : Costs} (v w : View) → recording w ≡ (counted v w, v.small, v.large, v.volatile, v.durable) → v.floor ≤ w.floor → w.draws ≤ v.draws → NoneFalls v w → RisesBy a v w → ViewRow a v w
+row_counted v w same floor few more most = record {
+  passes = passes_counted v w (ap (λ r. r.0) same) floor few more most;
   small = ap (λ r. r.1) same;
   large = ap (λ r. r.2) same;
   words = λ k held. word_same v w k (ap (λ r. get_or r.3 k None) same) (ap (λ r. get_or r.4 k None) same);
@@ -143,36 +146,36 @@ falls_none : (v w : View) → v.draws ≤ w.draws → v.wins ≤ w.wins → v.lo
 falls_none v w draws wins losses gives moves cuts taken = record { draws = draws; wins = wins; losses = losses; gives = gives; moves = moves; cuts = cuts; taken = taken }
 
 pub lost_row : (v : View) (found : ℕ) → ViewRow one_loss v (lost v found)
-lost_row v found = row_counted v (lost v found) refl (omega arith) (falls_none v (lost v found) (omega arith) (omega arith) (omega arith) (omega arith) (omega arith) (omega arith) (omega arith))
+lost_row v found = row_counted v (lost v found) refl (omega arith) (omega arith) (falls_none v (lost v found) (omega arith) (omega arith) (omega arith) (omega arith) (omega arith) (omega arith) (omega arith))
     (record { draws = omega arith; wins = omega arith; gives = omega arith; cuts = omega arith; taken = omega arith; moves = omega arith })
 
 pub won_row : (v : View) → ViewRow one_win v (won v)
-won_row v = row_counted v (won v) refl (omega arith) (falls_none v (won v) (omega arith) (omega arith) (omega arith) (omega arith) (omega arith) (omega arith) (omega arith))
+won_row v = row_counted v (won v) refl (omega arith) (omega arith) (falls_none v (won v) (omega arith) (omega arith) (omega arith) (omega arith) (omega arith) (omega arith) (omega arith))
     (record { draws = omega arith; wins = omega arith; gives = omega arith; cuts = omega arith; taken = omega arith; moves = omega arith })
 
 pub gave_row : (v : View) → ViewRow one_give v (record (won v) { gives = v.gives + 1 })
 gave_row v = let w : View = record (won v) { gives = v.gives + 1 } in
-    row_counted v w refl (omega arith) (falls_none v w (omega arith) (omega arith) (omega arith) (omega arith) (omega arith) (omega arith) (omega arith))
+    row_counted v w refl (omega arith) (omega arith) (falls_none v w (omega arith) (omega arith) (omega arith) (omega arith) (omega arith) (omega arith) (omega arith))
     (record { draws = omega arith; wins = omega arith; gives = omega arith; cuts = omega arith; taken = omega arith; moves = omega arith })
 
 pub moved_row : (v : View) → ViewRow one_move v (record (won v) { moves = v.moves + 1 })
 moved_row v = let w : View = record (won v) { moves = v.moves + 1 } in
-    row_counted v w refl (omega arith) (falls_none v w (omega arith) (omega arith) (omega arith) (omega arith) (omega arith) (omega arith) (omega arith))
+    row_counted v w refl (omega arith) (omega arith) (falls_none v w (omega arith) (omega arith) (omega arith) (omega arith) (omega arith) (omega arith) (omega arith))
     (record { draws = omega arith; wins = omega arith; gives = omega arith; cuts = omega arith; taken = omega arith; moves = omega arith })
 
 pub took_row : (v : View) (n : ℕ) → ViewRow (record one_win { taken = n }) v (record (won v) { taken = v.taken + n })
 took_row v n = let w : View = record (won v) { taken = v.taken + n } in
-    row_counted v w refl (omega arith) (falls_none v w (omega arith) (omega arith) (omega arith) (omega arith) (omega arith) (omega arith) (omega arith))
+    row_counted v w refl (omega arith) (omega arith) (falls_none v w (omega arith) (omega arith) (omega arith) (omega arith) (omega arith) (omega arith) (omega arith))
     (record { draws = omega arith; wins = omega arith; gives = omega arith; cuts = omega arith; taken = omega arith; moves = omega arith })
 
 pub cut_row : (v : View) → ViewRow (record no_costs { cuts = 1 }) v (record v { cuts = v.cuts + 1 })
 cut_row v = let w : View = record v { cuts = v.cuts + 1 } in
-    row_counted v w refl (omega arith) (falls_none v w (omega arith) (omega arith) (omega arith) (omega arith) (omega arith) (omega arith) (omega arith))
+    row_counted v w refl (omega arith) (omega arith) (falls_none v w (omega arith) (omega arith) (omega arith) (omega arith) (omega arith) (omega arith) (omega arith))
     (record { draws = omega arith; wins = omega arith; gives = omega arith; cuts = omega arith; taken = omega arith; moves = omega arith })
 
 pub raised_row : (v : View) (floor : ℕ) → v.floor ≤ floor → ViewRow no_costs v (record v { floor = floor })
 raised_row v floor less = let w : View = record v { floor = floor } in
-    row_counted v w refl less (falls_none v w (omega arith) (omega arith) (omega arith) (omega arith) (omega arith) (omega arith) (omega arith))
+    row_counted v w refl less (omega arith) (falls_none v w (omega arith) (omega arith) (omega arith) (omega arith) (omega arith) (omega arith) (omega arith))
     (record { draws = omega arith; wins = omega arith; gives = omega arith; cuts = omega arith; taken = omega arith; moves = omega arith })
 
 -- what is done at no cost
@@ -196,6 +199,7 @@ drew_row v ticket later = record {
     roots = refl;
     floor = omega arith;
     next = omega arith;
+    tickets = omega arith;
     more = falls_none v (drew v ticket) (omega arith) (omega arith) (omega arith) (omega arith) (omega arith) (omega arith) (omega arith);
     most = record { draws = omega arith; wins = omega arith; gives = omega arith; cuts = omega arith; taken = omega arith; moves = omega arith };
     looks = record { used = inl refl; heads = λ list. inl refl; no_less = omega arith };

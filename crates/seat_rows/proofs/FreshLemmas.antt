@@ -61,6 +61,7 @@ module _ (v u : View) (drawn : HasDrawn v u) (row : ViewRow one_draw v u) where
       roots = row.passes.roots;
       floor = row.passes.floor;
       next = row.passes.next;
+      tickets = row.passes.tickets;
       more = let m = row.passes.more in record { draws = m.draws; wins = m.wins; losses = m.losses; gives = m.gives; moves = m.moves; cuts = m.cuts; taken = m.taken };
       most = let m = row.passes.most in record { draws = m.draws; wins = m.wins; gives = m.gives; cuts = m.cuts; taken = m.taken; moves = m.moves };
       looks = record { used = row.passes.looks.used; heads = heads; no_less = row.passes.looks.no_less };
@@ -83,6 +84,7 @@ module _ (v u : View) (drawn : HasDrawn v u) (row : ViewRow one_draw v u) where
       roots = row.passes.roots;
       floor = row.passes.floor;
       next = row.passes.next;
+      tickets = row.passes.tickets;
       more = let m = row.passes.more in record { draws = m.draws; wins = m.wins; losses = m.losses; gives = m.gives; moves = m.moves; cuts = m.cuts; taken = m.taken };
       most = let m = row.passes.most in record { draws = m.draws; wins = m.wins; gives = m.gives; cuts = m.cuts; taken = m.taken; moves = m.moves };
       looks = record { used = inr (made found); heads = heads; no_less = less };

@@ -14,6 +14,7 @@ passes_none v = record {
   roots = refl;
   floor = omega arith;
   next = omega arith;
+  tickets = omega arith;
   more = record { draws = omega arith; wins = omega arith; losses = omega arith; gives = omega arith; moves = omega arith; cuts = omega arith; taken = omega arith };
   most = record { draws = omega arith; wins = omega arith; gives = omega arith; cuts = omega arith; taken = omega arith; moves = omega arith };
   looks = record { used = inl refl; heads = λ list. inl refl; no_less = omega arith };
@@ -73,6 +74,7 @@ passes_then u v w p q = record {
   roots = q.roots ∙ p.roots;
   floor = let x = p.floor in let y = q.floor in omega arith;
   next = let x = p.next in let y = q.next in omega arith;
+  tickets = let x = p.tickets in let y = q.tickets in omega arith;
   more = none_falls u v w p.more q.more;
   most = rises_then u v w p.most q.most;
   looks = looks_then u v w p.next q.next p.more.taken q.more.taken p.looks q.looks;
@@ -115,6 +117,7 @@ passes_within b v w less p = record {
   roots = p.roots;
   floor = p.floor;
   next = p.next;
+  tickets = p.tickets;
   more = p.more;
   most = record {
     draws = let x = p.most.draws in let y = less.draws in omega arith;
@@ -142,6 +145,7 @@ row_moves v w p = record {
       roots = p.view.passes.roots;
       floor = p.view.passes.floor;
       next = p.view.passes.next;
+      tickets = p.view.passes.tickets;
       more = p.view.passes.more;
       most = let m = p.view.passes.most in record { draws = m.draws; wins = m.wins; gives = m.gives; cuts = m.cuts; taken = m.taken; moves = omega arith };
       looks = p.view.passes.looks;

@@ -38,12 +38,13 @@ pub record SameLooks (v w : View) : Type 0 where
   pub used : w.used_look ≡ v.used_look
   pub heads : w.head_looks ≡ v.head_looks
 
--- what any row of steps leaves, whatever it answers, and what it costs
+-- what any row of steps leaves, whatever it answers, and what it costs; tickets rise by one at least for each that is drawn
 pub record Passes (costs : Costs) (v w : View) : Type 0 where
   pub setup : w.setup ≡ v.setup
   pub roots : w.roots ≡ v.roots
   pub floor : v.floor ≤ w.floor
   pub next : next_of v ≤ next_of w
+  pub tickets : w.draws + next_of v ≤ v.draws + next_of w
   pub more : NoneFalls v w
   pub most : RisesBy costs v w
   pub looks : KeepsLooks v w
