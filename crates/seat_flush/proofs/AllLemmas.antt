@@ -1,18 +1,32 @@
 -- How far the flushing of all caches has come.
-use Rattle.std.proofs.Common.{◌≡◌, ◌<◌, ◌≤◌, ℕ, ◌+◌, inl, inr, List, [], get_or, length, set, None, refl, ap, sym, ◌∙◌, arith}
-use Rattle.std.proofs.lemmas.Bool.{cases_eq}
+use Rattle.std.proofs.Common.{◌≡◌, ◌<◌, ◌≤◌, ℕ, suc, ◌+◌, inl, inr, List, [], ◌∷◌, get_or, length, set, None, refl, ap, sym, subst, ◌∙◌, arith}
+use Rattle.std.proofs.lemmas.Bool.{cases_eq, cases_lt}
 use Rattle.std.proofs.lemmas.List.{get_or_default, get_or-set_other}
-use Rattle.heap_model.specs.Counting.{total}
+use Rattle.heap_model.specs.Counting.{times, total}
 use Rattle.heap_model.specs.Geometry.{lists}
-use Rattle.heap_model.specs.Sizes.{IsClass}
+use Rattle.heap_model.specs.Sizes.{IsClass, last_class}
 use Rattle.core_model.specs.View.{View, of_class}
-use Rattle.core_model.proofs.TotalLemmas.{total_set}
+use Rattle.core_model.proofs.OwnerLemmas.{in_lists_total}
+use Rattle.core_model.proofs.TotalLemmas.{eq-eqb-one, total_set}
+use Rattle.heap_rule.proofs.ViewLemmas.{block_class}
 use Rattle.heap_table.specs.Plays.{HasSoundState}
 use Rattle.seat_rows.specs.Rows.{Parts, Stops, ViewRow, parts}
 use Rattle.seat_rows.proofs.RowLemmas.{stops_later, view_row_none, view_row_then, view_row_within}
 use Rattle.seat_flush.specs.All.{HasFlushedAll, cached}
 use Rattle.seat_flush.specs.Flushes.{HasFlushed, flush_costs}
 use Rattle.seat_flush.proofs.LiftLemmas.{cache_set}
+
+-- there is no block of class 0, which is none
+pub first_none : (v : View) → HasSoundState v → length (of_class v.caches 0) ≡ 0
+first_none v has = by_blocks (of_class v.caches 0) refl where
+  by_blocks : (bs : List ℕ) → of_class v.caches 0 ≡ bs → length bs ≡ 0
+  by_blocks [] is = refl
+  by_blocks (b ∷ bs) is =
+      let there : 0 < times b (of_class v.caches 0) = subst (λ l. 0 < times b l) (sym is) (let one = eq-eqb-one b b refl in omega arith) in
+      let info_is = (has.sound.good.blocks has.seat v has.below has.at).cached 0 b there in
+      let had = in_lists_total b 0 v.caches there in
+      let class : IsClass 0 = subst IsClass info_is (block_class v has b (omega arith)) in
+      let some = class.some in absurd (omega arith)
 
 -- the caches of the classes below a number are empty
 pub record FlushedBelow (number : ℕ) (v t : View) : Type 0 where
@@ -21,6 +35,7 @@ pub record FlushedBelow (number : ℕ) (v t : View) : Type 0 where
   pub parts_are : parts t ≡ record (parts v) { caches = t.caches }
   pub empty : (class : ℕ) → IsClass class → class < number → of_class t.caches class ≡ []
   pub flushed : ℕ
+  pub more : 1 ≤ flushed → v.draws < t.draws
   pub few : flushed + cached t ≡ cached v
   pub row : ViewRow (flush_costs flushed) v t
 
@@ -31,6 +46,7 @@ all_begins v going = record {
   parts_are = refl;
   empty = λ class is low. let some = is.some in absurd (omega arith);
   flushed = 0;
+  more = λ some. absurd (omega arith);
   few = omega arith;
   row = view_row_none v;
 }
@@ -61,12 +77,35 @@ module _ (v t : View) (has : HasSoundState t) (number : ℕ) (is : IsClass numbe
           | inr other ↦ ap (λ l. of_class l class) caches ∙ get_or-set_other t.caches number class [] [] other ∙ so_far.empty class is_class (omega (arith, other))
         ];
         flushed = so_far.flushed + length (of_class t.caches number);
+        more = λ some. elim (cases_lt 0 so_far.flushed) as (λ _. v.draws < w.draws) [
+          | inl before ↦ let past = so_far.more before in let rest = row.passes.more.draws in omega arith
+          | inr none ↦ let past = so_far.row.passes.more.draws in let now = done.more (omega arith) in omega arith
+        ];
         few = let one = without_one in let f = so_far.few in let e = ap (λ l. total length l) caches in omega arith;
         row = view_row_within (flush_costs (so_far.flushed + length (of_class t.caches number))) v w (record { draws = omega arith; wins = omega arith; gives = omega arith; cuts = omega arith; taken = omega arith; moves = omega arith }) (view_row_then v t w so_far.row row);
       }
 
-pub all_done : (v t : View) → FlushedBelow 21 v t → HasFlushedAll v t
-all_done v t so_far = record { going = so_far.going; parts_are = so_far.parts_are; empty = λ class is. so_far.empty class is (let last = is.last in omega arith) }
+-- a list of lists that are all empty has no member
+none_cached : (xs : List (List ℕ)) → ((i : ℕ) → i < length xs → length (get_or xs i []) ≡ 0) → total length xs ≡ 0
+none_cached [] none = refl
+none_cached (x ∷ xs) none = let first = none 0 (omega arith) in let rest = none_cached xs (λ i less. none (suc i) (omega arith)) in omega arith
+
+-- and so has one of a seat that has no block of a class
+pub none_of_all : (t : View) → HasSoundState t → ((class : ℕ) → IsClass class → of_class t.caches class ≡ []) → cached t ≡ 0
+none_of_all t has empty = none_cached t.caches (λ i less. elim (cases_lt 0 i) as (λ _. length (of_class t.caches i) ≡ 0) [
+  | inl some ↦ ap length (empty i (record { some = some; last = let long = (has.sound.good.set_up has.seat t has.below has.at).caches in omega arith }))
+  | inr zeroth ↦ let same : i ≡ 0 = omega arith in ap (λ n. length (of_class t.caches n)) same ∙ first_none t has
+])
+
+pub all_done : (v t : View) (number : ℕ) → HasSoundState t → last_class < number → FlushedBelow number v t → HasFlushedAll v t
+all_done v t number has past so_far =
+    let empty : (class : ℕ) → IsClass class → of_class t.caches class ≡ [] = λ class is. so_far.empty class is (let last = is.last in omega arith) in
+    let none = none_of_all t has empty in record {
+      going = so_far.going;
+      more = λ some. so_far.more (let f = so_far.few in omega arith);
+      parts_are = so_far.parts_are;
+      empty = empty;
+    }
 
 pub all_row : (v t : View) (number : ℕ) → FlushedBelow number v t → ViewRow (flush_costs (cached v)) v t
 all_row v t number so_far = let f = so_far.few in

@@ -112,6 +112,7 @@ pub record Flushing (class : ℕ) (v t : View) : Type 0 where
   pub flushed : List ℕ
   pub rest : List ℕ
   pub both : of_class v.caches class ≡ flushed ++ rest
+  pub more : 1 ≤ length flushed → v.draws < t.draws
   pub parts_are : parts t ≡ with_cache class rest (parts v)
   pub row : ViewRow (flush_costs (length flushed)) v t
 
@@ -131,6 +132,7 @@ flushing_begins v class going = record {
   flushed = [];
   rest = of_class v.caches class;
   both = refl;
+  more = λ some. absurd (omega arith);
   parts_are = ap (λ l. record (parts v) { caches = l }) (sym (set_own v.caches class));
   row = view_row_none v;
 }
@@ -156,7 +158,7 @@ module _ (v t : View) (has : HasSoundState v) (class : ℕ) (is : IsClass class)
   flushing_stops w step stop = stops_later v t w step flushing.ran flushing.going flushing.row stop
 
   pub flushing_done : length (of_class t.caches class) ≡ 0 → HasFlushed class v t
-  flushing_done none = record { going = flushing.going; parts_are = flushing.parts_are ∙ ap (λ bs. with_cache class bs (parts v)) (empty flushing.rest (let r = ap length flushing_cache in omega arith)) } where
+  flushing_done none = record { going = flushing.going; more = λ some. flushing.more (let f = few_left in omega arith); parts_are = flushing.parts_are ∙ ap (λ bs. with_cache class bs (parts v)) (empty flushing.rest (let r = ap length flushing_cache in omega arith)) } where
     empty : (bs : List ℕ) → length bs ≡ 0 → bs ≡ []
     empty [] e = refl
     empty (b ∷ bs) e = absurd (omega arith)
@@ -167,6 +169,7 @@ module _ (v t : View) (has : HasSoundState v) (class : ℕ) (is : IsClass class)
     going = prefix.going;
     flushed = flushing.flushed ++ prefix.flushed;
     rest = prefix.rest;
+    more = λ some. let before = flushing.row.passes.more.draws in let now = prefix.more in omega arith;
     both = flushing.both ∙ ap (λ bs. flushing.flushed ++ bs) (sym flushing_cache ∙ prefix.both) ∙ sym (append_three flushing.flushed prefix.flushed prefix.rest);
     parts_are = prefix.parts_are ∙ ap (with_cache class prefix.rest) flushing.parts_are ∙ ap (λ l. record (parts v) { caches = l }) (set-set v.caches class flushing.rest prefix.rest);
     row = let many = length-append flushing.flushed prefix.flushed in

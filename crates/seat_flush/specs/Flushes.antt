@@ -34,4 +34,5 @@ pub record HasFlushedPrefix (class : ℕ) (v w : View) : Type 0 where
 -- all are
 pub record HasFlushed (class : ℕ) (v w : View) : Type 0 where
   pub going : w.stopped ≡ None
+  pub more : 1 ≤ length (of_class v.caches class) → v.draws < w.draws
   pub parts_are : parts w ≡ with_cache class [] (parts v)

@@ -27,5 +27,6 @@ pub fn flush_all<C: Chance>(seat: &mut Seat, shared: &Shared, chance: &mut C) ->
         seat.has_a_sound_state();
         flush(seat, shared, SizeClass::new(number), chance)?;
     }
+    seat.has_a_sound_state();
     Ok(())
 }

@@ -1,6 +1,6 @@
 use Rattle.std.proofs.Common.{◌+◌, inl, subst, sym}
 use Rattle.seat_rows.proofs.RowLemmas.{marks_behind}
-use Rattle.seat_flush.proofs.AllLemmas.{FlushedBelow, all_begins, all_most, all_on, all_row, all_stops}
+use Rattle.seat_flush.proofs.AllLemmas.{FlushedBelow, all_begins, all_done, all_most, all_on, all_row, all_stops}
 use Rattle.seat_flush.proofs.all.flush_all.Goals as goal
 
 pub loop-number-init : goal.loop-number-init
@@ -25,3 +25,6 @@ returns-clause-row g c = record {
   view = all_row c.args.seat.now.view c.loop-number.seat.view c.loop-number.number c.loop-number.invariant.flushed;
   marks = c.loop-number.invariant.marks;
 }
+
+pub returns-clause-flushed : goal.returns-clause-flushed
+returns-clause-flushed g c = all_done c.args.seat.now.view c.loop-number.seat.view c.loop-number.number c.has_a_sound_state-2.ensures c.loop-number-test.false c.loop-number.invariant.flushed
