@@ -36,6 +36,7 @@ pub record FlushedBelow (number : ℕ) (v t : View) : Type 0 where
   pub empty : (class : ℕ) → IsClass class → class < number → of_class t.caches class ≡ []
   pub flushed : ℕ
   pub more : 1 ≤ flushed → v.draws < t.draws
+  pub gave : 1 ≤ flushed → v.gives < t.gives
   pub few : flushed + cached t ≡ cached v
   pub row : ViewRow (flush_costs flushed) v t
 
@@ -47,6 +48,7 @@ all_begins v going = record {
   empty = λ class is low. let some = is.some in absurd (omega arith);
   flushed = 0;
   more = λ some. absurd (omega arith);
+  gave = λ some. absurd (omega arith);
   few = omega arith;
   row = view_row_none v;
 }
@@ -81,6 +83,10 @@ module _ (v t : View) (has : HasSoundState t) (number : ℕ) (is : IsClass numbe
           | inl before ↦ let past = so_far.more before in let rest = row.passes.more.draws in omega arith
           | inr none ↦ let past = so_far.row.passes.more.draws in let now = done.more (omega arith) in omega arith
         ];
+        gave = λ some. elim (cases_lt 0 so_far.flushed) as (λ _. v.gives < w.gives) [
+          | inl before ↦ let past = so_far.gave before in let rest = row.passes.more.gives in omega arith
+          | inr none ↦ let past = so_far.row.passes.more.gives in let now = done.gave (omega arith) in omega arith
+        ];
         few = let one = without_one in let f = so_far.few in let e = ap (λ l. total length l) caches in omega arith;
         row = view_row_within (flush_costs (so_far.flushed + length (of_class t.caches number))) v w (record { draws = omega arith; wins = omega arith; gives = omega arith; cuts = omega arith; taken = omega arith; moves = omega arith }) (view_row_then v t w so_far.row row);
       }
@@ -103,6 +109,7 @@ all_done v t number has past so_far =
     let none = none_of_all t has empty in record {
       going = so_far.going;
       more = λ some. so_far.more (let f = so_far.few in omega arith);
+      gave = λ some. so_far.gave (let f = so_far.few in omega arith);
       parts_are = so_far.parts_are;
       empty = empty;
     }

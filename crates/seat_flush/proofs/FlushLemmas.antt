@@ -91,12 +91,13 @@ module _ (v t x : View) (has : HasSoundState v) (class d last : ℕ) (is : IsCla
   prefix_row w less row = let f = few in let s = prefix.lifting.some in
       view_row_within (flush_costs (length (of_class v.caches class))) v w (record { draws = let l = less.draws in omega arith; wins = let l = less.wins in omega arith; gives = let l = less.gives in omega arith; cuts = let l = less.cuts in omega arith; taken = let l = less.taken in omega arith; moves = let l = less.moves in omega arith }) (view_row_then v t w prefix.lifting.row row)
 
-  pub prefix_done : {a : Costs} (w : View) → IsWithin a (record no_costs { draws = 7; wins = 2; gives = 1; moves = 1 }) → ViewRow a t w → w.stopped ≡ None → parts w ≡ with_cache class rest (parts v) → HasFlushedPrefix class v w
-  prefix_done w less row going same = record {
+  pub prefix_done : {a : Costs} (w : View) → IsWithin a (record no_costs { draws = 7; wins = 2; gives = 1; moves = 1 }) → ViewRow a t w → w.stopped ≡ None → t.gives < w.gives → parts w ≡ with_cache class rest (parts v) → HasFlushedPrefix class v w
+  prefix_done w less row going gave same = record {
     ran = prefix.lifting.ran;
     going = going;
     room = prefix.lifting.room;
     more = let d = row.passes.more.draws in let m = prefix.lifting.more in omega arith;
+    gave = let g = prefix.lifting.row.passes.more.gives in omega arith;
     flushed = lifted;
     rest = rest;
     both = prefix.lifting.both;
@@ -113,6 +114,7 @@ pub record Flushing (class : ℕ) (v t : View) : Type 0 where
   pub rest : List ℕ
   pub both : of_class v.caches class ≡ flushed ++ rest
   pub more : 1 ≤ length flushed → v.draws < t.draws
+  pub gave : 1 ≤ length flushed → v.gives < t.gives
   pub parts_are : parts t ≡ with_cache class rest (parts v)
   pub row : ViewRow (flush_costs (length flushed)) v t
 
@@ -133,6 +135,7 @@ flushing_begins v class going = record {
   rest = of_class v.caches class;
   both = refl;
   more = λ some. absurd (omega arith);
+  gave = λ some. absurd (omega arith);
   parts_are = ap (λ l. record (parts v) { caches = l }) (sym (set_own v.caches class));
   row = view_row_none v;
 }
@@ -158,7 +161,7 @@ module _ (v t : View) (has : HasSoundState v) (class : ℕ) (is : IsClass class)
   flushing_stops w step stop = stops_later v t w step flushing.ran flushing.going flushing.row stop
 
   pub flushing_done : length (of_class t.caches class) ≡ 0 → HasFlushed class v t
-  flushing_done none = record { going = flushing.going; more = λ some. flushing.more (let f = few_left in omega arith); parts_are = flushing.parts_are ∙ ap (λ bs. with_cache class bs (parts v)) (empty flushing.rest (let r = ap length flushing_cache in omega arith)) } where
+  flushing_done none = record { going = flushing.going; more = λ some. flushing.more (let f = few_left in omega arith); gave = λ some. flushing.gave (let f = few_left in omega arith); parts_are = flushing.parts_are ∙ ap (λ bs. with_cache class bs (parts v)) (empty flushing.rest (let r = ap length flushing_cache in omega arith)) } where
     empty : (bs : List ℕ) → length bs ≡ 0 → bs ≡ []
     empty [] e = refl
     empty (b ∷ bs) e = absurd (omega arith)
@@ -170,6 +173,7 @@ module _ (v t : View) (has : HasSoundState v) (class : ℕ) (is : IsClass class)
     flushed = flushing.flushed ++ prefix.flushed;
     rest = prefix.rest;
     more = λ some. let before = flushing.row.passes.more.draws in let now = prefix.more in omega arith;
+    gave = λ some. let before = flushing.row.passes.more.gives in let now = prefix.gave in omega arith;
     both = flushing.both ∙ ap (λ bs. flushing.flushed ++ bs) (sym flushing_cache ∙ prefix.both) ∙ sym (append_three flushing.flushed prefix.flushed prefix.rest);
     parts_are = prefix.parts_are ∙ ap (with_cache class prefix.rest) flushing.parts_are ∙ ap (λ l. record (parts v) { caches = l }) (set-set v.caches class flushing.rest prefix.rest);
     row = let many = length-append flushing.flushed prefix.flushed in

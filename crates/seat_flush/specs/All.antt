@@ -13,5 +13,6 @@ cached v = total length v.caches
 pub record HasFlushedAll (v w : View) : Type 0 where
   pub going : w.stopped ≡ None
   pub more : 1 ≤ cached v → v.draws < w.draws
+  pub gave : 1 ≤ cached v → v.gives < w.gives
   pub parts_are : parts w ≡ record (parts v) { caches = w.caches }
   pub empty : (class : ℕ) → IsClass class → of_class w.caches class ≡ []

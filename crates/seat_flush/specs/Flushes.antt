@@ -24,6 +24,7 @@ pub record HasFlushedPrefix (class : ℕ) (v w : View) : Type 0 where
   pub going : w.stopped ≡ None
   pub room : v.draws < v.setup.budget
   pub more : v.draws < w.draws
+  pub gave : v.gives < w.gives
   pub flushed : List ℕ
   pub rest : List ℕ
   pub both : of_class v.caches class ≡ flushed ++ rest
@@ -35,4 +36,5 @@ pub record HasFlushedPrefix (class : ℕ) (v w : View) : Type 0 where
 pub record HasFlushed (class : ℕ) (v w : View) : Type 0 where
   pub going : w.stopped ≡ None
   pub more : 1 ≤ length (of_class v.caches class) → v.draws < w.draws
+  pub gave : 1 ≤ length (of_class v.caches class) → v.gives < w.gives
   pub parts_are : parts w ≡ with_cache class [] (parts v)

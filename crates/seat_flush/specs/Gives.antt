@@ -36,6 +36,7 @@ given_parts false d class p = record p { batch = no_batch }
 
 pub record HasGiven (d class : ℕ) (full : Bool) (v w : View) : Type 0 where
   pub going : w.stopped ≡ None
+  pub gave : v.gives < w.gives
   pub parts_are : parts w ≡ given_parts full d class (parts v)
   pub durable : full ≡ true → d < w.floor
 
