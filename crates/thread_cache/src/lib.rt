@@ -4,5 +4,6 @@
 
 mod cache_seat;
 mod calls;
+mod quiet;
 
 pub use cache_seat::CacheSeat;

@@ -1,0 +1,100 @@
+-- What a call that takes or gives blocks is for a seat of a heap, besides what it does to the blocks.
+use Rattle.std.proofs.Common.{◌≡◌, ◌<◌, ◌≤◌, ◌⊎◌, ℕ, ◌+◌, ◌*◌, inl, inr, Option, None, Some, Result, Ok, Err, OnOk, IfErr, refl, ap, sym, subst, ◌∙◌, arith}
+use Rattle.heap_seat.specs.Calls.{IsLargeCall, counted}
+use Rattle.heap_seat.specs.Looks.{IsMade as IsMadeHeap, KeepsLooks as KeepsHeapLooks}
+use Rattle.heap_seat.specs.Tickets.{Stops as HeapStops}
+use Rattle.heap_seat.specs.Words.{IsOwn, KeepsOwn, KeepsPending}
+use Rattle.line_memory.specs.declared.memory.Stopped.{Stopped}
+use Rattle.core_model.specs.View.{LastLook, View}
+use Rattle.heap_table.specs.Plays.{HasSoundState}
+use Rattle.heap_rule.specs.Seated.{SeatView}
+use Rattle.seat_rows.specs.Costs.{Costs}
+use Rattle.seat_rows.specs.Rows.{IsKeptOrMade, IsMade, Passes, Row, Stops, ViewRow, after_ticket, head_look, next_of}
+use Rattle.seat_view.specs.CacheState.{CacheState, CallCounts, HasCounts, IsStateOf, counts_of, heap_view, heap_view_of, look_of}
+use Rattle.seat_view.proofs.HeldLemmas.{kept_at, pending_at}
+use Rattle.thread_cache.specs.Keeps.{KeepsCosts, most_draws, most_gives, most_wins}
+use Rattle.thread_cache.proofs.CallLemmas.{at_state, goes_on_law, stops_law}
+
+-- a state, and the seat and the counts after a call of it that counts as a large one
+pub record LargeStep (s : CacheState) (x y : SeatView) (n : CallCounts) : Type 0 where
+  pub was : IsStateOf s x
+  pub has : HasSoundState y.view
+  pub ran : s.view.stopped ≡ None
+  pub small : n.small_calls ≡ s.small_calls
+  pub large : n.large_calls ≡ s.large_calls + 1
+
+pub large_step : (before s : CacheState) → before ≡ s → (x y : SeatView) → x.view ≡ before.view → x.marks ≡ before.marks → HasSoundState y.view → s.view.stopped ≡ None
+    → LargeStep s x y (record (counts_of before) { large_calls = before.large_calls + 1 })
+large_step before s is x y view marks has ran = record {
+  was = record { view = view ∙ ap (λ (s : CacheState). s.view) is; marks = marks ∙ ap (λ (s : CacheState). s.marks) is };
+  has = has;
+  ran = ran;
+  small = ap (λ (s : CacheState). s.small_calls) is;
+  large = ap (λ (s : CacheState). s.large_calls + 1) is;
+}
+
+-- what a call may cost at most
+pub record IsFew (costs : Costs) : Type 0 where
+  pub draws : costs.draws ≤ most_draws + costs.credit
+  pub wins : costs.wins ≤ most_wins + costs.refund
+  pub gives : costs.gives ≤ most_gives
+  pub cuts : costs.cuts ≤ 1
+
+-- a last look, for the core and for the heap
+look_law : (v w : View) (before now : LastLook) → IsKeptOrMade v w before now
+    → (look_of now ≡ look_of before) ⊎ IsMadeHeap (next_of v) (next_of w) v.taken w.taken (look_of now)
+look_law v w before now (inl same) = inl (ap look_of same)
+look_law v w before now (inr made) = inr (record { ticket = made.ticket; by = made.by; since = made.since; below = made.below; least = made.taken_least; most = made.taken_most })
+
+module _ {a : Costs} (s : CacheState) (x y : SeatView) (n : CallCounts) (step : LargeStep s x y n) (passed : Passes a x.view y.view) where
+  passes : Passes a s.view y.view
+  passes = at_state (λ v. Passes a v y.view) s x step.was passed
+
+  pub large_counted : (most : ℕ) → a.taken ≤ most → IsLargeCall most (heap_view s) (heap_view_of y.view y.marks n)
+  large_counted most few = record {
+    goes_on = goes_on_law s.view y.view s.marks y.marks (counts_of s) n passes;
+    small = step.small;
+    large = step.large ∙ ap (λ o. counted o s.large_calls) (sym step.ran);
+    taken = passes.more.taken;
+    few = let t = passes.most.taken in omega arith;
+    looks = record {
+      used = look_law s.view y.view s.view.used_look y.view.used_look passes.looks.used;
+      heads = λ list. look_law s.view y.view (head_look s.view list) (head_look y.view list) (passes.looks.heads list);
+    };
+  }
+
+  pub large_keeps : IsFew a → KeepsCosts s.view s.small_calls s.large_calls y.view n.small_calls n.large_calls
+  large_keeps few = record {
+    setup = passes.setup;
+    roots = passes.roots;
+    none_falls = passes.more;
+    small_rise = let e = step.small in omega arith;
+    large_rise = let e = step.large in omega arith;
+    draws = let e = step.small in let f = step.large in let l = passes.more.losses in let m = passes.more.moves in let d = passes.most.draws in let most = few.draws in omega arith;
+    wins = let f = step.large in let d = passes.most.wins in let m = passes.more.moves in let most = few.wins in omega arith;
+    gives = let f = step.large in let d = passes.most.gives in let most = few.gives in omega arith;
+    cuts = let f = step.large in let d = passes.most.cuts in let most = few.cuts in omega arith;
+  }
+
+  pub large_own : Row a x y → KeepsOwn (heap_view s) (heap_view_of y.view y.marks n)
+  large_own row = kept_at s y.view (heap_view_of y.view y.marks n) refl refl refl refl (at_state (λ v. ViewRow a v y.view) s x step.was row.view)
+
+  pub large_pending : Row a x y → (word : ℕ) → IsOwn (heap_view s).held s.view.roots word → KeepsPending (heap_view s) (heap_view_of y.view y.marks n) word
+  large_pending row = pending_at s x y (heap_view_of y.view y.marks n) step.was refl refl refl row
+
+  pub large_stop : (ticket : ℕ) → Stops ticket x.view y.view → HeapStops ticket (heap_view s) (heap_view_of y.view y.marks n)
+  large_stop ticket stop = stops_law s.view y.view s.marks y.marks (counts_of s) n ticket step.ran passes.setup (at_state (λ v. Stops ticket v y.view) s x step.was stop)
+
+  pub large_stops : {A : Type 0} (result : Result A Stopped) → IfErr result (λ e. Stops e.step x.view y.view) → IfErr result (λ e. HeapStops e.step (heap_view s) (heap_view_of y.view y.marks n))
+  large_stops (Ok b) stop = tt
+  large_stops (Err e) stop = large_stop e.step stop
+
+-- a draw more is a ticket more
+pub draws_later : {a : Costs} (v w : View) → Passes a v w → v.draws < w.draws → next_of v < next_of w
+draws_later v w passes more = let t = passes.tickets in omega arith
+
+pub stop_later : (v w : View) (step : ℕ) → v.stopped ≡ None → Stops step v w → next_of v < next_of w
+stop_later v w step ran stop = let from = stop.now ran in let last = ap after_ticket stop.last in omega arith
+
+pub large_counts_then : (small large refusals : ℕ) (v w : View) → next_of v < next_of w → HasCounts small large refusals v → HasCounts small (large + 1) refusals w
+large_counts_then small large refusals v w later counts = (let c = counts.0 in omega arith, let c = counts.1 in omega arith)

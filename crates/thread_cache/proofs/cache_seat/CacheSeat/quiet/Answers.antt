@@ -1,0 +1,35 @@
+use Rattle.std.proofs.Common.{◌+◌, ap, refl, arith, ◌∙◌}
+use Rattle.core_model.specs.View.{View}
+use Rattle.seat_flush.specs.All.{cached}
+use Rattle.seat_view.specs.CacheState.{CacheState}
+use Rattle.thread_cache.specs.Quiet.{as_large}
+use Rattle.thread_cache.proofs.LargeLemmas.{large_counted, large_counts_then, large_keeps, large_own, large_pending, large_step}
+use Rattle.thread_cache.proofs.QuietLemmas.{quiet_between, quiet_few, quiet_later}
+use Rattle.thread_cache.proofs.cache_seat.CacheSeat.quiet.Goals as goal
+
+pub invariant_of-self-inside : goal.invariant_of-self-inside
+invariant_of-self-inside g c =
+    let v = c.self.inside.seat.view in let w = c.flush_all-answer.new.seat.view in let e = c.flush_all-answer.ensures in
+    let ran = ap (λ (s : CacheState). s.view.stopped) c.self.view_is ∙ c.in_ok-check_running.ensures.ok in
+    let some = ap (λ (s : CacheState). cached s.view) c.self.view_is in
+    let more = c.has_cached.ensures.yes c.if-not-has_cached.false in (
+      e.seat,
+      (∣ c.has_a_sound_state-2.ensures ∣₁,
+      (quiet_between v w c.flush_all-answer.result (c.self.inside.between ran).0 e.flushed e.stopped,
+      (large_counts_then c.self.inside.small_calls c.self.inside.large_calls c.self.inside.refusals v w
+      (quiet_later v w c.flush_all-answer.result ran (omega (some, more, arith)) e.row.view.passes e.flushed e.stopped) c.self.inside.counted, tt))),
+    )
+
+pub returns-clause-unchanged : goal.returns-clause-unchanged
+returns-clause-unchanged g c = large_own c.args.self.now c.self.inside.seat c.flush_all-answer.new.seat _ (large_step _ c.args.self.now c.self.view_is c.self.inside.seat c.flush_all-answer.new.seat refl refl c.has_a_sound_state-2.ensures c.in_ok-check_running.ensures.ok) c.flush_all-answer.ensures.row.view.passes c.flush_all-answer.ensures.row
+
+pub returns-clause-pending : goal.returns-clause-pending
+returns-clause-pending g c = large_pending c.args.self.now c.self.inside.seat c.flush_all-answer.new.seat _ (large_step _ c.args.self.now c.self.view_is c.self.inside.seat c.flush_all-answer.new.seat refl refl c.has_a_sound_state-2.ensures c.in_ok-check_running.ensures.ok) c.flush_all-answer.ensures.row.view.passes c.flush_all-answer.ensures.row
+
+pub returns-clause-kept : goal.returns-clause-kept
+returns-clause-kept g c = large_keeps c.args.self.now c.self.inside.seat c.flush_all-answer.new.seat _ (large_step _ c.args.self.now c.self.view_is c.self.inside.seat c.flush_all-answer.new.seat refl refl c.has_a_sound_state-2.ensures c.in_ok-check_running.ensures.ok) c.flush_all-answer.ensures.row.view.passes
+    (quiet_few c.self.inside.seat.view c.has_a_sound_state.ensures (c.self.inside.between (ap (λ (s : CacheState). s.view.stopped) c.self.view_is ∙ c.in_ok-check_running.ensures.ok)).1)
+
+pub returns-clause-counted : goal.returns-clause-counted
+returns-clause-counted g c = as_large (large_counted c.args.self.now c.self.inside.seat c.flush_all-answer.new.seat _ (large_step _ c.args.self.now c.self.view_is c.self.inside.seat c.flush_all-answer.new.seat refl refl c.has_a_sound_state-2.ensures c.in_ok-check_running.ensures.ok) c.flush_all-answer.ensures.row.view.passes 0 (omega arith))
+    (record { count = ap (λ (s : CacheState). s.refusals) c.self.view_is; bytes = ap (λ (s : CacheState). s.refused_bytes) c.self.view_is; looks = ap (λ (s : CacheState). s.refused_looks) c.self.view_is })

@@ -1,0 +1,15 @@
+-- What emptying all caches is for a seat of a heap.
+use Rattle.std.specs.Prelude.{◌≡◌, ◌⊎◌, ℕ, []}
+use Rattle.heap_model.specs.Sizes.{IsClass}
+use Rattle.heap_seat.specs.Calls.{IsLargeCall, SameRefusals}
+use Rattle.core_model.specs.View.{of_class}
+use Rattle.seat_view.specs.CacheState.{CacheState, heap_view}
+
+-- no cache has a block
+pub record HasEmptyCaches (s : CacheState) : Type 0 where
+  pub each : (class : ℕ) → IsClass class → of_class s.view.caches class ≡ []
+
+-- a call that draws counts as a large one; one that finds nothing to give back does nothing
+pub data IsQuietCall (s t : CacheState) : Type 0 where
+  does_nothing : HasEmptyCaches s → t ≡ s → IsQuietCall s t
+  as_large : IsLargeCall 0 (heap_view s) (heap_view t) → SameRefusals (heap_view s) (heap_view t) → IsQuietCall s t
