@@ -110,21 +110,17 @@ module _ (v early : View) (settles : Settles v early) where
           record { used = ap (λ (u : View). u.used_look) is; heads = ap (λ (u : View). u.head_looks) is }
 
 -- the clauses of a draw, by what the seat was
-module _ (v w : View) (event : v.stopped ≡ None → (early : View) × Settles v early × (found : ℕ) × IsEvent (Tick None) early found w) (idle : (step : ℕ) → v.stopped ≡ Some step → w ≡ v) where
-  was_going : w.stopped ≡ None → v.stopped ≡ None
+module _ (shift : Option Shift) (v w : View) (event : v.stopped ≡ None → (early : View) × Settles v early × (found : ℕ) × IsEvent (Tick shift) early found w) (idle : (step : ℕ) → v.stopped ≡ Some step → w ≡ v) where
+  pub was_going : w.stopped ≡ None → v.stopped ≡ None
   was_going going = by_stop v.stopped refl where
     by_stop : (o : Option ℕ) → v.stopped ≡ o → v.stopped ≡ None
     by_stop None none = none
     by_stop (Some step) stop = not_both (ap (λ (x : View). x.stopped) (idle step stop) ∙ stop) going
 
-  pub told_drawn : (result : Result ⊤ Stopped) → TellsDraw w result → OnOk result (HasDrawn v w)
-  told_drawn (Ok x) going = let went = was_going going in let e = event went in drawn v e.0 e.1 w e.2 e.3 went going
-  told_drawn (Err e) told = tt
-
-  told_stop : HasSoundState v → (step : ℕ) → w.stopped ≡ Some step → Stops step v w
+  pub told_stop : HasSoundState v → (step : ℕ) → w.stopped ≡ Some step → Stops step v w
   told_stop has step stop = by_stop v.stopped refl where
     by_stop : (o : Option ℕ) → v.stopped ≡ o → Stops step v w
-    by_stop None went = let e = event went in stops v e.0 e.1 None w e.2 e.3 step went stop
+    by_stop None went = let e = event went in stops v e.0 e.1 shift w e.2 e.3 step went stop
     by_stop (Some before) had =
         let same = idle before had in
         let at : v.stopped ≡ Some step = sym (ap (λ (x : View). x.stopped) same) ∙ stop in
@@ -139,6 +135,12 @@ module _ (v w : View) (event : v.stopped ≡ None → (early : View) × Settles 
   pub told_stopped : (result : Result ⊤ Stopped) → TellsDraw w result → HasSoundState v → IfErr result (λ e. Stops e.step v w)
   told_stopped (Ok x) told has = tt
   told_stopped (Err e) told has = told_stop has e.step told
+
+-- one with no change
+module _ (v w : View) (event : v.stopped ≡ None → (early : View) × Settles v early × (found : ℕ) × IsEvent (Tick None) early found w) (idle : (step : ℕ) → v.stopped ≡ Some step → w ≡ v) where
+  pub told_drawn : (result : Result ⊤ Stopped) → TellsDraw w result → OnOk result (HasDrawn v w)
+  told_drawn (Ok x) going = let went = was_going None v w event idle going in let e = event went in drawn v e.0 e.1 w e.2 e.3 went going
+  told_drawn (Err e) told = tt
 
   pub told_row : ViewRow one_draw v w
   told_row = by_stop v.stopped refl where

@@ -17,7 +17,7 @@ use Rattle.seat_rows.specs.Rows.{HoldingRow, IsHeldBoth, Passes, ViewRow}
 use Rattle.seat_rows.specs.Words.{KeepsWord}
 use Rattle.seat_rows.proofs.AlikeLemmas.{cut_row, passes_alike, raised_row, row_alike, row_as, then_none, trimmed_row}
 use Rattle.seat_rows.proofs.DrawLemmas.{row_of_stop, shifted_is, ticket_row}
-use Rattle.seat_rows.proofs.RowLemmas.{row_holding, row_of, view_row_then, view_row_within}
+use Rattle.seat_rows.proofs.RowLemmas.{row_holding, row_of, view_row_none, view_row_then, view_row_within}
 use Rattle.seat_rows.proofs.WordLemmas.{owns_held, trimmed_word, word_then}
 
 -- from the view with the ticket in hand
@@ -91,3 +91,12 @@ module _ (v w : SeatView) (stores : KeepsStores v w) (early : View) (settles : S
           marks = λ k both marked. inl (ap (λ marks. mark_at marks k) stores.marks ∙ marked);
         }
     by_stop (Some step) stop = row_holding v w (row_of v w stores (shift_within shift v.view w.view (row_of_stop v.view early settles (Some shift) w.view found e step went stop)))
+
+-- by what the seat was
+module _ (v w : SeatView) (stores : KeepsStores v w) (shift : Shift) (event : v.view.stopped ≡ None → (early : View) × Settles v.view early × (found : ℕ) × IsEvent (Tick (Some shift)) early found w.view) (idle : (step : ℕ) → v.view.stopped ≡ Some step → w ≡ v) where
+  pub told_shift_row : HoldingRow (shift_costs shift) v w
+  told_shift_row = by_stop v.view.stopped refl where
+    by_stop : (o : Option ℕ) → v.view.stopped ≡ o → HoldingRow (shift_costs shift) v w
+    by_stop None went = let e = event went in shift_row v w stores e.0 e.1 went e.2 shift e.3
+    by_stop (Some step) had = subst (HoldingRow (shift_costs shift) v) (sym (idle step had)) (row_holding v v (row_of v v (record { stores = refl; marks = refl })
+        (shift_within shift v.view v.view (view_row_within one_draw v.view v.view (record { draws = omega arith; wins = omega arith; gives = omega arith; cuts = omega arith; taken = omega arith; moves = omega arith }) (view_row_none v.view)))))

@@ -1,5 +1,5 @@
 use Rattle.heap_rule.specs.Seated.{SeatView}
-use Rattle.std.proofs.Common.{ap}
+use Rattle.std.proofs.Common.{None, ap}
 use Rattle.seat_rows.proofs.DrawLemmas.{told_drawn, told_looks, told_row, told_stopped}
 use Rattle.seat_rows.proofs.RowLemmas.{row_of}
 use Rattle.seat_rows.proofs.draws.draw.Goals as goal
@@ -10,7 +10,7 @@ returns-clause-drawn g c =
 
 pub returns-clause-stopped : goal.returns-clause-stopped
 returns-clause-stopped g c =
-    told_stopped c.args.seat.now.view c.draw_with.new.seat.view c.draw_with.ensures.event (λ step stop. ap (λ (x : SeatView). x.view) (c.draw_with.ensures.had_stopped step stop)) c.draw_with.result c.draw_with.ensures.told c.has_a_sound_state.ensures
+    told_stopped None c.args.seat.now.view c.draw_with.new.seat.view c.draw_with.ensures.event (λ step stop. ap (λ (x : SeatView). x.view) (c.draw_with.ensures.had_stopped step stop)) c.draw_with.result c.draw_with.ensures.told c.has_a_sound_state.ensures
 
 pub returns-clause-row : goal.returns-clause-row
 returns-clause-row g c = row_of c.args.seat.now c.draw_with.new.seat c.draw_with.ensures.stores
