@@ -1,3 +1,4 @@
 pub mod FreshLemmas
 pub mod InfoLemmas
 pub mod HoldLemmas
+pub mod SplitLemmas

@@ -1,3 +1,4 @@
 pub mod Fresh
 pub mod Infos
 pub mod Holds
+pub mod Splits

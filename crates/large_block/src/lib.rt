@@ -4,7 +4,9 @@
 mod fresh;
 mod holds;
 mod infos;
+mod splits;
 
 pub use fresh::{Take, take_fresh};
 pub use holds::hold;
 pub use infos::set_info;
+pub use splits::{Superblocks, split, superblocks_of};
