@@ -12,7 +12,7 @@ use Rattle.core_model.specs.declared.event.Event.TheVariants.{KeepUsed, TakeFres
 use Rattle.core_model.specs.Cells.{Cell, anchor_cell, info_cell}
 use Rattle.core_model.specs.Effects.{learn, learn_fresh, lost, seen, steps, taken_fresh, used_up}
 use Rattle.core_model.specs.Guards.{IsOwn}
-use Rattle.core_model.specs.View.{Setup, View, times_claimed, times_raw}
+use Rattle.core_model.specs.View.{LastLook, Setup, View, times_claimed, times_raw}
 use Rattle.core_model.proofs.FrameLemmas.{below_is, below_not, times_steps}
 use Rattle.core_model.proofs.PlaceLemmas.{cell_at_index}
 use Rattle.heap_table.specs.Plays.{HasSoundState, IsEvent}
@@ -23,9 +23,10 @@ use Rattle.heap_rule.proofs.RawLemmas.{durable_long, raw_inside, volatile_long}
 use Rattle.large_block.specs.declared.fresh.Take.{Take as TakeAnswer}
 use Rattle.large_block.specs.declared.fresh.Take.TheVariants.{Got, Past}
 use Rattle.large_block.specs.Fresh.{AreBlankFrom, AreInThisHandAlone, HasKept, HasLostMark, HasMarked, HasTakenFresh, Marks, SeesMark, Takes, with_fresh}
+use Rattle.seat_lists.specs.Pops.{looked}
 use Rattle.seat_lists.proofs.PopLemmas.{drawn_as}
 use Rattle.seat_rows.specs.Costs.{Costs, no_costs, one_draw, one_win}
-use Rattle.seat_rows.specs.Rows.{HasDrawn, Parts, Row, Stops, ViewRow, parts}
+use Rattle.seat_rows.specs.Rows.{HasDrawn, IsMade, Parts, Row, Stops, ViewRow, after_ticket, next_of, parts}
 use Rattle.seat_rows.specs.Words.{KeepsWord, left_at, seen_at}
 use Rattle.seat_rows.proofs.EventLemmas.{fresh_lost_row}
 use Rattle.seat_rows.proofs.RowLemmas.{row_then, row_within, stops_later, view_row_none, view_row_then, view_row_within}
@@ -76,6 +77,9 @@ module _ (v u w : View) (n used found : ℕ) (drawn : HasDrawn v u) (mark : v.se
     going = ap (λ (x : View). x.stopped) left ∙ drawn.went;
     parts_are = ap parts left ∙ ap (λ o. with_fresh (seen o) n (parts v)) mark;
     mark = ap (λ (x : View). x.seen_used) left ∙ ap (λ o. Some (seen o + n)) mark;
+    room = let r = room in let s = ap (λ (x : View). x.setup.capacity) drawn.left in omega arith;
+    look = ap (λ (x : View). x.used_look) left;
+    later = let l = ap next_of left in let d = drawn.later in omega arith;
     blank = record {
       info = λ e from until. ap (λ l. get_or l (info_word e) None) volatile ∙ (fresh_zero u.setup.capacity u.volatile used n e (volatile_long u event.before) room from until).0;
       durable_info = λ e from until. ap (λ l. get_or l (info_word e) None) durable ∙ (fresh_zero u.setup.capacity u.durable used n e (durable_long u event.before) room from until).0;
@@ -139,6 +143,8 @@ mark_kept v u w used found drawn mark event = record {
   going = ap (λ (x : View). x.stopped) left ∙ drawn.went;
   parts_are = ap parts left;
   durable = let f = ap (λ (x : View). x.floor) left in let s = ap seen mark in omega arith;
+  look = ap (λ (x : View). x.used_look) left;
+  later = let l = ap next_of left in let d = drawn.later in omega arith;
   blank = λ d n raw. blank_still v w d n (λ e from until. raw_owns v e (inside e (raw e from until)) (raw e from until)) words;
 } where
   left : w ≡ record (drawn_as v drawn.ticket u) { ticket = None; floor = max v.floor (seen v.seen_used) }
@@ -161,6 +167,11 @@ pub keeping_row : (v t u w : SeatView) (n : ℕ) → Row one_draw v t → Row (r
 keeping_row v t u w n look take keep = row_within (taking n) v w (record { draws = omega arith; wins = omega arith; gives = omega arith; cuts = omega arith; taken = omega arith; moves = omega arith })
     (row_then v u w (row_then v t u look take) keep)
 
+-- the ticket behind which the next one rose
+drawn_ticket : (o : Option ℕ) (next : ℕ) → next < after_ticket o → (ticket : ℕ) × (o ≡ Some ticket) × (next ≤ ticket) × (ticket < after_ticket o)
+drawn_ticket None next less = absurd (omega arith)
+drawn_ticket (Some ticket) next less = (ticket, refl, omega arith, omega arith)
+
 -- all in a row
 pub taken_then : (v t u w : View) (n used : ℕ) → SeesMark used v t → HasMarked n used t u → HasKept (used + n) u w → HasTakenFresh n used v w
 taken_then v t u w n used sees marked kept = record {
@@ -168,7 +179,19 @@ taken_then v t u w n used sees marked kept = record {
   parts_are = kept.parts_are ∙ marked.parts_are ∙ ap (with_fresh used n) sees.goes_on.parts_are;
   durable = kept.durable;
   blank = kept.blank used n (λ e from until. let c = fresh_claimed t.raw used n e from until in let s = ap (λ (p : Parts). times e p.raw) marked.parts_are in omega arith) marked.blank;
-}
+  room = let r = marked.room in let s = ap (λ (p : Parts). p.setup.capacity) sees.goes_on.parts_are in omega arith;
+  seen = ap (λ (l : LastLook). l.word) look;
+  made = let t_is = drawn_ticket t.last_ticket (next_of v) sees.later in record {
+    ticket = t_is.0;
+    by = ap (λ (l : LastLook). l.ticket) look ∙ t_is.1;
+    since = t_is.2;
+    below = let a = t_is.3 in let b = marked.later in let c = kept.later in omega arith;
+    taken_least = let s = ap (λ (l : LastLook). l.taken) look in let n = sees.taken in omega arith;
+    taken_most = let s = ap (λ (l : LastLook). l.taken) look in let n = sees.taken in omega arith;
+  };
+} where
+  look : w.used_look ≡ looked used t
+  look = kept.look ∙ marked.look ∙ sees.look
 
 pub lost_later : (v t w : View) (used : ℕ) → SeesMark used v t → ViewRow one_draw v t → HasLostMark 1 t w → HasLostMark 2 v w
 lost_later v t w used sees row lost = let go = sees.goes_on in record {
@@ -223,7 +246,16 @@ pub tries_less : (t w : View) → HasLostMark 2 t w → w.setup.budget - w.draws
 tries_less t w lost = let same = ap (λ (k : Setup). k.budget) lost.row.passes.setup in let room = lost.room in let more = lost.more in omega arith
 
 pub tries_done : (v t w : View) (n : ℕ) (take : TakeAnswer) → Trying v t → Takes n take t w → Takes n take v w
-tries_done v t w n (Got d) trying got = record { going = got.going; parts_are = got.parts_are ∙ ap (with_fresh d n) trying.parts_are; durable = got.durable; blank = got.blank }
+tries_done v t w n (Got d) trying got = record { going = got.going; parts_are = got.parts_are ∙ ap (with_fresh d n) trying.parts_are; durable = got.durable; blank = got.blank; room = let r = got.room in let s = ap (λ (k : Setup). k.capacity) trying.row.passes.setup in omega arith; seen = got.seen; made = made } where
+  made : IsMade (next_of v) (next_of w) v.taken v.taken w.used_look
+  made = let m = got.made in record {
+    ticket = m.ticket;
+    by = m.by;
+    since = let s = m.since in let n = trying.row.passes.next in omega arith;
+    below = m.below;
+    taken_least = let l = m.taken_least in let n = trying.taken in omega arith;
+    taken_most = let l = m.taken_most in let n = trying.taken in omega arith;
+  }
 tries_done v t w n (Past used) trying past = record {
   going = past.going;
   parts_are = past.parts_are ∙ trying.parts_are;

@@ -9,7 +9,7 @@ use Rattle.large_block.specs.declared.fresh.Take.{Take}
 use Rattle.large_block.specs.declared.fresh.Take.TheVariants.{Got, Past}
 use Rattle.seat_lists.specs.Pops.{GoesOn, looked}
 use Rattle.seat_rows.specs.Costs.{one_loss}
-use Rattle.seat_rows.specs.Rows.{Parts, ViewRow, next_of, parts}
+use Rattle.seat_rows.specs.Rows.{IsMade, Parts, ViewRow, next_of, parts}
 
 -- n superblocks from d on are claimed too, without a class
 abbrev pub with_fresh : ℕ → ℕ → Parts → Parts
@@ -38,7 +38,10 @@ pub record HasMarked (n used : ℕ) (v w : View) : Type 0 where
   pub going : w.stopped ≡ None
   pub parts_are : parts w ≡ with_fresh used n (parts v)
   pub mark : w.seen_used ≡ Some (used + n)
+  pub room : used + n ≤ v.setup.capacity
   pub blank : AreBlankFrom used n w
+  pub look : w.used_look ≡ v.used_look
+  pub later : next_of v ≤ next_of w
 
 -- another seat was faster
 pub record HasLostMark (draws : ℕ) (v w : View) : Type 0 where
@@ -63,13 +66,18 @@ pub record HasKept (used : ℕ) (v w : View) : Type 0 where
   pub parts_are : parts w ≡ parts v
   pub durable : used ≤ w.floor
   pub blank : (d n : ℕ) → ((e : ℕ) → d ≤ e → e < d + n → 0 < times_raw e v) → AreBlankFrom d n v → AreBlankFrom d n w
+  pub look : w.used_look ≡ v.used_look
+  pub later : next_of v ≤ next_of w
 
--- they are the seat's, no crash forgets that they were taken, and nothing is in their descriptors
+-- they are the seat's, no crash forgets that they were taken, and nothing is in their descriptors; the last look at the mark said that there is room for them
 pub record HasTakenFresh (n d : ℕ) (v w : View) : Type 0 where
   pub going : w.stopped ≡ None
   pub parts_are : parts w ≡ with_fresh d n (parts v)
   pub durable : d + n ≤ w.floor
   pub blank : AreBlankFrom d n w
+  pub room : d + n ≤ v.setup.capacity
+  pub seen : w.used_look.word ≡ d
+  pub made : IsMade (next_of v) (next_of w) v.taken v.taken w.used_look
 
 -- the mark, as read at the last step, left no room for n more; nothing was won
 pub record IsPast (n used : ℕ) (v w : View) : Type 0 where
