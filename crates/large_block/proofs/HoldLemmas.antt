@@ -64,6 +64,7 @@ module _ (v : View) (has : HasSoundState v) (d n : ℕ) (claim : IsFreshClaim d 
         going = going;
         parts_are = ap parts (shifted_is x early settles (Some (Large d n)) w found event going) ∙ ap (with_large d n) info.parts_are;
         block = is;
+        look = ap (λ (y : View). y.used_look) (shifted_is x early settles (Some (Large d n)) w found event going) ∙ info.look;
       }
 
 -- a draw with a change that is refused, and behind a draw that went on

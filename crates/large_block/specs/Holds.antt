@@ -23,3 +23,4 @@ pub record HasHeld (d n : ℕ) (b : Block) (v w : View) : Type 0 where
   pub going : w.stopped ≡ None
   pub parts_are : parts w ≡ with_large d n (parts v)
   pub block : b ≡ record { first_word = start_word v.setup.capacity d; words = superblock_words * n }
+  pub look : w.used_look ≡ v.used_look
