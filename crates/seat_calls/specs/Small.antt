@@ -1,5 +1,5 @@
 -- What holding and freeing a block of a class leaves of a seat.
-use Rattle.std.specs.Prelude.{◌≡◌, ◌<◌, ◌≤◌, ◌⊎◌, ℕ, ◌+◌, ◌*◌, List, [], ◌∷◌, None, length, set}
+use Rattle.std.specs.Prelude.{◌≡◌, ◌<◌, ◌≤◌, ◌⊎◌, ℕ, ◌+◌, ◌*◌, List, [], ◌∷◌, None, length, set, ⊤, Result, Ok, Err}
 use Rattle.heap_model.specs.declared.block.Block.{Block}
 use Rattle.heap_model.specs.Blocks.{IsIn}
 use Rattle.heap_model.specs.Counting.{without}
@@ -9,7 +9,10 @@ use Rattle.core_model.specs.Effects.{first_of}
 use Rattle.core_model.specs.View.{View, of_class}
 use Rattle.heap_rule.specs.Shown.{Shows}
 use Rattle.seat_rows.specs.Costs.{Costs, no_costs}
-use Rattle.seat_rows.specs.Rows.{Parts, parts}
+use Rattle.heap_seat.specs.declared.fault.AllocFault.{AllocFault}
+use Rattle.heap_seat.specs.declared.fault.AllocFault.TheVariants.{Full, Stopped}
+use Rattle.seat_fill.specs.Refills.{IsFull}
+use Rattle.seat_rows.specs.Rows.{Parts, Stops, parts}
 use Rattle.seat_rows.specs.Words.{IsHeldWord}
 
 -- the block is held, and the cache of the class has these blocks
@@ -66,3 +69,21 @@ pub record MayHaveFreed (block class : ℕ) (v w : View) : Type 0 where
 -- two draws, and what flushing so many blocks costs
 abbrev pub free_costs : ℕ → Costs
 free_costs n = record no_costs { draws = 9 * n + 2; wins = 2 * n; gives = n; moves = n }
+
+-- why a call gives no block: there is no room, as the looks said, and the cache had none; or the seat has stopped
+abbrev pub AllocatesNone : ℕ → AllocFault → View → View → Type 0
+AllocatesNone class (Full looks) v w = IsFull class looks v w × (of_class v.caches class ≡ [])
+AllocatesNone class (Stopped e) v w = Stops e.step v w
+
+-- so is it where the seat goes on
+abbrev pub IfGoing : Result Block AllocFault → Type 0 → Type 0
+IfGoing (Ok block) P = P
+IfGoing (Err (Full looks)) P = P
+IfGoing (Err (Stopped e)) P = ⊤
+
+-- a draw beyond those of filling the cache, with this many moves: where no superblock is cut, and at most
+abbrev pub light_alloc : ℕ → Costs
+light_alloc moves = record no_costs { draws = 10; wins = 2; moves = moves }
+
+abbrev pub alloc_costs : ℕ → ℕ → Costs
+alloc_costs class moves = record no_costs { draws = blocks_of class + 12; wins = 2; cuts = 1; taken = 1; moves = moves }

@@ -3,4 +3,4 @@
 
 mod small;
 
-pub use small::free_small;
+pub use small::{alloc_small, free_small};

@@ -1,7 +1,7 @@
 //! Blocks of a class are held and freed: they come from the seat's cache of the class, and go back
 //! there.
 
-ghost use Rattle.std.specs.Prelude.{◌≡◌, ◌<◌, ◌≤◌, ◌+◌, None, length, IfOk, OnOk, OnErr, IfErr};
+ghost use Rattle.std.specs.Prelude.{◌≡◌, ◌<◌, ◌≤◌, ◌+◌, ◌-◌, None, length, IfOk, OnOk, OnErr, IfErr};
 ghost use Rattle.heap_model.specs.Counting.{times};
 ghost use Rattle.heap_model.specs.Sizes.{blocks_of};
 ghost use Rattle.core_model.specs.View.{of_class};
@@ -9,18 +9,20 @@ ghost use Rattle.heap_rule.specs.Seated.{IsSeatOf};
 ghost use Rattle.seat_rows.specs.Costs.{no_costs, one_draw};
 ghost use Rattle.seat_rows.specs.Idle.{HasShortCaches, IsIdle};
 ghost use Rattle.seat_rows.specs.Rows.{HoldingRow, Row, RowBut, Stops, StoringRow};
-ghost use Rattle.seat_calls.specs.Small.{HasAllocated, HasCached, HasFreed, HasWay, IsHeldOutside, MayHaveFreed, block_of, free_costs};
+ghost use Rattle.seat_calls.specs.Small.{AllocatesNone, HasAllocated, HasCached, HasFreed, HasWay, IfGoing, IsHeldOutside, MayHaveFreed, alloc_costs, block_of, free_costs, light_alloc};
 
 use core_model::Shift;
 use heap_rule::{Seat, Shared};
+use heap_seat::AllocFault;
 use line_memory::{Chance, Stopped};
+use seat_fill::{Filling, refill};
 use seat_flush::flush;
 use seat_rows::{draw, draw_with};
 use size_table::{SizeClass, blocks_of};
 use super_block::{Block, block_words};
 
 /// Holds the first block of the cache of a class, which it answers.
-pub(crate) fn alloc_cached<C: Chance>(
+fn alloc_cached<C: Chance>(
     seat: &mut Seat,
     shared: &Shared,
     class: SizeClass,
@@ -48,6 +50,50 @@ pub(crate) fn alloc_cached<C: Chance>(
         first_word,
         words: block_words(class),
     })
+}
+
+/// Holds a free block of a class: the first one of the seat's cache, which is filled if it is empty.
+/// Where there is none to fill it with, that is answered, with the looks that said so.
+///
+/// What the block's words are is not known. No word of a held block is stored to.
+pub fn alloc_small<C: Chance>(
+    seat: &mut Seat,
+    shared: &Shared,
+    class: SizeClass,
+    chance: &mut C,
+) -> Result<Block, AllocFault>
+    requires seat { IsSeatOf shared.now seat.old }
+    requires going { seat.old.view.stopped ≡ None }
+    requires idle { IsIdle seat.old.view }
+    requires short { HasShortCaches seat.old.view }
+    ensures allocated { IfOk result (λ block. HasAllocated class.number block
+        seat.old.view seat.new.view) }
+    ensures refused { IfErr result (λ fault. AllocatesNone class.number fault
+        seat.old.view seat.new.view) }
+    ensures none { OnErr result
+        (Row (alloc_costs class.number (seat.new.view.moves - seat.old.view.moves))
+        seat.old seat.new) }
+    ensures light { IfGoing result (seat.new.view.cuts ≡ seat.old.view.cuts
+        → HoldingRow (light_alloc (seat.new.view.moves - seat.old.view.moves))
+        seat.old seat.new) }
+    ensures row { HoldingRow
+        (alloc_costs class.number (seat.new.view.moves - seat.old.view.moves))
+        seat.old seat.new }
+    ensures seat { IsSeatOf shared.now seat.new }
+{
+    seat.has_a_sound_state();
+    let (_, count) = seat.cache(shared, class);
+    if count > 0 {
+        let block = alloc_cached(seat, shared, class, chance)?;
+        return Ok(block);
+    }
+    match refill(seat, shared, class, chance)? {
+        Filling::Full(looks) => Err(AllocFault::Full(looks)),
+        Filling::Filled => {
+            let block = alloc_cached(seat, shared, class, chance)?;
+            Ok(block)
+        }
+    }
 }
 
 /// The first word of a held block leads to the first block of the cache of its class, where there

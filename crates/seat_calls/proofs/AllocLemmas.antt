@@ -1,0 +1,55 @@
+-- What a call for a block of a class leaves, once its cache was filled.
+use Rattle.std.proofs.Common.{◌≡◌, ℕ, ◌+◌, ◌-◌, ap, ◌∙◌, arith}
+use Rattle.std.proofs.lemmas.List.{set-set}
+use Rattle.heap_model.specs.declared.block.Block.{Block}
+use Rattle.heap_model.specs.Sizes.{blocks_of}
+use Rattle.core_model.specs.View.{View}
+use Rattle.heap_rule.specs.Seated.{SeatView}
+use Rattle.seat_rows.specs.Costs.{Costs, no_costs, one_draw}
+use Rattle.seat_rows.specs.Rows.{HoldingRow, IsHeldBoth, Row, parts}
+use Rattle.seat_rows.proofs.RowLemmas.{but_fewer, holding_within, row_but, row_then, row_within, then_holding}
+use Rattle.seat_calls.specs.Small.{HasAllocated, alloc_costs, light_alloc, with_allocated}
+use Rattle.seat_fill.specs.Refills.{HasFilled}
+
+-- the costs of filling a cache
+abbrev refill_costs : ℕ → ℕ → Costs
+refill_costs class moves = record no_costs { draws = blocks_of class + 11; wins = 2; cuts = 1; taken = 1; moves = moves }
+
+abbrev light_refill : ℕ → Costs
+light_refill moves = record no_costs { draws = 9; wins = 2; moves = moves }
+
+module _ (v t : SeatView) (class : ℕ) where
+  pub full_row : Row (refill_costs class (t.view.moves - v.view.moves)) v t → HoldingRow (alloc_costs class (t.view.moves - v.view.moves)) v t
+  full_row row = but_fewer (IsHeldBoth v.view t.view) (alloc_costs class (t.view.moves - v.view.moves)) v t (λ k both. both.0)
+      (record { draws = omega arith; wins = omega arith; gives = omega arith; cuts = omega arith; taken = omega arith; moves = omega arith }) (row_but v t row)
+
+  pub full_light : Row (light_refill (t.view.moves - v.view.moves)) v t → HoldingRow (light_alloc (t.view.moves - v.view.moves)) v t
+  full_light row = but_fewer (IsHeldBoth v.view t.view) (light_alloc (t.view.moves - v.view.moves)) v t (λ k both. both.0)
+      (record { draws = omega arith; wins = omega arith; gives = omega arith; cuts = omega arith; taken = omega arith; moves = omega arith }) (row_but v t row)
+
+  module _ (w : SeatView) (row : Row (refill_costs class (t.view.moves - v.view.moves)) v t) where
+    pub stopped_row : Row one_draw t w → Row (alloc_costs class (w.view.moves - v.view.moves)) v w
+    stopped_row none = row_within (alloc_costs class (w.view.moves - v.view.moves)) v w
+        (let m = row.view.passes.more.moves in let n = none.view.passes.more.moves in record { draws = omega arith; wins = omega arith; gives = omega arith; cuts = omega arith; taken = omega arith; moves = omega (arith, m, n) })
+        (row_then v t w row none)
+
+    pub alloc_row : HoldingRow one_draw t w → HoldingRow (alloc_costs class (w.view.moves - v.view.moves)) v w
+    alloc_row holding = holding_within (alloc_costs class (w.view.moves - v.view.moves)) v w
+        (let m = row.view.passes.more.moves in let n = holding.passes.more.moves in record { draws = omega arith; wins = omega arith; gives = omega arith; cuts = omega arith; taken = omega arith; moves = omega (arith, m, n) })
+        (then_holding v t w row holding)
+
+    pub alloc_light : (t.view.cuts ≡ v.view.cuts → Row (light_refill (t.view.moves - v.view.moves)) v t) → HoldingRow one_draw t w → w.view.cuts ≡ v.view.cuts → HoldingRow (light_alloc (w.view.moves - v.view.moves)) v w
+    alloc_light light holding same = holding_within (light_alloc (w.view.moves - v.view.moves)) v w
+        (let m = row.view.passes.more.moves in let n = holding.passes.more.moves in record { draws = omega arith; wins = omega arith; gives = omega arith; cuts = omega arith; taken = omega arith; moves = omega (arith, m, n) })
+        (then_holding v t w (light (let a = row.view.passes.more.cuts in let b = holding.passes.more.cuts in omega (arith, a, b, same))) holding)
+
+-- the cache was filled before
+pub filled_alloc : (v t w : View) (class : ℕ) (b : Block) → HasFilled class v t → HasAllocated class b t w → HasAllocated class b v w
+filled_alloc v t w class b filled allocated = record {
+  going = allocated.going;
+  size = allocated.size;
+  cache = allocated.cache;
+  short = allocated.short;
+  parts_are = allocated.parts_are ∙ ap (with_allocated class b.first_word allocated.cache) filled.parts_are
+      ∙ ap (λ l. record (with_allocated class b.first_word allocated.cache (parts v)) { caches = l }) (set-set v.caches class filled.blocks allocated.cache);
+}

@@ -1,0 +1,28 @@
+use Rattle.std.proofs.Common.{subst}
+use Rattle.seat_fill.specs.Refills.{Refills}
+use Rattle.seat_calls.proofs.AllocLemmas.{alloc_light, alloc_row, filled_alloc, full_light, full_row, stopped_row}
+use Rattle.seat_calls.proofs.SmallLemmas.{on_err}
+use Rattle.seat_calls.proofs.small.alloc_small.Goals as goal
+
+pub returns-in_err-block-in-Filled-clause-none : goal.returns-in_err-block-in-Filled-clause-none
+returns-in_err-block-in-Filled-clause-none g c = on_err c.from_residual-in_err-block-in-Filled.result
+    (stopped_row c.args.seat.now c.refill.new.seat c.args.class.number c.alloc_cached-in-Filled.new.seat c.refill.ensures.row c.in_err-block-in-Filled.ensures.none)
+
+pub returns-in_err-block-in-Filled-clause-row : goal.returns-in_err-block-in-Filled-clause-row
+returns-in_err-block-in-Filled-clause-row g c = alloc_row c.args.seat.now c.refill.new.seat c.args.class.number c.alloc_cached-in-Filled.new.seat c.refill.ensures.row c.alloc_cached-in-Filled.ensures.row
+
+pub returns-in-Full-clause-light : goal.returns-in-Full-clause-light
+returns-in-Full-clause-light g c = λ same. full_light c.args.seat.now c.refill.new.seat c.args.class.number (c.in_ok-looks.ensures.light same)
+
+pub returns-in-Full-clause-row : goal.returns-in-Full-clause-row
+returns-in-Full-clause-row g c = full_row c.args.seat.now c.refill.new.seat c.args.class.number c.refill.ensures.row
+
+pub returns-in_ok-block-in-Filled-clause-allocated : goal.returns-in_ok-block-in-Filled-clause-allocated
+returns-in_ok-block-in-Filled-clause-allocated g c = filled_alloc c.args.seat.now.view c.refill.new.seat.view c.alloc_cached-in-Filled.new.seat.view c.args.class.number c.in_ok-block-in-Filled.block
+    (subst (λ filling. Refills c.args.class.number filling c.args.seat.now.view c.refill.new.seat.view) c.in-Filled.is c.in_ok-looks.ensures.done) c.in_ok-block-in-Filled.ensures.allocated
+
+pub returns-in_ok-block-in-Filled-clause-light : goal.returns-in_ok-block-in-Filled-clause-light
+returns-in_ok-block-in-Filled-clause-light g c = alloc_light c.args.seat.now c.refill.new.seat c.args.class.number c.alloc_cached-in-Filled.new.seat c.refill.ensures.row c.in_ok-looks.ensures.light c.alloc_cached-in-Filled.ensures.row
+
+pub returns-in_ok-block-in-Filled-clause-row : goal.returns-in_ok-block-in-Filled-clause-row
+returns-in_ok-block-in-Filled-clause-row g c = alloc_row c.args.seat.now c.refill.new.seat c.args.class.number c.alloc_cached-in-Filled.new.seat c.refill.ensures.row c.alloc_cached-in-Filled.ensures.row
