@@ -29,7 +29,7 @@ use Rattle.seat_rows.specs.Draws.{Settles}
 use Rattle.seat_rows.specs.Rows.{HasDrawn, HoldingRow, Parts, Row, Stops, parts}
 use Rattle.seat_rows.specs.Words.{IsHeldWord, KeepsWord, times_held}
 use Rattle.seat_rows.proofs.DrawLemmas.{row_of_stop, shifted_is, was_going}
-use Rattle.seat_rows.proofs.RowLemmas.{holding_then, holding_within, row_none, row_then, row_within, stops_behind}
+use Rattle.seat_rows.proofs.RowLemmas.{holding_then, holding_within, row_none, row_then, row_within, stops_passed}
 use Rattle.seat_rows.proofs.ShiftLemmas.{told_shift_row}
 use Rattle.seat_rows.proofs.StoreLemmas.{row_of_store, store_row}
 use Rattle.seat_rows.proofs.WordLemmas.{stored_other, word_then}
@@ -235,7 +235,7 @@ module _ (v t : SeatView) (stores : KeepsStores v t) (block : ℕ)
     split_may = record { small = row.view.small ∙ ap (λ (p : Parts). p.small) (opened going).0; large = inr (row.view.large ∙ ap (λ (p : Parts). p.large) (opened going).0) }
 
     pub split_stops : (step : ℕ) → Stops step t.view w.view → Stops step v.view w.view
-    split_stops step stop = stops_behind v.view t.view w.view step (ran going) going opening_row.passes stop
+    split_stops step stop = stops_passed v.view t.view w.view step (ran going) going opening_row.passes stop
 
     pub split_done : HasSoundState t.view → HasClearedAll d n t.view w.view → HasSplit d v.view w.view
     split_done has cleared = record {
