@@ -38,6 +38,7 @@ nothing_won v w wins taken p = record {
     roots = p.passes.roots;
     floor = p.passes.floor;
     next = p.passes.next;
+    tickets = p.passes.tickets;
     more = p.passes.more;
     most = let m = p.passes.most in record { draws = m.draws; wins = (let more = p.passes.more.moves in omega arith); gives = m.gives; cuts = m.cuts; taken = omega arith; moves = m.moves };
     looks = p.passes.looks;

@@ -5,21 +5,6 @@ use heap_model::Block;
 use heap_seat::{AllocFault, HeapSeat, Spot};
 use line_memory::{Chance, Stopped};
 use seat_words::{fence, load, store, write_back};
-use super_block::{ROOT_WORD, WORD_BYTES};
-
-ghost use Rattle.std.specs.Prelude.{◌≡◌, ◌<◌, ◌≤◌, ◌^◌, OnOk, IfErr, None, Some};
-ghost use Rattle.heap_seat.specs.View.{word_of as spot_word};
-
-/// The word of the spot.
-fn word_of(s: Spot) -> u64
-    requires { spot_word s < 2 ^ 48 }
-    ensures { result ≡ spot_word s }
-{
-    match s {
-        Spot::InBlock(b, index) => b.first_word + index,
-        Spot::Root(i) => ROOT_WORD + i,
-    }
-}
 
 impl<'a, C: Chance> HeapSeat for CacheSeat<'a, C> {
     ghost use Rattle.heap_rule.specs.Left.{MayBeLeft};
@@ -48,7 +33,7 @@ impl<'a, C: Chance> HeapSeat for CacheSeat<'a, C> {
         self.check_running()?;
         self.seat.has_a_low_budget();
         self.seat.has_a_sound_state();
-        let word = word_of(s);
+        let word = s.word();
         let answer = load(&mut self.seat, self.shared, word, &mut self.chance);
         self.seat.has_a_sound_state();
         self.small_calls += 1;
@@ -59,7 +44,7 @@ impl<'a, C: Chance> HeapSeat for CacheSeat<'a, C> {
         self.check_running()?;
         self.seat.has_a_low_budget();
         self.seat.has_a_sound_state();
-        let word = word_of(s);
+        let word = s.word();
         let answer = store(&mut self.seat, self.shared, word, value, &mut self.chance);
         self.seat.has_a_sound_state();
         self.small_calls += 1;
@@ -70,7 +55,7 @@ impl<'a, C: Chance> HeapSeat for CacheSeat<'a, C> {
         self.check_running()?;
         self.seat.has_a_low_budget();
         self.seat.has_a_sound_state();
-        let word = word_of(s);
+        let word = s.word();
         let answer = write_back(&mut self.seat, self.shared, word, &mut self.chance);
         self.seat.has_a_sound_state();
         self.small_calls += 1;

@@ -11,12 +11,12 @@ use Rattle.seat_words.specs.Own.{HasStored, MayHave}
 use Rattle.thread_cache.proofs.CallLemmas.{between_then, counts_then, small_counted, small_keeps, small_may_store, small_step, small_stops, small_stores, small_unstored, spot_held, spot_low}
 use Rattle.thread_cache.proofs.calls.CacheSeatHeapSeat.store.Goals as goal
 
-pub word_of-word-requires : goal.word_of-word-requires
-word_of-word-requires g c = spot_low c.args.self.now c.args.s c.requires
+pub word-word-requires : goal.word-word-requires
+word-word-requires g c = spot_low c.args.self.now c.args.s c.requires
 
 pub store-answer-requires-clause-held : goal.store-answer-requires-clause-held
 store-answer-requires-clause-held g c =
-    subst (IsHeldWord c.self.inside.seat.view) (sym c.word_of-word.ensures)
+    subst (IsHeldWord c.self.inside.seat.view) (sym c.word-word.ensures)
     (subst (λ (v : View). IsHeldWord v (word_of c.args.s)) (sym (ap (λ (s : CacheState). s.view) c.self.view_is)) (spot_held c.args.self.now c.args.s c.requires))
 
 pub store-answer-requires-clause-no_batch : goal.store-answer-requires-clause-no_batch
@@ -45,10 +45,10 @@ returns-clause-stopped g c = small_stops c.args.self.now c.self.inside.seat c.st
 
 pub returns-clause-ok : goal.returns-clause-ok
 returns-clause-ok g c = small_stores c.args.self.now c.self.inside.seat c.store-answer.new.seat _ (small_step _ c.args.self.now c.self.view_is c.self.inside.seat c.store-answer.new.seat refl refl c.has_a_sound_state-2.ensures c.in_ok-check_running.ensures.ok) (word_of c.args.s) c.args.value c.store-answer.result
-    (subst (λ word. OnOk c.store-answer.result (HasStored word c.args.value c.self.inside.seat.view c.store-answer.new.seat.view)) c.word_of-word.ensures c.store-answer.ensures.stored)
-    (subst (λ word. (other : ℕ) → other ≢ word → IsMarked c.self.inside.seat.marks other → IsMarked c.store-answer.new.seat.marks other) c.word_of-word.ensures c.store-answer.ensures.marks)
+    (subst (λ word. OnOk c.store-answer.result (HasStored word c.args.value c.self.inside.seat.view c.store-answer.new.seat.view)) c.word-word.ensures c.store-answer.ensures.stored)
+    (subst (λ word. (other : ℕ) → other ≢ word → IsMarked c.self.inside.seat.marks other → IsMarked c.store-answer.new.seat.marks other) c.word-word.ensures c.store-answer.ensures.marks)
 
 pub returns-clause-crash : goal.returns-clause-crash
 returns-clause-crash g c = small_may_store c.args.self.now c.self.inside.seat c.store-answer.new.seat _ (small_step _ c.args.self.now c.self.view_is c.self.inside.seat c.store-answer.new.seat refl refl c.has_a_sound_state-2.ensures c.in_ok-check_running.ensures.ok) (word_of c.args.s) c.args.value
-    (subst (λ word. StoringRow word one_draw c.self.inside.seat c.store-answer.new.seat) c.word_of-word.ensures c.store-answer.ensures.row)
-    (subst (λ word. MayHave word c.args.value c.self.inside.seat.view c.store-answer.new.seat.view) c.word_of-word.ensures c.store-answer.ensures.crash)
+    (subst (λ word. StoringRow word one_draw c.self.inside.seat c.store-answer.new.seat) c.word-word.ensures c.store-answer.ensures.row)
+    (subst (λ word. MayHave word c.args.value c.self.inside.seat.view c.store-answer.new.seat.view) c.word-word.ensures c.store-answer.ensures.crash)

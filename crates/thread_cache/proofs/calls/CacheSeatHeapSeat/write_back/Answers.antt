@@ -9,12 +9,12 @@ use Rattle.seat_words.specs.Own.{HasMarkedLine}
 use Rattle.thread_cache.proofs.CallLemmas.{between_then, counts_then, small_counted, small_keeps, small_own, small_step, small_stops, small_writes_back, spot_held, spot_low}
 use Rattle.thread_cache.proofs.calls.CacheSeatHeapSeat.write_back.Goals as goal
 
-pub word_of-word-requires : goal.word_of-word-requires
-word_of-word-requires g c = spot_low c.args.self.now c.args.s c.requires
+pub word-word-requires : goal.word-word-requires
+word-word-requires g c = spot_low c.args.self.now c.args.s c.requires
 
 pub write_back-answer-requires-clause-own : goal.write_back-answer-requires-clause-own
 write_back-answer-requires-clause-own g c =
-    subst (Owns c.self.inside.seat.view) (sym c.word_of-word.ensures) (owns_held c.self.inside.seat.view (word_of c.args.s)
+    subst (Owns c.self.inside.seat.view) (sym c.word-word.ensures) (owns_held c.self.inside.seat.view (word_of c.args.s)
     (subst (λ (v : View). IsHeldWord v (word_of c.args.s)) (sym (ap (λ (s : CacheState). s.view) c.self.view_is)) (spot_held c.args.self.now c.args.s c.requires)))
 
 pub invariant_of-self-inside : goal.invariant_of-self-inside
@@ -40,5 +40,5 @@ returns-clause-stopped g c = small_stops c.args.self.now c.self.inside.seat c.wr
 
 pub returns-clause-ok : goal.returns-clause-ok
 returns-clause-ok g c = small_writes_back c.args.self.now c.self.inside.seat c.write_back-answer.new.seat _ (small_step _ c.args.self.now c.self.view_is c.self.inside.seat c.write_back-answer.new.seat refl refl c.has_a_sound_state-2.ensures c.in_ok-check_running.ensures.ok) c.args.s c.write_back-answer.result c.requires
-    (subst (λ word. OnOk c.write_back-answer.result (HasMarkedLine word c.self.inside.seat c.write_back-answer.new.seat)) c.word_of-word.ensures c.write_back-answer.ensures.marked)
+    (subst (λ word. OnOk c.write_back-answer.result (HasMarkedLine word c.self.inside.seat c.write_back-answer.new.seat)) c.word-word.ensures c.write_back-answer.ensures.marked)
     c.write_back-answer.ensures.marks
