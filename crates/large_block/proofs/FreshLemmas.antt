@@ -168,7 +168,7 @@ keeping_row v t u w n look take keep = row_within (taking n) v w (record { draws
     (row_then v u w (row_then v t u look take) keep)
 
 -- the ticket behind which the next one rose
-drawn_ticket : (o : Option ℕ) (next : ℕ) → next < after_ticket o → (ticket : ℕ) × (o ≡ Some ticket) × (next ≤ ticket) × (ticket < after_ticket o)
+pub drawn_ticket : (o : Option ℕ) (next : ℕ) → next < after_ticket o → (ticket : ℕ) × (o ≡ Some ticket) × (next ≤ ticket) × (ticket < after_ticket o)
 drawn_ticket None next less = absurd (omega arith)
 drawn_ticket (Some ticket) next less = (ticket, refl, omega arith, omega arith)
 

@@ -1,2 +1,3 @@
 pub mod SmallLemmas
 pub mod AllocLemmas
+pub mod LargeLemmas
