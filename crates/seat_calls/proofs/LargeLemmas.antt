@@ -1,20 +1,25 @@
 -- What holding and freeing a large block leaves.
-use Rattle.std.proofs.Common.{◌≡◌, ◌≤◌, ℕ, zero, suc, ◌+◌, ◌*◌, ◌∷◌, ◌++◌, [], cond, nat_le, nat_lt, refl, ap, sym, ◌∙◌, le-leb, lt-ltb, arith}
+use Rattle.std.proofs.Common.{◌-◌, ◌<◌, inr, None, eq-eqb, ◌≡◌, ◌≤◌, ℕ, zero, suc, ◌+◌, ◌*◌, ◌∷◌, ◌++◌, [], cond, nat_le, nat_lt, refl, ap, sym, ◌∙◌, le-leb, lt-ltb, arith}
 use Rattle.heap_model.specs.declared.block.Block.{Block}
-use Rattle.heap_model.specs.Counting.{times}
+use Rattle.std.proofs.lemmas.List.{append-nil}
+use Rattle.heap_model.specs.Counting.{times, without}
 use Rattle.heap_model.specs.Geometry.{start_word, superblock_words}
-use Rattle.core_model.specs.Effects.{steps, without_range}
+use Rattle.core_model.specs.Effects.{span_count, steps, without_claim, without_range, without_span}
 use Rattle.core_model.specs.View.{LastLook, View}
 use Rattle.core_model.proofs.PlaceLemmas.{and_is}
+use Rattle.core_model.proofs.TotalLemmas.{eq-eqb-one}
+use Rattle.heap_rule.specs.Shown.{CanList, as_free, by_claim}
 use Rattle.heap_rule.specs.Seated.{SeatView}
 use Rattle.large_block.specs.Fresh.{HasTakenFresh, IsPast, with_fresh}
 use Rattle.large_block.specs.Holds.{HasHeld, IsFreshClaim, with_large}
+use Rattle.large_block.specs.Splits.{HasSplit, MayHaveSplit, down}
 use Rattle.large_block.proofs.FreshLemmas.{drawn_ticket, fresh_claimed}
-use Rattle.seat_calls.specs.Large.{HasAllocatedLarge, HasNoRoom, large_costs}
-use Rattle.seat_rows.specs.Costs.{Costs, no_costs}
+use Rattle.seat_calls.specs.Large.{HasAllocatedLarge, HasFreedLarge, HasListedAll, HasNoRoom, large_costs, large_free_costs, list_costs}
+use Rattle.seat_lists.specs.Pushes.{HasPushed, without_claim_of}
+use Rattle.seat_rows.specs.Costs.{Costs, no_costs, one_push}
 use Rattle.seat_rows.specs.Idle.{IsIdle}
 use Rattle.seat_rows.specs.Rows.{HoldingRow, Parts, Row, next_of, parts}
-use Rattle.seat_rows.proofs.RowLemmas.{holding_within, row_then, row_within, then_holding}
+use Rattle.seat_rows.proofs.RowLemmas.{holding_then, holding_within, row_none, row_then, row_within, then_holding}
 
 -- none is left of the superblocks that a large block takes
 none_left : (d n k m : ℕ) → k + m ≤ n → without_range d n (steps (d + k) 1 m) ≡ []
@@ -93,3 +98,90 @@ not_held_row v t w n take row = row_within (large_costs n) v w (record { draws =
 
 pub held_row : (v t w : SeatView) (n : ℕ) → Row (taking n) v t → HoldingRow (record no_costs { draws = 2 }) t w → HoldingRow (large_costs n) v w
 held_row v t w n take row = holding_within (large_costs n) v w (record { draws = omega arith; wins = omega arith; gives = omega arith; cuts = omega arith; taken = omega arith; moves = omega arith }) (then_holding v t w take row)
+
+-- the first of the superblocks that are left may be listed
+module _ (v : View) (d n : ℕ) (raw : v.raw ≡ down d (suc n)) (cutting : v.cutting ≡ []) where
+  last_there : 0 < times (d + n) v.raw
+  last_there = let s = ap (times (d + n)) raw in let one = eq-eqb-one (d + n) (d + n) refl in omega arith
+
+  pub can_list : CanList v (d + n) 0
+  can_list = as_free (record { claimed = let l = last_there in omega arith; not_cutting = ap (times (d + n)) cutting }) (by_claim last_there)
+
+  pub listed_parts : v.split ≡ [] → without_claim_of (d + n) (parts v) ≡ record (parts v) { raw = down d n }
+  listed_parts split =
+      ap (λ t. cond t (record (parts v) { raw = without (d + n) v.raw; split = without (d + n) v.split }) (record (parts v) { classed = without_claim (d + n) v.classed }))
+      (lt-ltb 0 (times (d + n) v.raw + times (d + n) v.split) (let l = last_there in omega arith))
+      ∙ ap (λ l. record (parts v) { raw = without (d + n) l; split = without (d + n) v.split }) raw
+      ∙ ap (λ t. record (parts v) { raw = cond t (down d n) ((d + n) ∷ without (d + n) (down d n)); split = without (d + n) v.split }) (eq-eqb (d + n) (d + n) refl)
+      ∙ ap (λ l. record (parts v) { raw = down d n; split = l }) (ap (without (d + n)) split ∙ sym split)
+
+-- how far they are listed
+pub record Listing (d n left : ℕ) (v t : SeatView) : Type 0 where
+  pub going : t.view.stopped ≡ None
+  pub fewer : left ≤ n
+  pub parts_are : parts t.view ≡ record (parts v.view) { raw = down d left }
+  pub row : Row (list_costs (n - left)) v t
+
+pub listing_begins : (v : SeatView) (d n : ℕ) → v.view.stopped ≡ None → v.view.raw ≡ down d n → Listing d n n v v
+listing_begins v d n going raw = record {
+  going = going;
+  fewer = omega arith;
+  parts_are = ap (λ l. record (parts v.view) { raw = l }) raw;
+  row = row_within (list_costs (n - n)) v v (record { draws = omega arith; wins = omega arith; gives = omega arith; cuts = omega arith; taken = omega arith; moves = omega arith }) (row_none v);
+}
+
+module _ (v t : SeatView) (d n left m : ℕ) (listing : Listing d n left v t) (is : left ≡ suc m) (cutting : v.view.cutting ≡ []) where
+  raw_is : t.view.raw ≡ down d (suc m)
+  raw_is = ap (λ (p : Parts). p.raw) listing.parts_are ∙ ap (down d) is
+
+  cutting_is : t.view.cutting ≡ []
+  cutting_is = ap (λ (p : Parts). p.cutting) listing.parts_are ∙ cutting
+
+  pub can_push : CanList t.view (d + m) 0
+  can_push = can_list t.view d m raw_is cutting_is
+
+  pub listing_floor : d + n ≤ v.view.floor → d + m < t.view.floor
+  listing_floor durable = let f = listing.row.view.passes.floor in let less = listing.fewer in omega arith
+
+  module _ (w : SeatView) (row : Row (record one_push { draws = 3 }) t w) where
+    pub listing_row : Row (list_costs n) v w
+    listing_row = let less = listing.fewer in row_within (list_costs n) v w (record { draws = omega arith; wins = omega arith; gives = omega arith; cuts = omega arith; taken = omega arith; moves = omega arith }) (row_then v t w listing.row row)
+
+    pub listing_on : v.view.split ≡ [] → HasPushed 0 (d + m) 3 t.view w.view → Listing d n m v w
+    listing_on split pushed = let less = listing.fewer in record {
+      going = pushed.going;
+      fewer = omega arith;
+      parts_are = pushed.parts_are ∙ listed_parts t.view d m raw_is cutting_is (ap (λ (p : Parts). p.split) listing.parts_are ∙ split)
+          ∙ ap (λ (p : Parts). record p { raw = down d m }) listing.parts_are;
+      row = row_within (list_costs (n - m)) v w (record { draws = omega arith; wins = omega arith; gives = omega arith; cuts = omega arith; taken = omega arith; moves = omega arith }) (row_then v t w listing.row row);
+    }
+
+pub listing_done : (v t : SeatView) (d n : ℕ) → Listing d n 0 v t → HasListedAll v.view t.view
+listing_done v t d n listing = record { going = listing.going; parts_are = listing.parts_are }
+
+pub all_listed_row : (v t : SeatView) (d n left : ℕ) → Listing d n left v t → Row (list_costs n) v t
+all_listed_row v t d n left listing = row_within (list_costs n) v t (record { draws = omega arith; wins = omega arith; gives = omega arith; cuts = omega arith; taken = omega arith; moves = omega arith }) listing.row
+
+-- split and then listed
+module _ (v t w : SeatView) (d n : ℕ) (split : HasSplit d v.view t.view) (count : n ≡ span_count d v.view.large) (idle : IsIdle v.view) where
+  pub claimed_down : t.view.raw ≡ down d n
+  claimed_down = ap (λ (p : Parts). p.raw) split.parts_are ∙ ap (λ l. down d (span_count d v.view.large) ++ l) idle.raw ∙ append-nil (down d (span_count d v.view.large)) ∙ ap (down d) (sym count)
+
+  pub freed : HasListedAll t.view w.view → HasFreedLarge d v.view w.view
+  freed listed = record {
+    going = listed.going;
+    parts_are = listed.parts_are ∙ ap (λ (p : Parts). record p { raw = [] }) split.parts_are
+        ∙ ap (λ l. record (parts v.view) { large = without_span d v.view.large; raw = l }) (sym idle.raw);
+  }
+
+  pub freed_may : Row (list_costs n) t w → MayHaveSplit d v.view w.view
+  freed_may row = record {
+    small = row.view.small ∙ ap (λ (p : Parts). p.small) split.parts_are;
+    large = inr (row.view.large ∙ ap (λ (p : Parts). p.large) split.parts_are);
+  }
+
+pub freed_row : (v t w : SeatView) (n : ℕ) → HoldingRow (record no_costs { draws = n + 1 }) v t → Row (list_costs n) t w → HoldingRow (large_free_costs n) v w
+freed_row v t w n split row = holding_within (large_free_costs n) v w (record { draws = omega arith; wins = omega arith; gives = omega arith; cuts = omega arith; taken = omega arith; moves = omega arith }) (holding_then v t w split row)
+
+pub split_alone_row : (v t : SeatView) (n : ℕ) → HoldingRow (record no_costs { draws = n + 1 }) v t → HoldingRow (large_free_costs n) v t
+split_alone_row v t n split = holding_within (large_free_costs n) v t (record { draws = omega arith; wins = omega arith; gives = omega arith; cuts = omega arith; taken = omega arith; moves = omega arith }) split

@@ -1,10 +1,11 @@
 -- What holding and freeing a large block leaves of a seat.
-use Rattle.std.specs.Prelude.{◌≡◌, ◌<◌, ◌≤◌, ◌+◌, ◌*◌, ◌∷◌, ℕ, None, Some}
+use Rattle.std.specs.Prelude.{◌≡◌, ◌<◌, ◌≤◌, ◌+◌, ◌*◌, ◌∷◌, [], ℕ, None, Some}
 use Rattle.heap_model.specs.declared.block.Block.{Block}
 use Rattle.heap_model.specs.Geometry.{start_word, superblock_words}
 use Rattle.heap_seat.specs.declared.fault.AllocFault.{AllocFault}
 use Rattle.heap_seat.specs.declared.fault.AllocFault.TheVariants.{Full, Stopped}
 use Rattle.heap_seat.specs.declared.fault.Looks.{Looks}
+use Rattle.core_model.specs.Effects.{without_span}
 use Rattle.core_model.specs.View.{LastLook, View}
 use Rattle.seat_rows.specs.Costs.{Costs, no_costs}
 use Rattle.seat_rows.specs.Rows.{IsMade, Stops, next_of, parts}
@@ -50,3 +51,21 @@ AllocatesNoLarge n (Stopped stopped) v w = Stops stopped.step v w
 -- what a block of n superblocks costs
 abbrev pub large_costs : ℕ → Costs
 large_costs n = record no_costs { draws = 5; wins = 1; taken = n }
+
+-- all that were claimed without a class are in the list of the free ones
+pub record HasListedAll (v w : View) : Type 0 where
+  pub going : w.stopped ≡ None
+  pub parts_are : parts w ≡ record (parts v) { raw = [] }
+
+-- what the pushing of n superblocks costs
+abbrev pub list_costs : ℕ → Costs
+list_costs n = record no_costs { draws = 3 * n; wins = n; moves = n }
+
+-- the large block from d on is held no more
+pub record HasFreedLarge (d : ℕ) (v w : View) : Type 0 where
+  pub going : w.stopped ≡ None
+  pub parts_are : parts w ≡ record (parts v) { large = without_span d v.large }
+
+-- what the freeing of a block of n superblocks costs
+abbrev pub large_free_costs : ℕ → Costs
+large_free_costs n = record no_costs { draws = n + 1 + 3 * n; wins = n; moves = n }

@@ -1,17 +1,21 @@
 //! Large blocks are held and freed: they take superblocks that were never taken, and leave them to
 //! the list of the free ones.
 
-ghost use Rattle.std.specs.Prelude.{◌≡◌, None, IfOk, OnErr, IfErr};
+ghost use Rattle.std.specs.Prelude.{◌≡◌, ◌≤◌, ◌+◌, None, [], IfOk, OnOk, OnErr, IfErr};
 ghost use Rattle.heap_model.specs.Sizes.{span_of};
 ghost use Rattle.heap_rule.specs.Seated.{IsSeatOf};
 ghost use Rattle.seat_rows.specs.Idle.{IsIdle};
-ghost use Rattle.seat_rows.specs.Rows.{HoldingRow, Row};
-ghost use Rattle.seat_calls.specs.Large.{AllocatesNoLarge, HasAllocatedLarge, large_costs};
+ghost use Rattle.seat_rows.specs.Rows.{HoldingRow, Row, Stops};
+ghost use Rattle.core_model.specs.Cells.{superblock_at};
+ghost use Rattle.core_model.specs.Effects.{span_count};
+ghost use Rattle.core_model.specs.Guards.{MaySplit};
+ghost use Rattle.large_block.specs.Splits.{MayHaveSplit, down};
+ghost use Rattle.seat_calls.specs.Large.{AllocatesNoLarge, HasAllocatedLarge, HasFreedLarge, HasListedAll, large_costs, large_free_costs, list_costs};
 
 use heap_rule::{Seat, Shared};
 use heap_seat::{AllocFault, Looks};
-use large_block::{Take, hold, take_fresh};
-use line_memory::Chance;
+use large_block::{Superblocks, Take, hold, split, superblocks_of, take_fresh};
+use line_memory::{Chance, Stopped};
 use size_table::span_of;
 use super_block::Block;
 
@@ -49,4 +53,64 @@ pub fn alloc_large<C: Chance>(
         }
     };
     Ok(hold(seat, shared, d, n, chance)?)
+}
+
+/// Pushes claimed superblocks on the list of the free ones, from the last to the first, so that
+/// they are popped in their order.
+fn list_all<C: Chance>(
+    seat: &mut Seat,
+    shared: &Shared,
+    span: Superblocks,
+    chance: &mut C,
+) -> Result<(), Stopped>
+    requires seat { IsSeatOf shared.now seat.old }
+    requires going { seat.old.view.stopped ≡ None }
+    requires inside { span.first + span.count ≤ seat.old.view.setup.capacity }
+    requires durable { span.first + span.count ≤ seat.old.view.floor }
+    requires claimed { seat.old.view.raw ≡ down span.first span.count }
+    requires no_split { seat.old.view.split ≡ [] }
+    requires no_cutting { seat.old.view.cutting ≡ [] }
+    ensures listed { OnOk result (HasListedAll seat.old.view seat.new.view) }
+    ensures stopped { IfErr result (λ e. Stops e.step seat.old.view seat.new.view) }
+    ensures row { Row (list_costs span.count) seat.old seat.new }
+    ensures seat { IsSeatOf shared.now seat.new }
+{
+    let _capacity = seat.capacity(shared);
+    let mut left = span.count;
+    while left > 0 {
+        left -= 1;
+        free_list::push(seat, shared, span.first + left, chance)?;
+    }
+    Ok(())
+}
+
+/// Frees a held large block: its superblocks are in the list of the free ones then.
+///
+/// The block is held no more once its first ticket is drawn. A seat that stops on the way may have
+/// superblocks of it that it has not pushed yet.
+pub fn free_large<C: Chance>(
+    seat: &mut Seat,
+    shared: &Shared,
+    block: Block,
+    chance: &mut C,
+) -> Result<(), Stopped>
+    requires seat { IsSeatOf shared.now seat.old }
+    requires held { MaySplit seat.old.view block.first_word }
+    requires going { seat.old.view.stopped ≡ None }
+    requires idle { IsIdle seat.old.view }
+    ensures freed { OnOk result (HasFreedLarge
+        (superblock_at seat.old.view.setup.capacity block.first_word)
+        seat.old.view seat.new.view) }
+    ensures may { MayHaveSplit (superblock_at seat.old.view.setup.capacity block.first_word)
+        seat.old.view seat.new.view }
+    ensures stopped { IfErr result (λ e. Stops e.step seat.old.view seat.new.view) }
+    ensures row {
+        let d = superblock_at seat.old.view.setup.capacity block.first_word in
+        HoldingRow (large_free_costs (span_count d seat.old.view.large)) seat.old seat.new
+    }
+    ensures seat { IsSeatOf shared.now seat.new }
+{
+    let span = superblocks_of(seat, shared, block.first_word);
+    split(seat, shared, block, chance)?;
+    list_all(seat, shared, span, chance)
 }

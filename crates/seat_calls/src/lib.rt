@@ -4,5 +4,5 @@
 mod large;
 mod small;
 
-pub use large::alloc_large;
+pub use large::{alloc_large, free_large};
 pub use small::{alloc_small, free_small};
