@@ -7,7 +7,7 @@ ghost use Rattle.core_model.specs.Cells.{superblock_at};
 ghost use Rattle.core_model.specs.Effects.{span_count};
 ghost use Rattle.core_model.specs.Guards.{MaySplit};
 ghost use Rattle.seat_rows.specs.Costs.{no_costs, one_draw};
-ghost use Rattle.seat_rows.specs.Rows.{HoldingRow, Row, Stops};
+ghost use Rattle.seat_rows.specs.Rows.{HoldingRow, Row, Stops, next_of};
 ghost use Rattle.large_block.specs.Splits.{HasCleared, HasClearedAll, HasSplit, MayHaveSplit};
 
 use core_model::Shift;
@@ -109,6 +109,7 @@ pub fn split<C: Chance>(
     ensures may { MayHaveSplit (superblock_at seat.old.view.setup.capacity block.first_word)
         seat.old.view seat.new.view }
     ensures stopped { IfErr result (λ e. Stops e.step seat.old.view seat.new.view) }
+    ensures drew { seat.old.view.stopped ≡ None → next_of seat.old.view < next_of seat.new.view }
     ensures row { let d = superblock_at seat.old.view.setup.capacity block.first_word in
         HoldingRow (record no_costs { draws = span_count d seat.old.view.large + 1 })
         seat.old seat.new }

@@ -1,11 +1,11 @@
 //! Large blocks are held and freed: they take superblocks that were never taken, and leave them to
 //! the list of the free ones.
 
-ghost use Rattle.std.specs.Prelude.{◌≡◌, ◌≤◌, ◌+◌, None, [], IfOk, OnOk, OnErr, IfErr};
+ghost use Rattle.std.specs.Prelude.{◌≡◌, ◌<◌, ◌≤◌, ◌+◌, None, [], IfOk, OnOk, OnErr, IfErr};
 ghost use Rattle.heap_model.specs.Sizes.{span_of};
 ghost use Rattle.heap_rule.specs.Seated.{IsSeatOf};
 ghost use Rattle.seat_rows.specs.Idle.{IsIdle};
-ghost use Rattle.seat_rows.specs.Rows.{HoldingRow, Row, Stops};
+ghost use Rattle.seat_rows.specs.Rows.{HoldingRow, Row, Stops, next_of};
 ghost use Rattle.core_model.specs.Cells.{superblock_at};
 ghost use Rattle.core_model.specs.Effects.{span_count};
 ghost use Rattle.core_model.specs.Guards.{MaySplit};
@@ -38,6 +38,7 @@ pub fn alloc_large<C: Chance>(
     ensures refused { IfErr result (λ fault. AllocatesNoLarge (span_of bytes) fault
         seat.old.view seat.new.view) }
     ensures none { OnErr result (Row (large_costs (span_of bytes)) seat.old seat.new) }
+    ensures drew { next_of seat.old.view < next_of seat.new.view }
     ensures row { HoldingRow (large_costs (span_of bytes)) seat.old seat.new }
     ensures seat { IsSeatOf shared.now seat.new }
 {
@@ -104,6 +105,7 @@ pub fn free_large<C: Chance>(
     ensures may { MayHaveSplit (superblock_at seat.old.view.setup.capacity block.first_word)
         seat.old.view seat.new.view }
     ensures stopped { IfErr result (λ e. Stops e.step seat.old.view seat.new.view) }
+    ensures drew { next_of seat.old.view < next_of seat.new.view }
     ensures row {
         let d = superblock_at seat.old.view.setup.capacity block.first_word in
         HoldingRow (large_free_costs (span_count d seat.old.view.large)) seat.old seat.new

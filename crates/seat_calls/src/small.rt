@@ -8,7 +8,7 @@ ghost use Rattle.core_model.specs.View.{of_class};
 ghost use Rattle.heap_rule.specs.Seated.{IsSeatOf};
 ghost use Rattle.seat_rows.specs.Costs.{no_costs, one_draw};
 ghost use Rattle.seat_rows.specs.Idle.{HasShortCaches, IsIdle};
-ghost use Rattle.seat_rows.specs.Rows.{HoldingRow, Row, RowBut, Stops, StoringRow};
+ghost use Rattle.seat_rows.specs.Rows.{HoldingRow, Row, RowBut, Stops, StoringRow, next_of};
 ghost use Rattle.seat_calls.specs.Small.{AllocatesNone, HasAllocated, HasCached, HasFreed, HasWay, IfGoing, IsHeldOutside, MayHaveFreed, alloc_costs, block_of, free_costs, light_alloc};
 
 use core_model::Shift;
@@ -37,6 +37,7 @@ fn alloc_cached<C: Chance>(
         seat.old.view seat.new.view) }
     ensures stopped { IfErr result (λ e. Stops e.step seat.old.view seat.new.view) }
     ensures none { OnErr result (Row one_draw seat.old seat.new) }
+    ensures drew { next_of seat.old.view < next_of seat.new.view }
     ensures row { HoldingRow one_draw seat.old seat.new }
     ensures seat { IsSeatOf shared.now seat.new }
 {
@@ -73,6 +74,7 @@ pub fn alloc_small<C: Chance>(
     ensures none { OnErr result
         (Row (alloc_costs class.number (seat.new.view.moves - seat.old.view.moves))
         seat.old seat.new) }
+    ensures drew { next_of seat.old.view < next_of seat.new.view }
     ensures light { IfGoing result (seat.new.view.cuts ≡ seat.old.view.cuts
         → HoldingRow (light_alloc (seat.new.view.moves - seat.old.view.moves))
         seat.old seat.new) }
@@ -135,6 +137,7 @@ fn free_cached<C: Chance>(
     ensures cached { OnOk result (HasCached block class.number seat.old.view seat.new.view) }
     ensures may { MayHaveFreed block class.number seat.old.view seat.new.view }
     ensures stopped { IfErr result (λ e. Stops e.step seat.old.view seat.new.view) }
+    ensures drew { seat.old.view.stopped ≡ None → next_of seat.old.view < next_of seat.new.view }
     ensures row { RowBut (IsHeldOutside seat.old.view (block_of class.number block))
         (record no_costs { draws = 2 }) seat.old seat.new }
     ensures seat { IsSeatOf shared.now seat.new }
@@ -164,6 +167,7 @@ pub fn free_small<C: Chance>(
     ensures freed { OnOk result (HasFreed block class.number seat.old.view seat.new.view) }
     ensures may { MayHaveFreed block class.number seat.old.view seat.new.view }
     ensures stopped { IfErr result (λ e. Stops e.step seat.old.view seat.new.view) }
+    ensures drew { next_of seat.old.view < next_of seat.new.view }
     ensures light { length (of_class seat.old.view.caches class.number) + 1
         < blocks_of class.number
         → RowBut (IsHeldOutside seat.old.view (block_of class.number block))

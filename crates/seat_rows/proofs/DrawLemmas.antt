@@ -3,8 +3,9 @@ use Rattle.std.proofs.Common.{◌≡◌, ◌<◌, ◌≤◌, ℕ, inl, inr, Opti
 use Rattle.std.specs.Bool.{⊤}
 use Rattle.core_model.specs.declared.event.Event.TheVariants.{Tick}
 use Rattle.core_model.specs.declared.event.Shift.{Shift}
+use Rattle.core_model.specs.declared.event.Shift.TheVariants.{Alloc, Cut, Free, Large, Lift, Split}
 use Rattle.core_model.specs.Effects.{drew, shifted, stopped}
-use Rattle.core_model.specs.Memory.{memory_of}
+use Rattle.core_model.specs.Memory.{Memory, memory_of}
 use Rattle.core_model.specs.View.{View}
 use Rattle.line_memory.specs.declared.memory.Stopped.{Stopped}
 use Rattle.heap_rule.specs.Fences.{Owns, SettlesEarly, a_store, is_own, no_store, not_own}
@@ -15,7 +16,7 @@ use Rattle.heap_rule.proofs.TicketLemmas.{rises}
 use Rattle.heap_rule.proofs.ToldLemmas.{drawn_told, stop_told}
 use Rattle.seat_rows.specs.Draws.{Settles}
 use Rattle.seat_rows.specs.Costs.{one_draw}
-use Rattle.seat_rows.specs.Rows.{HasDrawn, SameLooks, Stops, ViewRow, next_of}
+use Rattle.seat_rows.specs.Rows.{HasDrawn, SameLooks, Stops, ViewRow, after_ticket, next_of}
 use Rattle.seat_rows.specs.Words.{KeepsWord}
 use Rattle.seat_rows.proofs.AlikeLemmas.{drew_row, holding, row_as, row_words}
 use Rattle.seat_rows.proofs.RowLemmas.{not_both, view_row_none, view_row_within}
@@ -78,6 +79,27 @@ module _ (v early : View) (settles : Settles v early) where
 
     pub shift_room : w.stopped ≡ None → v.draws < v.setup.budget
     shift_room going = let told = drawn_told shift early w found event going in let a = told.1 in let b = told.2 in let c = ap (λ (u : View). u.setup.budget) early_rest in let d = ap (λ (u : View). u.draws) early_rest in omega arith
+
+    -- whether it goes on or stops, its ticket is a later one
+    pub drew_later : v.stopped ≡ None → next_of v < next_of w
+    drew_later went = by_stop w.stopped refl where
+      last_of : (m : Memory) (u : View) (s : Option Shift) → (shifted m u s).last_ticket ≡ u.last_ticket
+      last_of m u None = refl
+      last_of m u (Some (Cut d)) = refl
+      last_of m u (Some (Alloc class)) = refl
+      last_of m u (Some (Free block)) = refl
+      last_of m u (Some (Lift class)) = refl
+      last_of m u (Some (Large d n)) = refl
+      last_of m u (Some (Split block)) = refl
+
+      by_stop : (o : Option ℕ) → w.stopped ≡ o → next_of v < next_of w
+      by_stop None going =
+          let last : w.last_ticket ≡ Some found = ap (λ (u : View). u.last_ticket) (shifted_is going)
+          ∙ last_of (memory_of early.setup.capacity event.before.words) (record (drew v found) { volatile = early.volatile; durable = early.durable }) shift in
+          let is = ap after_ticket last in let least = early_later in omega arith
+      by_stop (Some step) stop =
+          let last : w.last_ticket ≡ Some step = ap (λ (u : View). u.last_ticket) (stop_is step went stop) in
+          let is = ap after_ticket last in let same = (stop_step step went stop).0 in let least = early_later in omega arith
 
   module _ (w : View) (found : ℕ) (event : IsEvent (Tick None) early found w) where
     drawn_is : w.stopped ≡ None → w ≡ record (drew v found) { volatile = early.volatile; durable = early.durable }

@@ -1,7 +1,7 @@
 //! A draw of a ticket with no change.
 
 ghost use Rattle.heap_rule.specs.Seated.{IsSeatOf};
-ghost use Rattle.std.specs.Prelude.{◌≡◌, ℕ, None, Some, OnOk, IfErr};
+ghost use Rattle.std.specs.Prelude.{◌≡◌, ◌<◌, ℕ, None, Some, OnOk, IfErr};
 ghost use Rattle.core_model.specs.declared.event.Event.TheVariants.{Tick};
 ghost use Rattle.core_model.specs.View.{View};
 ghost use Rattle.heap_table.specs.Plays.{IsEvent};
@@ -9,7 +9,7 @@ ghost use Rattle.heap_rule.specs.Seated.{KeepsStores, TellsDraw};
 ghost use Rattle.heap_rule.specs.Shown.{Can};
 ghost use Rattle.seat_rows.specs.Draws.{Settles};
 ghost use Rattle.seat_rows.specs.Costs.{one_draw};
-ghost use Rattle.seat_rows.specs.Rows.{HasDrawn, Row, SameLooks, Stops};
+ghost use Rattle.seat_rows.specs.Rows.{HasDrawn, Row, SameLooks, Stops, next_of};
 
 use core_model::Shift;
 use heap_rule::{Seat, Shared};
@@ -29,6 +29,7 @@ pub fn draw_with<C: Chance>(
         × (found : ℕ) × IsEvent (Tick shift) early found seat.new.view }
     ensures had_stopped { (step : ℕ) → seat.old.view.stopped ≡ Some step → seat.new ≡ seat.old }
     ensures told { TellsDraw seat.new.view result }
+    ensures drew { seat.old.view.stopped ≡ None → next_of seat.old.view < next_of seat.new.view }
     ensures stores { KeepsStores seat.old seat.new }
     ensures seat { IsSeatOf shared.now seat.new }
 {
