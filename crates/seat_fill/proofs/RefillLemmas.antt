@@ -199,6 +199,7 @@ nothing_free v t w head used has row empty past =
       used_look = second.0;
       since = first.1;
       order = let a = first.2 in let b = second.1 in omega arith;
+      last = second.2;
       others = λ list less apart. get_or_default w.head_looks list w.used_look t.used_look (omega arith)
           ∙ ap (λ looks. get_or looks list t.used_look) past.heads ∙ empty.others.heads list apart;
       row = row;
@@ -247,6 +248,7 @@ nothing_left v t w class class_head free_head used is none nothing = record {
   since = none.since;
   class_first = let a = none.last in let b = nothing.since in omega arith;
   free_second = nothing.order;
+  last = nothing.last;
   class_empty = none.none;
   free_empty = nothing.none;
   past = subst (λ (k : Setup). k.capacity < used + 1) (ap (λ (p : Parts). p.setup) none.parts_are) nothing.past;

@@ -86,6 +86,7 @@ pub record IsNothingFree (free_head used : ℕ) (v w : View) : Type 0 where
   pub used_look : IsLook w.used_look used w
   pub since : next_of v ≤ free_look.ticket
   pub order : free_look.ticket < used_look.ticket
+  pub last : next_of w ≡ used_look.ticket + 1
   pub others : (list : ℕ) → list < lists → list ≢ 0 → head_look w list ≡ head_look v list
   pub row : ViewRow (record no_costs { draws = 6 }) v w
 
@@ -105,6 +106,7 @@ pub record IsFull (class : ℕ) (looks : Looks) (v w : View) : Type 0 where
   pub since : next_of v ≤ class_look.ticket
   pub class_first : class_look.ticket < free_look.ticket
   pub free_second : free_look.ticket < used_look.ticket
+  pub last : next_of w ≡ used_look.ticket + 1
   pub class_empty : head_first looks.class_head ≡ 0
   pub free_empty : head_first looks.free_head ≡ 0
   pub past : v.setup.capacity < looks.used + 1

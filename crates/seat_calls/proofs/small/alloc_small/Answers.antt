@@ -1,4 +1,4 @@
-use Rattle.std.proofs.Common.{subst}
+use Rattle.std.proofs.Common.{arith, subst}
 use Rattle.seat_fill.specs.Refills.{Refills}
 use Rattle.seat_calls.proofs.AllocLemmas.{alloc_light, alloc_row, filled_alloc, full_light, full_row, stopped_row}
 use Rattle.seat_calls.proofs.SmallLemmas.{on_err}
@@ -26,3 +26,7 @@ returns-in_ok-block-in-Filled-clause-light g c = alloc_light c.args.seat.now c.r
 
 pub returns-in_ok-block-in-Filled-clause-row : goal.returns-in_ok-block-in-Filled-clause-row
 returns-in_ok-block-in-Filled-clause-row g c = alloc_row c.args.seat.now c.refill.new.seat c.args.class.number c.alloc_cached-in-Filled.new.seat c.refill.ensures.row c.alloc_cached-in-Filled.ensures.row
+
+pub returns-in-Full-clause-drew : goal.returns-in-Full-clause-drew
+returns-in-Full-clause-drew g c = let full = subst (λ filling. Refills c.args.class.number filling c.args.seat.now.view c.refill.new.seat.view) c.in-Full.is c.in_ok-looks.ensures.done in
+    let since = full.since in let first = full.class_first in let second = full.free_second in let last = full.last in omega arith
