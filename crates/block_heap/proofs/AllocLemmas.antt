@@ -8,7 +8,8 @@ use Rattle.heap_model.specs.Words.{head_first}
 use Rattle.heap_model.specs.Blocks.{Begins, of_class, as_large}
 use Rattle.heap_model.specs.Chains.{Follows}
 use Rattle.heap_model.proofs.BlockLemmas.{block_inside}
-use Rattle.heap_model.proofs.SizeLemmas.{at_class, few_words, size_of-words}
+use Rattle.heap_model.proofs.SizeLemmas.{few_words, size_of-words}
+use Rattle.size_table.proofs.ClassLemmas.{least_of_size, least_small, one_least}
 use Rattle.heap_shape.specs.Whole.{layout_at, IsShape}
 use Rattle.heap_shape.specs.Moves.{AddsTo}
 use Rattle.heap_shape.specs.Draining.{IsAccounted, DrainsSame, DrainsOne}
@@ -25,39 +26,6 @@ use Rattle.block_heap.specs.Large.{JoinsAs}
 use Rattle.block_heap.specs.Serving.{HasRoom, in_cache, in_class_list, in_free_list, in_fresh, HasRoomFor, for_class, for_large, LookedInClass, FindsNone, GetsInClass, AnswersInClass, Answers, DrainsTo, DrainsNone}
 use Rattle.std.proofs.lemmas.List.{nil_from_length}
 use Rattle.block_heap.specs.Draws.{most_join_draws}
-
--- a request that a class serves is small
-pub least_small : (bytes class : ℕ) → IsLeastClassFor bytes class → bytes ≤ largest_small
-least_small bytes class least =
-    let same = size_of-words class least.is_class in
-    let few = few_words class least.is_class in
-    let holds = least.holds in
-    omega arith
-
--- one class is the least for a request
-pub one_least : (bytes class other : ℕ) → IsLeastClassFor bytes class → IsLeastClassFor bytes other → class ≡ other
-one_least bytes class other a b =
-    let first = a.least other b.is_class b.holds in
-    let second = b.least class a.is_class a.holds in
-    omega arith
-
--- a class of no larger blocks is no later one
-pub no_later : (c class : ℕ) → IsClass c → IsClass class → size_of c ≤ size_of class → c ≤ class
-unfolding size_of class_sizes
-no_later c class is_c is less =
-    leb-true c class (sym (cond-true (nat_le (size_of c) (size_of class)) (nat_le c class) true (le-leb (size_of c) (size_of class) less)) ∙ row)
-  where
-    row : cond (nat_le (size_of c) (size_of class)) (nat_le c class) true ≡ true
-    row = at_class (λ k. cond (nat_le (size_of c) (size_of k)) (nat_le c k) true)
-        (at_class (λ j. agree_below (λ k. cond (nat_le (size_of j) (size_of (k + 1))) (nat_le j (k + 1)) true) (λ _. true) last_class) refl c is_c) class is
-
--- the least class for the size of a class is that class
-pub least_of_size : (bytes class other : ℕ) → IsLeastClassFor bytes class → IsClass other → bytes ≡ size_of other → other ≡ class
-least_of_size bytes class other least is same =
-    let first = least.least other is (omega arith) in
-    let holds = least.holds in
-    let second = no_later other class is least.is_class (omega arith) in
-    omega arith
 
 -- caches that are the same are short
 pub short_same : (p q : Parts) → q.caches ≡ p.caches → CachesAreShort p 0 → CachesAreShort q 0

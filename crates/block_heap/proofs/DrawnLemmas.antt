@@ -26,7 +26,7 @@ use Rattle.block_heap.specs.Laws.{seat_law}
 use Rattle.heap_seat.specs.Alloc.{IsSizeFor, of_class as of_class_size, of_superblocks}
 use Rattle.block_heap.specs.Parts.{Parts, image_of, held_in}
 use Rattle.block_heap.specs.Running.{IsRunning}
-use Rattle.block_heap.proofs.AllocLemmas.{no_later, least_of_size}
+use Rattle.size_table.proofs.ClassLemmas.{no_later, least_of_size}
 use Rattle.block_heap.specs.Requests.{IsDrainableFor}
 use Rattle.block_heap.specs.SeqState.{SeqState, IsSeqHeap, seat_of}
 use Rattle.block_heap.specs.Serving.{GetsBlock, Answers, DrainsTo, Costs, DrainsAs}

@@ -31,7 +31,7 @@ use Rattle.block_heap.proofs.SeatLemmas.{stop_above, done_of, drew}
 use Rattle.block_heap.proofs.StableLemmas.{not_own, stable_kept}
 use Rattle.block_heap.proofs.RunningLemmas.{running_stable}
 use Rattle.block_heap.specs.Draws.{most_small_draws}
-use Rattle.block_heap.proofs.AllocLemmas.{least_of_size}
+use Rattle.size_table.proofs.ClassLemmas.{least_of_size}
 use Rattle.heap_model.proofs.SizeLemmas.{few_words, size_of-words}
 use Rattle.size_table.specs.declared.size_class.SizeClass.{SizeClass}
 

@@ -1,3 +1,4 @@
 pub mod SmallLemmas
 pub mod AllocLemmas
 pub mod LargeLemmas
+pub mod RequestLemmas

@@ -236,16 +236,18 @@ module _ (v t : View) (has : HasSoundState v) (class block : ℕ) (is : IsClass 
     cache = block ∷ of_class v.caches class;
     kept = λ less. refl;
     flushed = λ more. absurd (let m = one_more in omega (arith, few, more));
+    gave = λ more. absurd (let m = one_more in omega (arith, few, more));
     short = let m = one_more in omega (arith, few);
     parts_are = cached.parts_are;
   }
 
-  pub freed_flushed : (w : View) → blocks_of class ≤ length (of_class t.caches class) → HasFlushed class t w → HasFreed block class v w
-  freed_flushed w many flushed = record {
+  pub freed_flushed : (w : View) → v.gives ≤ t.gives → blocks_of class ≤ length (of_class t.caches class) → HasFlushed class t w → HasFreed block class v w
+  freed_flushed w before many flushed = record {
     going = flushed.going;
     cache = [];
     kept = λ less. absurd (let m = one_more in omega (arith, many, less));
     flushed = λ more. refl;
+    gave = λ more. let four = four_blocks class is in let now = flushed.gave (omega (arith, many)) in omega (arith, before, now);
     short = let four = four_blocks class is in omega arith;
     parts_are = flushed.parts_are ∙ ap (with_cache class []) cached.parts_are
         ∙ ap (λ l. record (with_freed class block [] (parts v)) { caches = l }) (set-set v.caches class (block ∷ of_class v.caches class) []);

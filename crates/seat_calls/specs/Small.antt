@@ -58,6 +58,7 @@ pub record HasFreed (block class : ℕ) (v w : View) : Type 0 where
   pub cache : List ℕ
   pub kept : length (of_class v.caches class) + 1 < blocks_of class → cache ≡ block ∷ of_class v.caches class
   pub flushed : blocks_of class ≤ length (of_class v.caches class) + 1 → cache ≡ []
+  pub gave : blocks_of class ≤ length (of_class v.caches class) + 1 → v.gives < w.gives
   pub short : length cache < blocks_of class
   pub parts_are : parts w ≡ with_freed class block cache (parts v)
 

@@ -106,10 +106,8 @@ pub fn free_large<C: Chance>(
         seat.old.view seat.new.view }
     ensures stopped { IfErr result (λ e. Stops e.step seat.old.view seat.new.view) }
     ensures drew { next_of seat.old.view < next_of seat.new.view }
-    ensures row {
-        let d = superblock_at seat.old.view.setup.capacity block.first_word in
-        HoldingRow (large_free_costs (span_count d seat.old.view.large)) seat.old seat.new
-    }
+    ensures row { let d = superblock_at seat.old.view.setup.capacity block.first_word in
+        HoldingRow (large_free_costs (span_count d seat.old.view.large)) seat.old seat.new }
     ensures seat { IsSeatOf shared.now seat.new }
 {
     let span = superblocks_of(seat, shared, block.first_word);

@@ -202,7 +202,7 @@ module _ (s : CacheState) (x y : SeatView) (n : CallCounts) (step : SmallStep s 
     durable = λ word own pending.
         let held = own_held s word own in
         let d = fenced.durable word (owns_held x.view word (subst (λ (v : View). IsHeldWord v word) (sym step.was.view) held))
-            (subst (λ marks. IsMarked marks word) (sym step.was.marks) (marked_words-only s.marks word pending)) in
+        (subst (λ marks. IsMarked marks word) (sym step.was.marks) (marked_words-only s.marks word pending)) in
         record { value = d.value; seen = d.seen; left = d.left };
   }
   small_fences (Err e) fenced = tt

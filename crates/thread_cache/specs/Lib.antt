@@ -1,3 +1,4 @@
 pub mod Keeps
 pub mod Laws
 pub mod Quiet
+pub mod Serving

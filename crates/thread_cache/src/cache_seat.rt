@@ -27,8 +27,7 @@ pub struct CacheSeat<'a, C> {
     ghost of: { IsSeatOf shared.now seat } by { Prim.hlevel props },
     ghost sound: { ∥ HasSoundState seat.view ∥₁ },
     ghost between: { IsBetweenCalls seat.view } by { Prim.hlevel props },
-    ghost counted: { HasCounts small_calls large_calls refusals seat.view }
-        by { Prim.hlevel props },
+    ghost counted: { HasCounts small_calls large_calls refusals seat.view } by { Prim.hlevel props },
 }
 
 impl<'a, C> Model for CacheSeat<'a, C> {

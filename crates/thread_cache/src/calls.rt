@@ -4,6 +4,7 @@ use crate::cache_seat::CacheSeat;
 use heap_model::Block;
 use heap_seat::{AllocFault, HeapSeat, Spot};
 use line_memory::{Chance, Stopped};
+use seat_calls::{alloc, free};
 use seat_words::{fence, load, store, write_back};
 
 impl<'a, C: Chance> HeapSeat for CacheSeat<'a, C> {
@@ -11,22 +12,44 @@ impl<'a, C: Chance> HeapSeat for CacheSeat<'a, C> {
     ghost use Rattle.seat_view.specs.CacheState.{heap_view};
     ghost use Rattle.seat_view.proofs.HeldLemmas.{may_be_law, mixed_law, named_law, seat_law, stored_law};
     ghost use Rattle.thread_cache.specs.Keeps.{KeepsHeap};
+    ghost use Rattle.thread_cache.specs.Serving.{HasRoomFor, IsLight, RefusesAs};
     ghost use Rattle.thread_cache.specs.Laws.{keeps_none_law, keeps_row_law};
 
     ghost view = { heap_view };
 
     ghost images = { λ s image. MayBeLeft s.view image };
 
+    ghost has_room = { HasRoomFor };
+
+    ghost has_none = { RefusesAs };
+
+    ghost gives_back = { λ s t _. IsLight s.view t.view };
+
     ghost keeps = { KeepsHeap };
 
     fn alloc(&mut self, bytes: u64) -> Result<Block, AllocFault> {
-        let _b = bytes;
-        Err(AllocFault::Stopped(Stopped { step: 0 }))
+        self.check_running()?;
+        self.seat.has_a_low_budget();
+        self.seat.has_a_sound_state();
+        let answer = alloc(&mut self.seat, self.shared, bytes, &mut self.chance);
+        self.seat.has_a_sound_state();
+        self.large_calls += 1;
+        if let Err(AllocFault::Full(looks)) = answer {
+            self.refusals += 1;
+            self.refused_bytes = bytes;
+            self.refused_looks = looks;
+        }
+        answer
     }
 
     fn free(&mut self, b: Block) -> Result<(), Stopped> {
-        let _b = b;
-        Err(Stopped { step: 0 })
+        self.check_running()?;
+        self.seat.has_a_low_budget();
+        self.seat.has_a_sound_state();
+        let answer = free(&mut self.seat, self.shared, b, &mut self.chance);
+        self.seat.has_a_sound_state();
+        self.large_calls += 1;
+        answer
     }
 
     fn load(&mut self, s: Spot) -> Result<u64, Stopped> {

@@ -5,7 +5,7 @@ use Rattle.seat_calls.proofs.small.free_small.Goals as goal
 
 pub returns-clause-freed : goal.returns-clause-freed
 returns-clause-freed g c = let cached = c.in_ok-free_cached.ensures.cached in
-    on_ok_then c.flush.result (freed_flushed c.args.seat.now.view c.free_cached.new.seat.view c.has_a_sound_state.ensures c.args.class.number c.args.block c.args.class.is cached c.flush.new.seat.view
+    on_ok_then c.flush.result (freed_flushed c.args.seat.now.view c.free_cached.new.seat.view c.has_a_sound_state.ensures c.args.class.number c.args.block c.args.class.is cached c.flush.new.seat.view c.free_cached.ensures.row.passes.more.gives
     (let a = c.cache-count.ensures.count in omega arith)) c.flush.ensures.flushed
 
 pub returns-clause-light : goal.returns-clause-light

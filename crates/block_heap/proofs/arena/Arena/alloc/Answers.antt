@@ -11,7 +11,8 @@ use Rattle.block_heap.specs.Parts.{parts_of}
 use Rattle.block_heap.specs.Running.{IsRunning}
 use Rattle.block_heap.specs.Large.{JoinsAs}
 use Rattle.block_heap.specs.Serving.{Answers, AnswersInClass, DrainsAs}
-use Rattle.block_heap.proofs.AllocLemmas.{least_small, one_least, answers_small, answers_large, least_of_size, both_ok, if_ok_both, on_ok_both}
+use Rattle.block_heap.proofs.AllocLemmas.{answers_small, answers_large, both_ok, if_ok_both, on_ok_both}
+use Rattle.size_table.proofs.ClassLemmas.{least_small, one_least, least_of_size}
 use Rattle.block_heap.proofs.arena.Arena.alloc.Goals as goal
 
 pub returns-in-Some-clause-ok : goal.returns-in-Some-clause-ok

@@ -1,6 +1,6 @@
 use Rattle.std.proofs.Common.{◌<◌, refl, arith}
 use Rattle.heap_model.specs.Sizes.{largest_small}
-use Rattle.block_heap.proofs.AllocLemmas.{least_small}
+use Rattle.size_table.proofs.ClassLemmas.{least_small}
 use Rattle.block_heap.proofs.arena.Arena.looks.Goals as goal
 
 pub returns-in-None : goal.returns-in-None

@@ -14,10 +14,17 @@ invariant_of-self-inside g c =
     let some = ap (λ (s : CacheState). cached s.view) c.self.view_is in
     let more = c.has_cached.ensures.yes c.if-not-has_cached.false in (
       e.seat,
-      (∣ c.has_a_sound_state-2.ensures ∣₁,
-      (quiet_between v w c.flush_all-answer.result (c.self.inside.between ran).0 e.flushed e.stopped,
-      (large_counts_then c.self.inside.small_calls c.self.inside.large_calls c.self.inside.refusals v w
-      (quiet_later v w c.flush_all-answer.result ran (omega (some, more, arith)) e.row.view.passes e.flushed e.stopped) c.self.inside.counted, tt))),
+      (
+        ∣ c.has_a_sound_state-2.ensures ∣₁,
+        (
+          quiet_between v w c.flush_all-answer.result (c.self.inside.between ran).0 e.flushed e.stopped,
+          (
+            large_counts_then c.self.inside.small_calls c.self.inside.large_calls c.self.inside.refusals v w
+                (quiet_later v w c.flush_all-answer.result ran (omega (some, more, arith)) e.row.view.passes e.flushed e.stopped) c.self.inside.counted,
+            tt,
+          ),
+        ),
+      ),
     )
 
 pub returns-clause-unchanged : goal.returns-clause-unchanged

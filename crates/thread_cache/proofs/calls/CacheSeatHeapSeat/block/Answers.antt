@@ -9,9 +9,12 @@ use Rattle.thread_cache.proofs.calls.CacheSeatHeapSeat.block.Goals as goal
 
 pub block-requires-clause-held : goal.block-requires-clause-held
 block-requires-clause-held g c =
-    let b : Block = c.requires.0 in
-    (b, held_is c.self.inside.seat.view c.has_a_sound_state.ensures b
-    (subst (λ (s : CacheState). Contains (held_blocks s.view) b) (sym c.self.view_is) c.requires.1), sym c.requires.2)
+    let b : Block = c.requires.0 in (
+      b,
+      held_is c.self.inside.seat.view c.has_a_sound_state.ensures b
+          (subst (λ (s : CacheState). Contains (held_blocks s.view) b) (sym c.self.view_is) c.requires.1),
+      sym c.requires.2,
+    )
 
 pub returns-clause-held : goal.returns-clause-held
 returns-clause-held g c =

@@ -21,9 +21,13 @@ pub invariant_of-self-inside : goal.invariant_of-self-inside
 invariant_of-self-inside g c =
     let ran = ap (λ (s : CacheState). s.view.stopped) c.self.view_is ∙ c.in_ok-check_running.ensures.ok in (
       c.write_back-answer.ensures.seat,
-      (∣ c.has_a_sound_state-2.ensures ∣₁,
-      (between_then c.self.inside.seat.view c.write_back-answer.new.seat.view c.write_back-answer.ensures.drew ran c.self.inside.between,
-      (counts_then c.self.inside.small_calls c.self.inside.large_calls c.self.inside.refusals c.self.inside.seat.view c.write_back-answer.new.seat.view (c.write_back-answer.ensures.drew.drew ran) c.self.inside.counted, tt))),
+      (
+        ∣ c.has_a_sound_state-2.ensures ∣₁,
+        (
+          between_then c.self.inside.seat.view c.write_back-answer.new.seat.view c.write_back-answer.ensures.drew ran c.self.inside.between,
+          (counts_then c.self.inside.small_calls c.self.inside.large_calls c.self.inside.refusals c.self.inside.seat.view c.write_back-answer.new.seat.view (c.write_back-answer.ensures.drew.drew ran) c.self.inside.counted, tt),
+        ),
+      ),
     )
 
 pub returns-clause-unchanged : goal.returns-clause-unchanged
