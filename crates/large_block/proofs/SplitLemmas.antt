@@ -29,7 +29,7 @@ use Rattle.seat_rows.specs.Draws.{Settles}
 use Rattle.seat_rows.specs.Rows.{HasDrawn, HoldingRow, Parts, Row, Stops, parts}
 use Rattle.seat_rows.specs.Words.{IsHeldWord, KeepsWord, times_held}
 use Rattle.seat_rows.proofs.DrawLemmas.{row_of_stop, shifted_is, was_going}
-use Rattle.seat_rows.proofs.RowLemmas.{holding_then, holding_within, row_none, row_then, row_within, stops_passed}
+use Rattle.seat_rows.proofs.RowLemmas.{holding_then, holding_within, row_then, row_within, stops_passed}
 use Rattle.seat_rows.proofs.ShiftLemmas.{told_shift_row}
 use Rattle.seat_rows.proofs.StoreLemmas.{row_of_store, store_row}
 use Rattle.seat_rows.proofs.WordLemmas.{stored_other, word_then}
@@ -135,14 +135,6 @@ pub record Clearing (d e : ℕ) (v t : SeatView) : Type 0 where
   pub anchors : (i : ℕ) → d ≤ i → i < e → Shows t.view (anchor_cell i) 0
   pub row : Row (record no_costs { draws = e - d }) v t
 
-pub clearing_begins : (v : SeatView) (d : ℕ) → v.view.stopped ≡ None → Clearing d d v v
-clearing_begins v d going = record {
-  going = going;
-  parts_are = ap (λ k. all_cleared d k (parts v.view)) (let e : 0 ≡ d - d = omega arith in e);
-  anchors = λ i from until. absurd (omega arith);
-  row = row_within (record no_costs { draws = d - d }) v v (record { draws = omega arith; wins = omega arith; gives = omega arith; cuts = omega arith; taken = omega arith; moves = omega arith }) (row_none v);
-}
-
 pub still_split : (v t : SeatView) (d e : ℕ) → d ≤ e → Clearing d e v t → 0 < times e v.view.split → 0 < times e t.view.split
 still_split v t d e from clearing split = let s = ap (λ (p : Parts). times e p.split) clearing.parts_are in let l = split_still d (e - d) e (parts v.view) (omega arith) in omega arith
 
@@ -157,13 +149,6 @@ clearing_on v t w d e from inside clearing cleared row = record {
     | inr other ↦ cleared.others i other (let c = ap (λ (k : Setup). k.capacity) clearing.row.view.passes.setup in omega (arith, other)) (clearing.anchors i low (omega (arith, other)))
   ];
   row = row_within (record no_costs { draws = e + 1 - d }) v w (record { draws = omega arith; wins = omega arith; gives = omega arith; cuts = omega arith; taken = omega arith; moves = omega arith }) (row_then v t w clearing.row row);
-}
-
-pub clearing_done : (v w : SeatView) (d n : ℕ) → Clearing d (d + n) v w → HasClearedAll d n v.view w.view
-clearing_done v w d n clearing = record {
-  going = clearing.going;
-  parts_are = clearing.parts_are ∙ ap (λ k. all_cleared d k (parts v.view)) (let e : d + n - d ≡ n = omega arith in e);
-  anchors = clearing.anchors;
 }
 
 -- the superblocks of a held large block

@@ -1,25 +1,24 @@
 -- What holding and freeing a large block leaves.
-use Rattle.std.proofs.Common.{◌-◌, ◌<◌, inr, None, eq-eqb, ◌≡◌, ◌≤◌, ℕ, zero, suc, ◌+◌, ◌*◌, ◌∷◌, ◌++◌, [], cond, nat_le, nat_lt, refl, ap, sym, ◌∙◌, le-leb, lt-ltb, arith}
+use Rattle.std.proofs.Common.{◌-◌, ◌<◌, None, eq-eqb, ◌≡◌, ◌≤◌, ℕ, zero, suc, ◌+◌, ◌*◌, ◌∷◌, ◌++◌, [], cond, nat_le, nat_lt, refl, ap, sym, ◌∙◌, le-leb, lt-ltb, arith}
 use Rattle.heap_model.specs.declared.block.Block.{Block}
-use Rattle.std.proofs.lemmas.List.{append-nil}
 use Rattle.heap_model.specs.Counting.{times, without}
 use Rattle.heap_model.specs.Geometry.{start_word, superblock_words}
-use Rattle.core_model.specs.Effects.{span_count, steps, without_claim, without_range, without_span}
+use Rattle.core_model.specs.Effects.{steps, without_claim, without_range}
 use Rattle.core_model.specs.View.{LastLook, View}
 use Rattle.core_model.proofs.PlaceLemmas.{and_is}
 use Rattle.core_model.proofs.TotalLemmas.{eq-eqb-one}
 use Rattle.heap_rule.specs.Shown.{CanList, as_free, by_claim}
 use Rattle.heap_rule.specs.Seated.{SeatView}
 use Rattle.large_block.specs.Fresh.{HasTakenFresh, IsPast, with_fresh}
-use Rattle.large_block.specs.Holds.{HasHeld, IsFreshClaim, with_large}
-use Rattle.large_block.specs.Splits.{HasSplit, MayHaveSplit, down}
-use Rattle.large_block.proofs.FreshLemmas.{drawn_ticket, fresh_claimed}
-use Rattle.seat_calls.specs.Large.{HasAllocatedLarge, HasFreedLarge, HasListedAll, HasNoRoom, large_costs, large_free_costs, list_costs}
+use Rattle.large_block.specs.Holds.{HasHeld, with_large}
+use Rattle.large_block.specs.Splits.{down}
+use Rattle.large_block.proofs.FreshLemmas.{drawn_ticket}
+use Rattle.seat_calls.specs.Large.{HasAllocatedLarge, HasNoRoom, large_costs, large_free_costs, list_costs}
 use Rattle.seat_lists.specs.Pushes.{HasPushed, without_claim_of}
 use Rattle.seat_rows.specs.Costs.{Costs, no_costs, one_push}
 use Rattle.seat_rows.specs.Idle.{IsIdle}
 use Rattle.seat_rows.specs.Rows.{HoldingRow, Parts, Row, next_of, parts}
-use Rattle.seat_rows.proofs.RowLemmas.{holding_then, holding_within, row_none, row_then, row_within, then_holding}
+use Rattle.seat_rows.proofs.RowLemmas.{holding_then, holding_within, row_then, row_within, then_holding}
 
 -- none is left of the superblocks that a large block takes
 none_left : (d n k m : ℕ) → k + m ≤ n → without_range d n (steps (d + k) 1 m) ≡ []
@@ -36,15 +35,6 @@ taken_and_held d n p raw split =
     ∙ ap (λ l. record p { large = record { first = d; count = n } ∷ p.large; raw = l; split = without_range d n p.split })
     (ap (λ i. without_range d n (steps i 1 n)) (let e : d ≡ d + 0 = omega arith in e) ∙ none_left d n 0 n (omega arith) ∙ sym raw)
     ∙ ap (λ l. record p { large = record { first = d; count = n } ∷ p.large; split = l }) (ap (without_range d n) split ∙ sym split)
-
--- what was taken may be held
-pub fresh_claim : (v t : View) (n d : ℕ) → 1 ≤ n → HasTakenFresh n d v t → IsFreshClaim d n t
-fresh_claim v t n d some taken = record {
-  some = some;
-  durable = taken.durable;
-  raw = λ e from until. let c = fresh_claimed v.raw d n e from until in let s = ap (λ (p : Parts). times e p.raw) taken.parts_are in omega arith;
-  blank = taken.blank;
-}
 
 pub allocated : (v t w : View) (n d : ℕ) (b : Block) → IsIdle v → HasTakenFresh n d v t → HasHeld d n b t w → next_of t ≤ next_of w → HasAllocatedLarge n b v w
 allocated v t w n d b idle taken held later = record {
@@ -90,9 +80,6 @@ no_room v w n used past = let ticket = drawn_ticket w.last_ticket (next_of v) pa
 abbrev pub taking : ℕ → Costs
 taking n = record no_costs { draws = 3; wins = 1; taken = n }
 
-pub none_row : (v w : SeatView) (n : ℕ) → Row (taking n) v w → Row (large_costs n) v w
-none_row v w n row = row_within (large_costs n) v w (record { draws = omega arith; wins = omega arith; gives = omega arith; cuts = omega arith; taken = omega arith; moves = omega arith }) row
-
 pub not_held_row : (v t w : SeatView) (n : ℕ) → Row (taking n) v t → Row (record no_costs { draws = 2 }) t w → Row (large_costs n) v w
 not_held_row v t w n take row = row_within (large_costs n) v w (record { draws = omega arith; wins = omega arith; gives = omega arith; cuts = omega arith; taken = omega arith; moves = omega arith }) (row_then v t w take row)
 
@@ -122,14 +109,6 @@ pub record Listing (d n left : ℕ) (v t : SeatView) : Type 0 where
   pub parts_are : parts t.view ≡ record (parts v.view) { raw = down d left }
   pub row : Row (list_costs (n - left)) v t
 
-pub listing_begins : (v : SeatView) (d n : ℕ) → v.view.stopped ≡ None → v.view.raw ≡ down d n → Listing d n n v v
-listing_begins v d n going raw = record {
-  going = going;
-  fewer = omega arith;
-  parts_are = ap (λ l. record (parts v.view) { raw = l }) raw;
-  row = row_within (list_costs (n - n)) v v (record { draws = omega arith; wins = omega arith; gives = omega arith; cuts = omega arith; taken = omega arith; moves = omega arith }) (row_none v);
-}
-
 module _ (v t : SeatView) (d n left m : ℕ) (listing : Listing d n left v t) (is : left ≡ suc m) (cutting : v.view.cutting ≡ []) where
   raw_is : t.view.raw ≡ down d (suc m)
   raw_is = ap (λ (p : Parts). p.raw) listing.parts_are ∙ ap (down d) is
@@ -139,9 +118,6 @@ module _ (v t : SeatView) (d n left m : ℕ) (listing : Listing d n left v t) (i
 
   pub can_push : CanList t.view (d + m) 0
   can_push = can_list t.view d m raw_is cutting_is
-
-  pub listing_floor : d + n ≤ v.view.floor → d + m < t.view.floor
-  listing_floor durable = let f = listing.row.view.passes.floor in let less = listing.fewer in omega arith
 
   module _ (w : SeatView) (row : Row (record one_push { draws = 3 }) t w) where
     pub listing_row : Row (list_costs n) v w
@@ -156,32 +132,5 @@ module _ (v t : SeatView) (d n left m : ℕ) (listing : Listing d n left v t) (i
       row = row_within (list_costs (n - m)) v w (record { draws = omega arith; wins = omega arith; gives = omega arith; cuts = omega arith; taken = omega arith; moves = omega arith }) (row_then v t w listing.row row);
     }
 
-pub listing_done : (v t : SeatView) (d n : ℕ) → Listing d n 0 v t → HasListedAll v.view t.view
-listing_done v t d n listing = record { going = listing.going; parts_are = listing.parts_are }
-
-pub all_listed_row : (v t : SeatView) (d n left : ℕ) → Listing d n left v t → Row (list_costs n) v t
-all_listed_row v t d n left listing = row_within (list_costs n) v t (record { draws = omega arith; wins = omega arith; gives = omega arith; cuts = omega arith; taken = omega arith; moves = omega arith }) listing.row
-
--- split and then listed
-module _ (v t w : SeatView) (d n : ℕ) (split : HasSplit d v.view t.view) (count : n ≡ span_count d v.view.large) (idle : IsIdle v.view) where
-  pub claimed_down : t.view.raw ≡ down d n
-  claimed_down = ap (λ (p : Parts). p.raw) split.parts_are ∙ ap (λ l. down d (span_count d v.view.large) ++ l) idle.raw ∙ append-nil (down d (span_count d v.view.large)) ∙ ap (down d) (sym count)
-
-  pub freed : HasListedAll t.view w.view → HasFreedLarge d v.view w.view
-  freed listed = record {
-    going = listed.going;
-    parts_are = listed.parts_are ∙ ap (λ (p : Parts). record p { raw = [] }) split.parts_are
-        ∙ ap (λ l. record (parts v.view) { large = without_span d v.view.large; raw = l }) (sym idle.raw);
-  }
-
-  pub freed_may : Row (list_costs n) t w → MayHaveSplit d v.view w.view
-  freed_may row = record {
-    small = row.view.small ∙ ap (λ (p : Parts). p.small) split.parts_are;
-    large = inr (row.view.large ∙ ap (λ (p : Parts). p.large) split.parts_are);
-  }
-
 pub freed_row : (v t w : SeatView) (n : ℕ) → HoldingRow (record no_costs { draws = n + 1 }) v t → Row (list_costs n) t w → HoldingRow (large_free_costs n) v w
 freed_row v t w n split row = holding_within (large_free_costs n) v w (record { draws = omega arith; wins = omega arith; gives = omega arith; cuts = omega arith; taken = omega arith; moves = omega arith }) (holding_then v t w split row)
-
-pub split_alone_row : (v t : SeatView) (n : ℕ) → HoldingRow (record no_costs { draws = n + 1 }) v t → HoldingRow (large_free_costs n) v t
-split_alone_row v t n split = holding_within (large_free_costs n) v t (record { draws = omega arith; wins = omega arith; gives = omega arith; cuts = omega arith; taken = omega arith; moves = omega arith }) split
