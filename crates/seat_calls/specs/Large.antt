@@ -1,22 +1,15 @@
 -- What holding and freeing a large block leaves of a seat.
-use Rattle.std.specs.Prelude.{◌≡◌, ◌<◌, ◌≤◌, ◌+◌, ◌*◌, ◌∷◌, [], ℕ, None, Some}
+use Rattle.std.specs.Prelude.{◌≡◌, ◌<◌, ◌≤◌, ◌+◌, ◌*◌, ◌∷◌, [], ℕ, None}
 use Rattle.heap_model.specs.declared.block.Block.{Block}
 use Rattle.heap_model.specs.Geometry.{start_word, superblock_words}
 use Rattle.heap_seat.specs.declared.fault.AllocFault.{AllocFault}
 use Rattle.heap_seat.specs.declared.fault.AllocFault.TheVariants.{Full, Stopped}
 use Rattle.heap_seat.specs.declared.fault.Looks.{Looks}
 use Rattle.core_model.specs.Effects.{without_span}
-use Rattle.core_model.specs.View.{LastLook, View}
+use Rattle.core_model.specs.View.{View}
+use Rattle.seat_fill.specs.Refills.{IsLook}
 use Rattle.seat_rows.specs.Costs.{Costs, no_costs}
 use Rattle.seat_rows.specs.Rows.{IsMade, Stops, next_of, parts}
-
--- the last look said this word, by a ticket, and no exchange was won and no superblock taken since
-pub record IsLook (look : LastLook) (word : ℕ) (w : View) : Type 0 where
-  pub ticket : ℕ
-  pub by : look.ticket ≡ Some ticket
-  pub word_is : look.word ≡ word
-  pub wins : look.wins ≡ w.wins
-  pub taken : look.taken ≡ w.taken
 
 -- a block of n superblocks is held, which are the first that were not taken, as the last look at the mark said: there is room for them
 pub record HasAllocatedLarge (n : ℕ) (b : Block) (v w : View) : Type 0 where
