@@ -1,5 +1,5 @@
 -- A block that a call takes or gives comes to the held ones, or goes from them, and all others stay.
-use Rattle.std.proofs.Common.{◌≡◌, ◌≢◌, ◌<◌, ◌≤◌, ◌⊎◌, ℕ, suc, ◌+◌, ◌*◌, inl, inr, cond, nat_le, nat_lt, ◌&&◌, List, [], ◌∷◌, ◌++◌, get_or, set, length, refl, ap, sym, subst, ◌∙◌, eq-eqb, ne_eqb, le-leb, lt-ltb, arith}
+use Rattle.std.proofs.Common.{◌≡◌, ◌≢◌, ◌<◌, ◌≤◌, ◌⊎◌, ℕ, suc, ◌+◌, ◌*◌, inl, inr, cond, nat_le, nat_lt, ◌&&◌, List, [], ◌∷◌, ◌++◌, get_or, set, length, refl, ap, sym, subst, ◌∙◌, eq-eqb, ne_eqb, le-leb, lt-ltb, arith, Bool}
 use Rattle.std.specs.Prelude.{Contains}
 use Rattle.std.proofs.Math.Logic.{∥∥₁_elim}
 use Rattle.std.proofs.lemmas.Bool.{cases_eq}
@@ -28,7 +28,7 @@ use Rattle.heap_table.specs.Plays.{HasSoundState}
 use Rattle.seat_rows.specs.Words.{IsHeldWord, times_held}
 use Rattle.seat_rows.proofs.OnceLemmas.{own_once}
 use Rattle.seat_rows.proofs.WordLemmas.{held_own}
-use Rattle.seat_view.specs.CacheState.{CacheState, heap_view, held_blocks, large_blocks, small_blocks}
+use Rattle.seat_view.specs.CacheState.{CacheState, CallCounts, counts_of, heap_view, heap_view_of, held_blocks, large_blocks, small_blocks}
 use Rattle.seat_view.specs.Changes.{GivesBlock, GivesSpan, HoldsBlock, HoldsSpan, Loses}
 use Rattle.seat_view.proofs.HeldLemmas.{block_word, decided, contains_cons, held_is, small_there}
 use Rattle.seat_view.proofs.ListedBlocks.{listed, small_in}
@@ -313,42 +313,60 @@ module _ (d : ℕ) (b : Block) (v w : View) (gives : GivesSpan d b v w) where
   large_others a c other = subst (λ l. Contains l a) (sym now_left) (both_sides (small_blocks 0 v.small) (large_blocks v.setup.capacity v.large) (small_blocks 0 v.small) (large_blocks v.setup.capacity (without_span d v.large)) a
       (λ x. x) (λ large. other_large v.setup.capacity d v.large a large (λ is. other (is ∙ sym gives.block))) c)
 
--- the same of seats of a heap
-class_below : (s : CacheState) (class : ℕ) → IsClass class → class < length s.view.small
-class_below s class is = decided (at_most (suc class) (length s.view.small))
-    (λ (has : HasSoundState s.view). let long = (has.sound.good.set_up has.seat s.view has.below has.at).small in omega (arith, is.some, is.last)) s.sound
+-- the same of seats of a heap: some sound states have the two views, known or not
+abbrev pub HaveStates : View → View → Type 0
+HaveStates v w = (HasSoundState v → HasSoundState w → ⊥) → ⊥
 
-none_of_both : (s t : CacheState) → (HasSoundState s.view → HasSoundState t.view → ⊥) → ⊥
-none_of_both s t not = ∥∥₁_elim s.sound (λ a b. absurd a) (λ has. ∥∥₁_elim t.sound (λ a b. absurd a) (λ now. not has now))
+module _ (v w : View) (marks marks' : List Bool) (n n' : CallCounts) (states : HaveStates v w) where
+  pub holds_by : (class : ℕ) (b : Block) → class < length v.small → HoldsBlock class b v w → Adds b (heap_view_of v marks n) (heap_view_of w marks' n')
+  holds_by class b below holds = record {
+    new = λ c. states (λ has now. small_new class b v w below holds has now c);
+    has = small_has class b v w below holds;
+    keeps = small_keeps class b v w below holds;
+    only = small_only class b v w below holds;
+    roots = holds.roots;
+  }
+
+  pub span_by : (d m : ℕ) (b : Block) → HoldsSpan d m b v w → Adds b (heap_view_of v marks n) (heap_view_of w marks' n')
+  span_by d m b holds = record {
+    new = λ c. states (λ has now. large_new d m b v w holds has now c);
+    has = large_has d m b v w holds;
+    keeps = large_keeps d m b v w holds;
+    only = large_only d m b v w holds;
+    roots = holds.roots;
+  }
+
+  pub gives_by : (class : ℕ) (b : Block) → class < length v.small → GivesBlock class b v w → Loses b (heap_view_of v marks n) (heap_view_of w marks' n')
+  gives_by class b below gives = record {
+    gone = λ c. states (λ has now. small_gone class b v w below gives has now c);
+    only = small_was class b v w below gives;
+    keeps = small_others class b v w below gives;
+  }
+
+  pub gives_span_by : (d : ℕ) (b : Block) → GivesSpan d b v w → Loses b (heap_view_of v marks n) (heap_view_of w marks' n')
+  gives_span_by d b gives = record {
+    gone = λ c. states (λ has now. large_gone d b v w gives has now c);
+    only = large_was d b v w gives;
+    keeps = large_others d b v w gives;
+  }
+
+pub class_in : (v : View) → HasSoundState v → (class : ℕ) → IsClass class → class < length v.small
+class_in v has class is = let long = (has.sound.good.set_up has.seat v has.below has.at).small in omega (arith, is.some, is.last)
+
+class_below : (s : CacheState) (class : ℕ) → IsClass class → class < length s.view.small
+class_below s class is = decided (at_most (suc class) (length s.view.small)) (λ (has : HasSoundState s.view). class_in s.view has class is) s.sound
+
+of_both : (s t : CacheState) → HaveStates s.view t.view
+of_both s t not = ∥∥₁_elim s.sound (λ a b. absurd a) (λ has. ∥∥₁_elim t.sound (λ a b. absurd a) (λ now. not has now))
 
 pub holds_law : (class : ℕ) (b : Block) (s t : CacheState) → HoldsBlock class b s.view t.view → Adds b (heap_view s) (heap_view t)
-holds_law class b s t holds = let below = class_below s class holds.is_class in record {
-  new = λ c. none_of_both s t (λ has now. small_new class b s.view t.view below holds has now c);
-  has = small_has class b s.view t.view below holds;
-  keeps = small_keeps class b s.view t.view below holds;
-  only = small_only class b s.view t.view below holds;
-  roots = holds.roots;
-}
+holds_law class b s t holds = holds_by s.view t.view s.marks t.marks (counts_of s) (counts_of t) (of_both s t) class b (class_below s class holds.is_class) holds
 
-pub span_law : (d n : ℕ) (b : Block) (s t : CacheState) → HoldsSpan d n b s.view t.view → Adds b (heap_view s) (heap_view t)
-span_law d n b s t holds = record {
-  new = λ c. none_of_both s t (λ has now. large_new d n b s.view t.view holds has now c);
-  has = large_has d n b s.view t.view holds;
-  keeps = large_keeps d n b s.view t.view holds;
-  only = large_only d n b s.view t.view holds;
-  roots = holds.roots;
-}
+pub span_law : (d m : ℕ) (b : Block) (s t : CacheState) → HoldsSpan d m b s.view t.view → Adds b (heap_view s) (heap_view t)
+span_law d m b s t holds = span_by s.view t.view s.marks t.marks (counts_of s) (counts_of t) (of_both s t) d m b holds
 
 pub gives_law : (class : ℕ) (b : Block) (s t : CacheState) → GivesBlock class b s.view t.view → Loses b (heap_view s) (heap_view t)
-gives_law class b s t gives = let below = class_below s class gives.is_class in record {
-  gone = λ c. none_of_both s t (λ has now. small_gone class b s.view t.view below gives has now c);
-  only = small_was class b s.view t.view below gives;
-  keeps = small_others class b s.view t.view below gives;
-}
+gives_law class b s t gives = gives_by s.view t.view s.marks t.marks (counts_of s) (counts_of t) (of_both s t) class b (class_below s class gives.is_class) gives
 
 pub gives_span_law : (d : ℕ) (b : Block) (s t : CacheState) → GivesSpan d b s.view t.view → Loses b (heap_view s) (heap_view t)
-gives_span_law d b s t gives = record {
-  gone = λ c. none_of_both s t (λ has now. large_gone d b s.view t.view gives has now c);
-  only = large_was d b s.view t.view gives;
-  keeps = large_others d b s.view t.view gives;
-}
+gives_span_law d b s t gives = gives_span_by s.view t.view s.marks t.marks (counts_of s) (counts_of t) (of_both s t) d b gives

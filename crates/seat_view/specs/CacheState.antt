@@ -8,6 +8,7 @@ use Rattle.heap_seat.specs.declared.fault.Looks.{Looks}
 use Rattle.heap_seat.specs.declared.look.Look.{Look}
 use Rattle.line_memory.specs.Marks.{marked_words}
 use Rattle.heap_seat.specs.View.{View as HeapView}
+use Rattle.atomic_table.specs.Seated.{TableId}
 use Rattle.core_model.specs.View.{LastLook, Setup, Span, View}
 use Rattle.heap_table.specs.Plays.{HasSoundState}
 use Rattle.heap_rule.specs.Seated.{SeatView}
@@ -24,6 +25,7 @@ abbrev pub HasCounts : ℕ → ℕ → ℕ → View → Type 0
 HasCounts small large refusals v = (small + large ≤ next_of v) × (refusals ≤ large)
 
 pub record CacheState : Type 0 where
+  pub table : TableId
   pub view : View
   pub marks : List Bool
   pub small_calls : ℕ

@@ -27,7 +27,7 @@ use Rattle.seat_rows.proofs.RowLemmas.{not_both}
 use Rattle.seat_rows.proofs.StoreLemmas.{fenced}
 use Rattle.seat_rows.proofs.WordLemmas.{owns_held}
 use Rattle.seat_lists.proofs.PopLemmas.{drawn_as}
-use Rattle.seat_words.specs.Own.{Drew, HasFenced, HasLoaded, HasMarkedLine, HasStored, MayHave, MayRead, RunsOn}
+use Rattle.seat_words.specs.Own.{Drew, HasFenced, HasValue, HasMarkedLine, MayHave, MayRead, RunsOn}
 
 -- what a draw and a step behind it leave, where the step changes no part
 module _ (v u w : View) (drawn : HasDrawn v u) where
@@ -62,7 +62,7 @@ module _ (v u : View) (word : ℕ) (drawn : HasDrawn v u) (own : Owns v word) wh
   can_settle = subst (λ (x : View). Can x (Settle word)) (sym drawn.left) (record { going = drawn.went; ticket = tt; shown = own })
 
   module _ (w : View) (found : ℕ) (event : IsEvent (Load word) u found w) where
-    pub loaded : HasLoaded word found v w
+    pub loaded : HasValue word found v w
     loaded = record {
       runs = runs_on v u w drawn (ap (λ (x : View). x.stopped) event.after) (ap parts event.after) (ap (λ (x : View). x.last_ticket) event.after);
       seen = ap (λ (x : View). seen_at x word) event.after
@@ -162,7 +162,7 @@ module _ (v u : View) (has : HasSoundState v) (word value : ℕ) (drawn : HasDra
     seen_now = ap (λ values. get_or values word None) is_alone.volatile
         ∙ get_or-set_same u.volatile word (Some value) None (let l = volatile_long u event.before in let b = own_below u word event.may.ready.0 in omega arith)
 
-    pub has_stored : HasStored word value v w
+    pub has_stored : HasValue word value v w
     has_stored = record { runs = runs_on v u w drawn is_alone.stopped is_alone.parts_are is_alone.last; seen = seen_now }
 
     pub store_looks : SameLooks v u → SameLooks v w

@@ -20,13 +20,8 @@ pub record Drew (v w : View) : Type 0 where
   pub drew : v.stopped ≡ None → next_of v < next_of w
   pub parts_are : w.stopped ≡ None → parts w ≡ parts v
 
--- loads see this value
-pub record HasLoaded (word value : ℕ) (v w : View) : Type 0 where
-  pub runs : RunsOn v w
-  pub seen : seen_at w word ≡ Some value
-
--- they do after a store of it
-pub record HasStored (word value : ℕ) (v w : View) : Type 0 where
+-- the call was done, and loads see this value
+pub record HasValue (word value : ℕ) (v w : View) : Type 0 where
   pub runs : RunsOn v w
   pub seen : seen_at w word ≡ Some value
 

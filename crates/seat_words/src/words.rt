@@ -8,7 +8,7 @@ ghost use Rattle.line_memory.specs.Marks.{IsMarked};
 ghost use Rattle.seat_rows.specs.Costs.{one_draw};
 ghost use Rattle.seat_rows.specs.Rows.{Row, SameLooks, Stops, StoringRow};
 ghost use Rattle.seat_rows.specs.Words.{IsHeldWord};
-ghost use Rattle.seat_words.specs.Own.{Drew, HasFenced, HasLoaded, HasMarkedLine, HasStored, MayHave};
+ghost use Rattle.seat_words.specs.Own.{Drew, HasFenced, HasValue, HasMarkedLine, MayHave};
 
 use heap_rule::{Seat, Shared};
 use line_memory::{Chance, Stopped};
@@ -23,7 +23,7 @@ pub fn load<C: Chance>(
 ) -> Result<u64, Stopped>
     requires seat { IsSeatOf shared.now seat.old }
     requires own { Owns seat.old.view word }
-    ensures loaded { IfOk result (λ value. HasLoaded word value seat.old.view seat.new.view) }
+    ensures loaded { IfOk result (λ value. HasValue word value seat.old.view seat.new.view) }
     ensures stopped { IfErr result (λ e. Stops e.step seat.old.view seat.new.view) }
     ensures row { Row one_draw seat.old seat.new }
     ensures drew { Drew seat.old.view seat.new.view }
@@ -47,7 +47,7 @@ pub fn store<C: Chance>(
     requires seat { IsSeatOf shared.now seat.old }
     requires held { IsHeldWord seat.old.view word }
     requires no_batch { seat.old.view.batch ≡ no_batch }
-    ensures stored { OnOk result (HasStored word value seat.old.view seat.new.view) }
+    ensures stored { OnOk result (HasValue word value seat.old.view seat.new.view) }
     ensures stopped { IfErr result (λ e. Stops e.step seat.old.view seat.new.view) }
     ensures row { StoringRow word one_draw seat.old seat.new }
     ensures none { OnErr result (Row one_draw seat.old seat.new) }

@@ -31,7 +31,7 @@ use Rattle.heap_rule.proofs.SettleLemmas.{own_below}
 use Rattle.seat_view.specs.CacheState.{CacheState, HasCounts, CallCounts, IsBetweenCalls, IsStateOf, counts_of, heap_view, heap_view_of, look_of, opened_kinds}
 use Rattle.seat_view.proofs.HeldLemmas.{kept_at, own_held, read_from, read_to, seat_law, word_law}
 use Rattle.seat_view.proofs.ChangedBlocks.{held_same}
-use Rattle.seat_words.specs.Own.{Drew, HasFenced, HasLoaded, HasMarkedLine, HasStored, MayHave, RunsOn}
+use Rattle.seat_words.specs.Own.{Drew, HasFenced, HasValue, HasMarkedLine, MayHave, RunsOn}
 use Rattle.thread_cache.specs.Keeps.{KeepsCosts}
 
 -- a seat that has stopped is refused, and nothing changes
@@ -188,7 +188,7 @@ module _ (s : CacheState) (x y : SeatView) (n : CallCounts) (step : SmallStep s 
   marks_kept : (word : ℕ) → (IsMarked x.marks word → IsMarked y.marks word) → Contains (marked_words s.marks) word → Contains (marked_words y.marks) word
   marks_kept word keeps pending = marked_words-has y.marks word (keeps (subst (λ marks. IsMarked marks word) (sym step.was.marks) (marked_words-only s.marks word pending)))
 
-  pub small_loads : (word : ℕ) (result : Result ℕ Stopped) → y.marks ≡ x.marks → IfOk result (λ value. HasLoaded word value x.view y.view) → IfOk result (λ value. Loads word value (heap_view s) (heap_view_of y.view y.marks n))
+  pub small_loads : (word : ℕ) (result : Result ℕ Stopped) → y.marks ≡ x.marks → IfOk result (λ value. HasValue word value x.view y.view) → IfOk result (λ value. Loads word value (heap_view s) (heap_view_of y.view y.marks n))
   small_loads word (Ok value) marks loaded = record {
     runs = runs_of loaded.runs;
     seen = loaded.seen;
@@ -222,7 +222,7 @@ module _ (s : CacheState) (x y : SeatView) (n : CallCounts) (step : SmallStep s 
         (own_below x.view (root_word i) (owns_held x.view (root_word i) (subst (λ (v : View). IsHeldWord v (root_word i)) (sym step.was.view) (spot_held s (Root i) held)))) refl)
   small_writes_back spot (Err e) own marked keeps = tt
 
-  pub small_stores : (word value : ℕ) (result : Result ⊤ Stopped) → OnOk result (HasStored word value x.view y.view)
+  pub small_stores : (word value : ℕ) (result : Result ⊤ Stopped) → OnOk result (HasValue word value x.view y.view)
       → ((other : ℕ) → other ≢ word → IsMarked x.marks other → IsMarked y.marks other) → OnOk result (Stores word value (heap_view s) (heap_view_of y.view y.marks n))
   small_stores word value (Ok a) stored keeps = record {
     runs = runs_of stored.runs;

@@ -1,5 +1,5 @@
 -- What a call that takes or gives blocks is for a seat of a heap, besides what it does to the blocks.
-use Rattle.std.proofs.Common.{◌≡◌, ◌<◌, ◌≤◌, ◌⊎◌, ℕ, ◌+◌, ◌*◌, inl, inr, Option, None, Some, Result, Ok, Err, OnOk, IfErr, refl, ap, sym, subst, ◌∙◌, arith}
+use Rattle.std.proofs.Common.{◌≡◌, ◌<◌, ◌≤◌, ◌⊎◌, ℕ, ◌+◌, ◌*◌, inl, inr, Option, None, Some, Result, Ok, Err, OnErr, IfErr, refl, ap, sym, subst, ◌∙◌, arith}
 use Rattle.heap_seat.specs.Calls.{IsLargeCall, counted}
 use Rattle.heap_seat.specs.Looks.{IsMade as IsMadeHeap, KeepsLooks as KeepsHeapLooks}
 use Rattle.heap_seat.specs.Tickets.{Stops as HeapStops}
@@ -76,8 +76,12 @@ module _ {a : Costs} (s : CacheState) (x y : SeatView) (n : CallCounts) (step : 
     cuts = let f = step.large in let d = passes.most.cuts in let most = few.cuts in omega arith;
   }
 
-  pub large_own : Row a x y → KeepsOwn (heap_view s) (heap_view_of y.view y.marks n)
-  large_own row = kept_at s y.view (heap_view_of y.view y.marks n) refl refl refl refl (at_state (λ v. ViewRow a v y.view) s x step.was row.view)
+  pub large_own : {b : Costs} → Row b x y → KeepsOwn (heap_view s) (heap_view_of y.view y.marks n)
+  large_own {b} row = kept_at s y.view (heap_view_of y.view y.marks n) refl refl refl refl (at_state (λ v. ViewRow b v y.view) s x step.was row.view)
+
+  pub large_refused : (b : Costs) {A E : Type 0} (result : Result A E) → OnErr result (Row b x y) → OnErr result (KeepsOwn (heap_view s) (heap_view_of y.view y.marks n))
+  large_refused b (Ok r) row = tt
+  large_refused b (Err e) row = large_own row
 
   pub large_pending : Row a x y → (word : ℕ) → IsOwn (heap_view s).held s.view.roots word → KeepsPending (heap_view s) (heap_view_of y.view y.marks n) word
   large_pending row = pending_at s x y (heap_view_of y.view y.marks n) step.was refl refl refl row

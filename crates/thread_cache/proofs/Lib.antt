@@ -1,3 +1,5 @@
 pub mod CallLemmas
 pub mod LargeLemmas
 pub mod QuietLemmas
+pub mod AllocLemmas
+pub mod FreeLemmas

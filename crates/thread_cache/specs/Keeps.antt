@@ -27,11 +27,13 @@ pub record KeepsCosts (v : View) (small large : ℕ) (w : View) (smalls larges :
   pub gives : w.gives + most_gives * large ≤ v.gives + most_gives * larges
   pub cuts : w.cuts + large ≤ v.cuts + larges
 
+-- it is a seat of the same heap
 abbrev pub KeepsHeap : CacheState → CacheState → Type 0
-KeepsHeap s t = KeepsCosts s.view s.small_calls s.large_calls t.view t.small_calls t.large_calls
+KeepsHeap s t = (t.table ≡ s.table) × KeepsCosts s.view s.small_calls s.large_calls t.view t.small_calls t.large_calls
 
 -- a seat that allocates, just made of a seat
 pub record IsNew (seat : SeatView) (s : CacheState) : Type 0 where
+  pub table : s.table ≡ seat.table
   pub view : s.view ≡ seat.view
   pub marks : s.marks ≡ seat.marks
   pub small : s.small_calls ≡ 0

@@ -3,10 +3,10 @@ use Rattle.std.proofs.Common.{◌≡◌, ◌≤◌, ℕ, ◌+◌, ◌*◌, refl,
 use Rattle.seat_rows.specs.Costs.{Costs, NoneFalls, no_costs}
 use Rattle.seat_rows.specs.Rows.{Passes}
 use Rattle.seat_view.specs.CacheState.{CacheState}
-use Rattle.thread_cache.specs.Keeps.{KeepsHeap, most_draws, most_gives, most_wins}
+use Rattle.thread_cache.specs.Keeps.{KeepsCosts, KeepsHeap, most_draws, most_gives, most_wins}
 
-pub keeps_none_law : (s : CacheState) → KeepsHeap s s
-keeps_none_law s = record {
+costs_none : (s : CacheState) → KeepsCosts s.view s.small_calls s.large_calls s.view s.small_calls s.large_calls
+costs_none s = record {
   setup = refl;
   roots = refl;
   none_falls = record { draws = omega arith; wins = omega arith; losses = omega arith; gives = omega arith; moves = omega arith; cuts = omega arith; taken = omega arith };
@@ -18,8 +18,9 @@ keeps_none_law s = record {
   cuts = omega arith;
 }
 
-pub keeps_row_law : (s t u : CacheState) → KeepsHeap s t → KeepsHeap t u → KeepsHeap s u
-keeps_row_law s t u p q = record {
+costs_row : (s t u : CacheState) → KeepsCosts s.view s.small_calls s.large_calls t.view t.small_calls t.large_calls → KeepsCosts t.view t.small_calls t.large_calls u.view u.small_calls u.large_calls
+    → KeepsCosts s.view s.small_calls s.large_calls u.view u.small_calls u.large_calls
+costs_row s t u p q = record {
   setup = q.setup ∙ p.setup;
   roots = q.roots ∙ p.roots;
   none_falls = let a = p.none_falls in let b = q.none_falls in record {
@@ -38,3 +39,9 @@ keeps_row_law s t u p q = record {
   gives = let x = p.gives in let y = q.gives in omega arith;
   cuts = let x = p.cuts in let y = q.cuts in omega arith;
 }
+
+pub keeps_none_law : (s : CacheState) → KeepsHeap s s
+keeps_none_law s = (refl, costs_none s)
+
+pub keeps_row_law : (s t u : CacheState) → KeepsHeap s t → KeepsHeap t u → KeepsHeap s u
+keeps_row_law s t u p q = (q.0 ∙ p.0, costs_row s t u p.1 q.1)

@@ -6,7 +6,6 @@ use Rattle.core_model.specs.View.{View, of_class}
 use Rattle.seat_calls.specs.Large.{HasNoRoom}
 use Rattle.seat_fill.specs.Refills.{IsFull}
 use Rattle.seat_rows.specs.Rows.{IsMade, next_of, parts}
-use Rattle.seat_view.specs.CacheState.{CacheState}
 
 -- a call that cuts, gives and takes nothing, and holds or frees no large block, draws 64 tickets at most, and 16 for each lost exchange and each superblock that it moves
 abbrev pub IsLight : View → View → Type 0
@@ -19,14 +18,14 @@ pub record HasSeenRoom (bytes : ℕ) (v w : View) : Type 0 where
   pub room : w.used_look.word + span_of bytes ≤ w.setup.capacity
 
 -- a granted request
-pub record HasRoomFor (s t : CacheState) (bytes : ℕ) : Type 0 where
-  pub light : IsLight s.view t.view
-  pub large : largest_small < bytes → HasSeenRoom bytes s.view t.view
+pub record IsServed (bytes : ℕ) (v w : View) : Type 0 where
+  pub light : IsLight v w
+  pub large : largest_small < bytes → HasSeenRoom bytes v w
 
 -- a refused request: of a class, whose cache is empty, it found both lists empty and the mark past, in this order, and won no exchange from the first of these looks on; one that is too large for a class found the mark past, and won none at all; the seat has what it had, and cut nothing
-pub record RefusesAs (s t : CacheState) (bytes : ℕ) (looks : Looks) : Type 0 where
-  pub light : IsLight s.view t.view
-  pub parts_are : parts t.view ≡ parts s.view
-  pub cuts : t.view.cuts ≡ s.view.cuts
-  pub of_class : (class : ℕ) → IsLeastClassFor bytes class → IsFull class looks s.view t.view × (of_class s.view.caches class ≡ [])
-  pub of_span : largest_small < bytes → HasNoRoom (span_of bytes) looks s.view t.view
+pub record IsTurnedAway (bytes : ℕ) (looks : Looks) (v w : View) : Type 0 where
+  pub light : IsLight v w
+  pub parts_are : parts w ≡ parts v
+  pub cuts : w.cuts ≡ v.cuts
+  pub for_class : (class : ℕ) → IsLeastClassFor bytes class → IsFull class looks v w × (of_class v.caches class ≡ [])
+  pub for_span : largest_small < bytes → HasNoRoom (span_of bytes) looks v w

@@ -11,9 +11,9 @@ use heap_seat::Looks;
 use line_memory::{Chance, Stopped};
 use std::marker::Model;
 
-/// A thread's part of an open heap: it allocates by caches, lists and anchors, which it shares with
-/// the other threads without a lock. Between its calls no superblock is claimed and each cache has
-/// fewer blocks than a superblock of its class, unless the seat has stopped.
+/// A thread's part of an open heap: it allocates by caches of its own, and by lists and anchors that
+/// it shares with the other threads without a lock. Between its calls no superblock is claimed and
+/// each cache has fewer blocks than a superblock of its class, unless the seat has stopped.
 #[derive(Drop)]
 pub struct CacheSeat<'a, C> {
     pub(crate) shared: &'a Shared,
@@ -36,6 +36,7 @@ impl<'a, C> Model for CacheSeat<'a, C> {
     ghost Value = { CacheState };
 
     ghost view = { λ s. record {
+      table = s.seat.table;
       view = s.seat.view;
       marks = s.seat.marks;
       small_calls = s.small_calls;
@@ -89,8 +90,9 @@ impl<'a, C: Chance> CacheSeat<'a, C> {
         self.seat.stopped()
     }
 
-    /// The seat again, as it is.
+    /// The seat again, as it is: what closes the heap asks for all its seats.
     pub fn into_seat(self) -> Seat
+        ensures table { result.table ≡ self.entry.table }
         ensures view { result.view ≡ self.entry.view }
         ensures marks { result.marks ≡ self.entry.marks }
     {

@@ -1,27 +1,42 @@
 //! The calls of a seat that allocates by caches.
 
+ghost use Rattle.std.specs.Prelude.{◌≡◌, IfSome, IsNone, Err};
+ghost use Rattle.heap_seat.specs.declared.fault.AllocFault.TheVariants.{Full};
+ghost use Rattle.heap_seat.specs.declared.fault.Looks.{Looks};
+
 use crate::cache_seat::CacheSeat;
 use heap_model::Block;
-use heap_seat::{AllocFault, HeapSeat, Spot};
+use heap_seat::{AllocFault, HeapSeat, Looks, Spot};
 use line_memory::{Chance, Stopped};
 use seat_calls::{alloc, free};
 use seat_words::{fence, load, store, write_back};
+
+/// The looks of a refusal for want of room.
+fn refusal_of(answer: &Result<Block, AllocFault>) -> Option<Looks>
+    ensures some { IfSome result (λ looks. answer.now ≡ Err (Full looks)) }
+    ensures none { IsNone result → (looks : Looks) → answer.now ≡ Err (Full looks) → ⊥ }
+{
+    match answer {
+        Err(AllocFault::Full(looks)) => Some(*looks),
+        _ => None,
+    }
+}
 
 impl<'a, C: Chance> HeapSeat for CacheSeat<'a, C> {
     ghost use Rattle.heap_rule.specs.Left.{MayBeLeft};
     ghost use Rattle.seat_view.specs.CacheState.{heap_view};
     ghost use Rattle.seat_view.proofs.HeldLemmas.{may_be_law, mixed_law, named_law, seat_law, stored_law};
     ghost use Rattle.thread_cache.specs.Keeps.{KeepsHeap};
-    ghost use Rattle.thread_cache.specs.Serving.{HasRoomFor, IsLight, RefusesAs};
+    ghost use Rattle.thread_cache.specs.Serving.{IsLight, IsServed, IsTurnedAway};
     ghost use Rattle.thread_cache.specs.Laws.{keeps_none_law, keeps_row_law};
 
     ghost view = { heap_view };
 
     ghost images = { λ s image. MayBeLeft s.view image };
 
-    ghost has_room = { HasRoomFor };
+    ghost has_room = { λ s t bytes. IsServed bytes s.view t.view };
 
-    ghost has_none = { RefusesAs };
+    ghost has_none = { λ s t bytes looks. IsTurnedAway bytes looks s.view t.view };
 
     ghost gives_back = { λ s t _. IsLight s.view t.view };
 
@@ -34,10 +49,13 @@ impl<'a, C: Chance> HeapSeat for CacheSeat<'a, C> {
         let answer = alloc(&mut self.seat, self.shared, bytes, &mut self.chance);
         self.seat.has_a_sound_state();
         self.large_calls += 1;
-        if let Err(AllocFault::Full(looks)) = answer {
-            self.refusals += 1;
-            self.refused_bytes = bytes;
-            self.refused_looks = looks;
+        match refusal_of(&answer) {
+            Some(looks) => {
+                self.refusals += 1;
+                self.refused_bytes = bytes;
+                self.refused_looks = looks;
+            }
+            None => {}
         }
         answer
     }

@@ -10,6 +10,8 @@ impl<'a, C: Chance> CacheSeat<'a, C> {
     ghost use Rattle.heap_seat.specs.Tickets.{Stops};
     ghost use Rattle.heap_seat.specs.Words.{IsOwn, KeepsOwn, KeepsPending};
     ghost use Rattle.seat_flush.specs.All.{cached};
+    ghost use Rattle.seat_flush.specs.Flushes.{flush_costs};
+    ghost use Rattle.seat_rows.specs.Rows.{Passes};
     ghost use Rattle.seat_view.specs.CacheState.{heap_view};
     ghost use Rattle.thread_cache.specs.Keeps.{KeepsHeap};
     ghost use Rattle.thread_cache.specs.Quiet.{HasEmptyCaches, IsQuietCall};
@@ -39,6 +41,7 @@ impl<'a, C: Chance> CacheSeat<'a, C> {
             → IsOwn (heap_view self.old).held self.old.view.roots word
             → KeepsPending (heap_view self.old) (heap_view self.new) word }
         ensures counted { IsQuietCall self.old self.new }
+        ensures costs { Passes (flush_costs (cached self.old.view)) self.old.view self.new.view }
         ensures light { OnOk result (self.new.view.gives ≡ self.old.view.gives
             → self.new ≡ self.old) }
         ensures idle { (ticket : ℕ) → self.old.view.stopped ≡ Some ticket

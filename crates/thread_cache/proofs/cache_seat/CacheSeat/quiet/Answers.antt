@@ -1,8 +1,11 @@
-use Rattle.std.proofs.Common.{◌+◌, ap, refl, arith, ◌∙◌}
+use Rattle.std.proofs.Common.{◌+◌, ap, refl, arith, ◌∙◌, sym, subst}
+use Rattle.core_model.specs.View.{View}
 use Rattle.core_model.specs.View.{View}
 use Rattle.seat_flush.specs.All.{cached}
+use Rattle.seat_flush.specs.Flushes.{flush_costs}
+use Rattle.seat_rows.specs.Rows.{Passes}
 use Rattle.seat_view.specs.CacheState.{CacheState}
-use Rattle.thread_cache.specs.Quiet.{as_large}
+use Rattle.thread_cache.specs.Quiet.{as_large, had_stopped}
 use Rattle.thread_cache.proofs.LargeLemmas.{large_counted, large_counts_then, large_keeps, large_own, large_pending, large_step}
 use Rattle.thread_cache.proofs.QuietLemmas.{quiet_between, quiet_few, quiet_later}
 use Rattle.thread_cache.proofs.cache_seat.CacheSeat.quiet.Goals as goal
@@ -34,9 +37,19 @@ pub returns-clause-pending : goal.returns-clause-pending
 returns-clause-pending g c = large_pending c.args.self.now c.self.inside.seat c.flush_all-answer.new.seat _ (large_step _ c.args.self.now c.self.view_is c.self.inside.seat c.flush_all-answer.new.seat refl refl c.has_a_sound_state-2.ensures c.in_ok-check_running.ensures.ok) c.flush_all-answer.ensures.row.view.passes c.flush_all-answer.ensures.row
 
 pub returns-clause-kept : goal.returns-clause-kept
-returns-clause-kept g c = large_keeps c.args.self.now c.self.inside.seat c.flush_all-answer.new.seat _ (large_step _ c.args.self.now c.self.view_is c.self.inside.seat c.flush_all-answer.new.seat refl refl c.has_a_sound_state-2.ensures c.in_ok-check_running.ensures.ok) c.flush_all-answer.ensures.row.view.passes
-    (quiet_few c.self.inside.seat.view c.has_a_sound_state.ensures (c.self.inside.between (ap (λ (s : CacheState). s.view.stopped) c.self.view_is ∙ c.in_ok-check_running.ensures.ok)).1)
+returns-clause-kept g c = (
+  c.flush_all-answer.ensures.seat.table ∙ sym c.self.inside.of.table ∙ ap (λ (s : CacheState). s.table) c.self.view_is,
+  large_keeps c.args.self.now c.self.inside.seat c.flush_all-answer.new.seat _ (large_step _ c.args.self.now c.self.view_is c.self.inside.seat c.flush_all-answer.new.seat refl refl c.has_a_sound_state-2.ensures c.in_ok-check_running.ensures.ok) c.flush_all-answer.ensures.row.view.passes
+      (quiet_few c.self.inside.seat.view c.has_a_sound_state.ensures (c.self.inside.between (ap (λ (s : CacheState). s.view.stopped) c.self.view_is ∙ c.in_ok-check_running.ensures.ok)).1),
+)
 
 pub returns-clause-counted : goal.returns-clause-counted
-returns-clause-counted g c = as_large (large_counted c.args.self.now c.self.inside.seat c.flush_all-answer.new.seat _ (large_step _ c.args.self.now c.self.view_is c.self.inside.seat c.flush_all-answer.new.seat refl refl c.has_a_sound_state-2.ensures c.in_ok-check_running.ensures.ok) c.flush_all-answer.ensures.row.view.passes 0 (omega arith))
+returns-clause-counted g c = as_large (let some = ap (λ (s : CacheState). cached s.view) c.self.view_is in let more = c.has_cached.ensures.yes c.if-not-has_cached.false in omega (some, more, arith))
+    (large_counted c.args.self.now c.self.inside.seat c.flush_all-answer.new.seat _ (large_step _ c.args.self.now c.self.view_is c.self.inside.seat c.flush_all-answer.new.seat refl refl c.has_a_sound_state-2.ensures c.in_ok-check_running.ensures.ok) c.flush_all-answer.ensures.row.view.passes 0 (omega arith))
     (record { count = ap (λ (s : CacheState). s.refusals) c.self.view_is; bytes = ap (λ (s : CacheState). s.refused_bytes) c.self.view_is; looks = ap (λ (s : CacheState). s.refused_looks) c.self.view_is })
+
+pub returns-clause-costs : goal.returns-clause-costs
+returns-clause-costs g c = subst (λ (v : View). Passes (flush_costs (cached v)) v c.flush_all-answer.new.seat.view) (ap (λ (s : CacheState). s.view) c.self.view_is) c.flush_all-answer.ensures.row.view.passes
+
+pub returns-in_err-check_running-clause-counted : goal.returns-in_err-check_running-clause-counted
+returns-in_err-check_running-clause-counted g c = had_stopped c.in_err-check_running.field-0.0.step c.in_err-check_running.ensures.stopped.stopped refl

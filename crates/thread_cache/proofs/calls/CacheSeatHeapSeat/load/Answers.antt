@@ -5,7 +5,7 @@ use Rattle.heap_rule.specs.Fences.{Owns}
 use Rattle.seat_rows.proofs.WordLemmas.{owns_held}
 use Rattle.seat_rows.specs.Words.{IsHeldWord}
 use Rattle.seat_view.specs.CacheState.{CacheState}
-use Rattle.seat_words.specs.Own.{HasLoaded}
+use Rattle.seat_words.specs.Own.{HasValue}
 use Rattle.thread_cache.proofs.CallLemmas.{between_then, counts_then, small_counted, small_keeps, small_loads, small_own, small_step, small_stops, spot_held, spot_low}
 use Rattle.thread_cache.proofs.calls.CacheSeatHeapSeat.load.Goals as goal
 
@@ -37,11 +37,11 @@ pub returns-clause-counted : goal.returns-clause-counted
 returns-clause-counted g c = small_counted c.args.self.now c.self.inside.seat c.load-answer.new.seat _ (small_step _ c.args.self.now c.self.view_is c.self.inside.seat c.load-answer.new.seat refl refl c.has_a_sound_state-2.ensures c.in_ok-check_running.ensures.ok) c.load-answer.ensures.row.view.passes c.load-answer.ensures.looks
 
 pub returns-clause-kept : goal.returns-clause-kept
-returns-clause-kept g c = small_keeps c.args.self.now c.self.inside.seat c.load-answer.new.seat _ (small_step _ c.args.self.now c.self.view_is c.self.inside.seat c.load-answer.new.seat refl refl c.has_a_sound_state-2.ensures c.in_ok-check_running.ensures.ok) c.load-answer.ensures.row.view.passes
+returns-clause-kept g c = (c.load-answer.ensures.seat.table ∙ sym c.self.inside.of.table ∙ ap (λ (s : CacheState). s.table) c.self.view_is, small_keeps c.args.self.now c.self.inside.seat c.load-answer.new.seat _ (small_step _ c.args.self.now c.self.view_is c.self.inside.seat c.load-answer.new.seat refl refl c.has_a_sound_state-2.ensures c.in_ok-check_running.ensures.ok) c.load-answer.ensures.row.view.passes)
 
 pub returns-clause-stopped : goal.returns-clause-stopped
 returns-clause-stopped g c = small_stops c.args.self.now c.self.inside.seat c.load-answer.new.seat _ (small_step _ c.args.self.now c.self.view_is c.self.inside.seat c.load-answer.new.seat refl refl c.has_a_sound_state-2.ensures c.in_ok-check_running.ensures.ok) c.load-answer.ensures.row.view.passes c.load-answer.result c.load-answer.ensures.stopped
 
 pub returns-clause-ok : goal.returns-clause-ok
 returns-clause-ok g c = small_loads c.args.self.now c.self.inside.seat c.load-answer.new.seat _ (small_step _ c.args.self.now c.self.view_is c.self.inside.seat c.load-answer.new.seat refl refl c.has_a_sound_state-2.ensures c.in_ok-check_running.ensures.ok) (word_of c.args.s) c.load-answer.result c.load-answer.ensures.marks
-    (subst (λ word. IfOk c.load-answer.result (λ value. HasLoaded word value c.self.inside.seat.view c.load-answer.new.seat.view)) c.word-word.ensures c.load-answer.ensures.loaded)
+    (subst (λ word. IfOk c.load-answer.result (λ value. HasValue word value c.self.inside.seat.view c.load-answer.new.seat.view)) c.word-word.ensures c.load-answer.ensures.loaded)

@@ -7,7 +7,7 @@ use Rattle.seat_rows.specs.Costs.{one_draw}
 use Rattle.seat_rows.specs.Rows.{StoringRow}
 use Rattle.seat_rows.specs.Words.{IsHeldWord}
 use Rattle.seat_view.specs.CacheState.{CacheState}
-use Rattle.seat_words.specs.Own.{HasStored, MayHave}
+use Rattle.seat_words.specs.Own.{HasValue, MayHave}
 use Rattle.thread_cache.proofs.CallLemmas.{between_then, counts_then, small_counted, small_keeps, small_may_store, small_step, small_stops, small_stores, small_unstored, spot_held, spot_low}
 use Rattle.thread_cache.proofs.calls.CacheSeatHeapSeat.store.Goals as goal
 
@@ -42,14 +42,14 @@ pub returns-clause-counted : goal.returns-clause-counted
 returns-clause-counted g c = small_counted c.args.self.now c.self.inside.seat c.store-answer.new.seat _ (small_step _ c.args.self.now c.self.view_is c.self.inside.seat c.store-answer.new.seat refl refl c.has_a_sound_state-2.ensures c.in_ok-check_running.ensures.ok) c.store-answer.ensures.row.but.passes c.store-answer.ensures.looks
 
 pub returns-clause-kept : goal.returns-clause-kept
-returns-clause-kept g c = small_keeps c.args.self.now c.self.inside.seat c.store-answer.new.seat _ (small_step _ c.args.self.now c.self.view_is c.self.inside.seat c.store-answer.new.seat refl refl c.has_a_sound_state-2.ensures c.in_ok-check_running.ensures.ok) c.store-answer.ensures.row.but.passes
+returns-clause-kept g c = (c.store-answer.ensures.seat.table ∙ sym c.self.inside.of.table ∙ ap (λ (s : CacheState). s.table) c.self.view_is, small_keeps c.args.self.now c.self.inside.seat c.store-answer.new.seat _ (small_step _ c.args.self.now c.self.view_is c.self.inside.seat c.store-answer.new.seat refl refl c.has_a_sound_state-2.ensures c.in_ok-check_running.ensures.ok) c.store-answer.ensures.row.but.passes)
 
 pub returns-clause-stopped : goal.returns-clause-stopped
 returns-clause-stopped g c = small_stops c.args.self.now c.self.inside.seat c.store-answer.new.seat _ (small_step _ c.args.self.now c.self.view_is c.self.inside.seat c.store-answer.new.seat refl refl c.has_a_sound_state-2.ensures c.in_ok-check_running.ensures.ok) c.store-answer.ensures.row.but.passes c.store-answer.result c.store-answer.ensures.stopped
 
 pub returns-clause-ok : goal.returns-clause-ok
 returns-clause-ok g c = small_stores c.args.self.now c.self.inside.seat c.store-answer.new.seat _ (small_step _ c.args.self.now c.self.view_is c.self.inside.seat c.store-answer.new.seat refl refl c.has_a_sound_state-2.ensures c.in_ok-check_running.ensures.ok) (word_of c.args.s) c.args.value c.store-answer.result
-    (subst (λ word. OnOk c.store-answer.result (HasStored word c.args.value c.self.inside.seat.view c.store-answer.new.seat.view)) c.word-word.ensures c.store-answer.ensures.stored)
+    (subst (λ word. OnOk c.store-answer.result (HasValue word c.args.value c.self.inside.seat.view c.store-answer.new.seat.view)) c.word-word.ensures c.store-answer.ensures.stored)
     (subst (λ word. (other : ℕ) → other ≢ word → IsMarked c.self.inside.seat.marks other → IsMarked c.store-answer.new.seat.marks other) c.word-word.ensures c.store-answer.ensures.marks)
 
 pub returns-clause-crash : goal.returns-clause-crash

@@ -1,0 +1,282 @@
+-- What a request leaves, granted, refused or stopped, for a seat of a heap.
+use Rattle.std.proofs.Common.{◌≡◌, ◌<◌, ◌≤◌, ◌⊎◌, ℕ, ◌+◌, ◌-◌, ◌*◌, inl, inr, List, [], ◌∷◌, Bool, set, get_or, length, Option, None, Some, Result, Ok, Err, IfOk, OnOk, OnErr, IfErr, refl, ap, sym, subst, ◌∙◌, arith}
+use Rattle.std.specs.Prelude.{Contains}
+use Rattle.std.proofs.lemmas.Bool.{cases_eq}
+use Rattle.std.proofs.lemmas.List.{get_or-set_same, get_or-set_other}
+use Rattle.heap_model.specs.declared.block.Block.{Block}
+use Rattle.heap_model.specs.Sizes.{IsClass, IsLeastClassFor, largest_small, size_of, span_of, words_of_class, blocks_of}
+use Rattle.heap_model.proofs.SizeLemmas.{size_of-words}
+use Rattle.size_table.proofs.ClassLemmas.{least_small, one_least}
+use Rattle.heap_seat.specs.declared.fault.AllocFault.{AllocFault}
+use Rattle.heap_seat.specs.declared.fault.AllocFault.TheVariants.{Full, Stopped as StoppedFault}
+use Rattle.heap_seat.specs.declared.fault.Looks.{Looks}
+use Rattle.heap_seat.specs.Alloc.{Adds, Allocates, FailsBy, IsSizeFor, Refuses, of_class as size_of_class, of_superblocks}
+use Rattle.heap_seat.specs.Calls.{SameRefusals}
+use Rattle.heap_seat.specs.Looks.{FoundEmpty, FoundNoRoom, IsLastSeen}
+use Rattle.heap_seat.specs.Words.{IsOwn, KeepsOwn, KeepsPending, KeepsWord}
+use Rattle.line_memory.specs.Marks.{IsMarked, marked_words}
+use Rattle.line_memory.specs.Marked.{marked_words-has, marked_words-only}
+use Rattle.core_model.specs.View.{LastLook, Setup, Span, View, of_class}
+use Rattle.heap_table.specs.Plays.{HasSoundState}
+use Rattle.heap_rule.specs.Seated.{SeatView}
+use Rattle.seat_rows.specs.Costs.{Costs}
+use Rattle.seat_rows.specs.Idle.{HasShortCaches, IsIdle}
+use Rattle.seat_rows.specs.Rows.{HoldingRow, IsHeldBoth, Parts, Passes, Row, RowBut, Stops, head_look, next_of, parts}
+use Rattle.seat_rows.specs.Words.{IsDurableAt, IsHeldWord, KeepsWord as KeepsRowWord}
+use Rattle.seat_rows.proofs.RowLemmas.{not_both}
+use Rattle.seat_fill.specs.Refills.{IsFull, IsLook}
+use Rattle.seat_calls.specs.Large.{HasAllocatedLarge, HasNoRoom}
+use Rattle.seat_calls.specs.Requests.{Answers, IsGranted, IsRefused, by_class, by_span, light_request, request_costs}
+use Rattle.seat_calls.specs.Small.{HasAllocated, IfGoing}
+use Rattle.seat_view.specs.CacheState.{CacheState, CallCounts, HasCounts, IsBetweenCalls, IsStateOf, counts_of, heap_view, heap_view_of, look_of}
+use Rattle.seat_view.specs.Changes.{HoldsBlock, HoldsSpan}
+use Rattle.seat_view.proofs.ChangedBlocks.{class_in, holds_by, large_words_stay, small_words_stay, span_by}
+use Rattle.seat_view.proofs.HeldLemmas.{own_held, word_law}
+use Rattle.thread_cache.specs.Serving.{HasSeenRoom, IsLight, IsServed, IsTurnedAway}
+use Rattle.thread_cache.proofs.CallLemmas.{at_state, runs_law, stops_law}
+use Rattle.thread_cache.proofs.LargeLemmas.{IsFew, LargeStep}
+
+-- the counts after a refusal
+pub full_step : (before s : CacheState) → before ≡ s → (bytes : ℕ) (looks : Looks) (x y : SeatView) → x.view ≡ before.view → x.marks ≡ before.marks → HasSoundState y.view → s.view.stopped ≡ None
+    → LargeStep s x y (record { small_calls = before.small_calls; large_calls = before.large_calls + 1; refusals = before.refusals + 1; refused_bytes = bytes; refused_looks = looks })
+full_step before s is bytes looks x y view marks has ran = record {
+  was = record { view = view ∙ ap (λ (s : CacheState). s.view) is; marks = marks ∙ ap (λ (s : CacheState). s.marks) is };
+  has = has;
+  ran = ran;
+  small = ap (λ (s : CacheState). s.small_calls) is;
+  large = ap (λ (s : CacheState). s.large_calls + 1) is;
+}
+
+pub full_counts_then : (small large refusals : ℕ) (v w : View) → next_of v < next_of w → HasCounts small large refusals v → HasCounts small (large + 1) (refusals + 1) w
+full_counts_then small large refusals v w later counts = (let c = counts.0 in omega arith, let c = counts.1 in omega arith)
+
+-- the block that comes
+holds_block : (bytes class : ℕ) (b : Block) (v w : View) → IsLeastClassFor bytes class → HasAllocated class b v w → HoldsBlock class b v w
+holds_block bytes class b v w least allocated = record {
+  is_class = least.is_class;
+  words = allocated.size;
+  setup = ap (λ (p : Parts). p.setup) allocated.parts_are;
+  roots = ap (λ (p : Parts). p.roots) allocated.parts_are;
+  small = ap (λ (p : Parts). p.small) allocated.parts_are;
+  large = ap (λ (p : Parts). p.large) allocated.parts_are;
+}
+
+holds_span : (n : ℕ) (b : Block) (v w : View) → 1 ≤ n → (allocated : HasAllocatedLarge n b v w) → HoldsSpan allocated.first n b v w
+holds_span n b v w some allocated = record {
+  some = some;
+  block = allocated.block;
+  setup = ap (λ (p : Parts). p.setup) allocated.parts_are;
+  roots = ap (λ (p : Parts). p.roots) allocated.parts_are;
+  small = ap (λ (p : Parts). p.small) allocated.parts_are;
+  large = ap (λ (p : Parts). p.large) allocated.parts_are;
+}
+
+-- the words that were held are so still
+granted_words : (bytes : ℕ) (b : Block) (v w : View) → HasSoundState v → IsGranted bytes b v w → (word : ℕ) → IsHeldWord v word → IsHeldWord w word
+granted_words bytes b v w has (by_class class least allocated) = small_words_stay class b v w (class_in v has class least.is_class) (holds_block bytes class b v w least allocated)
+granted_words bytes b v w has (by_span large allocated) = large_words_stay allocated.first (span_of bytes) b v w (holds_span (span_of bytes) b v w (omega arith) allocated)
+
+granted_going : (bytes : ℕ) (b : Block) (v w : View) → IsGranted bytes b v w → w.stopped ≡ None
+granted_going bytes b v w (by_class class least allocated) = allocated.going
+granted_going bytes b v w (by_span large allocated) = allocated.going
+
+-- its size
+granted_size : (bytes : ℕ) (b : Block) (v w : View) → IsGranted bytes b v w → IsSizeFor bytes (8 * b.words)
+granted_size bytes b v w (by_class class least allocated) =
+    subst (IsSizeFor bytes) (size_of-words class least.is_class ∙ ap (λ n. 8 * n) (sym allocated.size)) (size_of_class class least)
+granted_size bytes b v w (by_span large allocated) =
+    let words = ap (λ (x : Block). x.words) allocated.block in subst (IsSizeFor bytes) (omega arith) (of_superblocks large)
+
+-- a request of a class takes one superblock at most
+one_span : (bytes class : ℕ) → IsLeastClassFor bytes class → span_of bytes ≡ 1
+one_span bytes class least = let small = least_small bytes class least in omega arith
+
+-- a pending write-back of a word
+pub pending_of : (s : CacheState) (x y : SeatView) (n : CallCounts) → IsStateOf s x → (word : ℕ) → (IsMarked x.marks word → IsMarked y.marks word ⊎ IsDurableAt y.view word) → KeepsPending (heap_view s) (heap_view_of y.view y.marks n) word
+pending_of s x y n was word keeps pending = elim (keeps (subst (λ marks. IsMarked marks word) (sym was.marks) (marked_words-only s.marks word pending))) [
+  | inl marked ↦ inl (marked_words-has y.marks word marked)
+  | inr durable ↦ inr (record { value = durable.value; seen = durable.seen; left = durable.left })
+]
+
+module _ (bytes : ℕ) (s : CacheState) (x y : SeatView) (n : CallCounts) (step : LargeStep s x y n) (had : HasSoundState x.view) (later : next_of x.view < next_of y.view) where
+  was_held : (word : ℕ) → IsOwn (heap_view s).held s.view.roots word → IsHeldWord x.view word
+  was_held word own = subst (λ (v : View). IsHeldWord v word) (sym step.was.view) (own_held s word own)
+
+  has_state : HasSoundState s.view
+  has_state = subst HasSoundState step.was.view had
+
+  later_state : next_of s.view < next_of y.view
+  later_state = at_state (λ v. next_of v < next_of y.view) s x step.was later
+
+  -- granted
+  module _ {a : Costs} (b : Block) (row : HoldingRow a x y) (same : SameRefusals (heap_view s) (heap_view_of y.view y.marks n)) where
+    granted_heap : IsGranted bytes b s.view y.view → Allocates bytes b (heap_view s) (heap_view_of y.view y.marks n)
+    granted_heap granted = record {
+      runs = runs_law s.view y.view s.marks y.marks (counts_of s) n step.has step.ran (granted_going bytes b s.view y.view granted) later_state;
+      size = granted_size bytes b s.view y.view granted;
+      blocks = by_kind granted;
+      words = λ word own. word_law s.view y.view s.marks y.marks (counts_of s) n word
+          (at_state (λ v. KeepsRowWord v y.view word) s x step.was (row.words word (was_held word own, granted_words bytes b s.view y.view has_state granted word (own_held s word own))));
+      pending = λ word own. pending_of s x y n step.was word (row.marks word (was_held word own, granted_words bytes b s.view y.view has_state granted word (own_held s word own)));
+      refusals = same;
+    } where
+      by_kind : IsGranted bytes b s.view y.view → Adds b (heap_view s) (heap_view_of y.view y.marks n)
+      by_kind (by_class class least allocated) = holds_by s.view y.view s.marks y.marks (counts_of s) n (λ not. not has_state step.has) class b (class_in s.view has_state class least.is_class) (holds_block bytes class b s.view y.view least allocated)
+      by_kind (by_span large allocated) = span_by s.view y.view s.marks y.marks (counts_of s) n (λ not. not has_state step.has) allocated.first (span_of bytes) b (holds_span (span_of bytes) b s.view y.view (omega arith) allocated)
+
+  -- refused
+  look_seen : (look : LastLook) (word : ℕ) (is : IsLook look word y.view) → next_of s.view ≤ is.ticket → is.ticket < next_of y.view → IsLastSeen (heap_view s) (heap_view_of y.view y.marks n) (look_of look) word
+  look_seen look word is from until = record { is = is.word_is; ticket = is.ticket; by = is.by; drawn = record { from = from; until = until }; taken = is.taken }
+
+  found_none : (looks : Looks) → IsRefused bytes looks s.view y.view → FoundNoRoom bytes looks (heap_view s) (heap_view_of y.view y.marks n)
+  found_none looks (by_class class least full none) =
+      let since = full.since in let first = full.class_first in let second = full.free_second in let last = full.last in
+      let capacity = ap (λ (p : Parts). p.setup.capacity) full.parts_are in
+      let one = one_span bytes class least in let small = least_small bytes class least in record {
+        used = look_seen y.view.used_look looks.used full.used_look (omega arith) (omega arith);
+        past = let p = full.past in omega arith;
+        class = λ c other. subst (λ k. FoundEmpty (heap_view s) (heap_view_of y.view y.marks n) k looks.class_head) (one_least bytes class c least other)
+            (record { last = look_seen (head_look y.view class) looks.class_head full.class_look since (omega arith); empty = full.class_empty });
+        free = λ is. record { last = look_seen (head_look y.view 0) looks.free_head full.free_look (omega arith) (omega arith); empty = full.free_empty };
+        large = λ large. absurd (omega arith);
+      }
+  found_none looks (by_span large none) =
+      let capacity = ap (λ (p : Parts). p.setup.capacity) none.parts_are in record {
+        used = look_seen y.view.used_look looks.used none.used_look none.since none.below;
+        past = let p = none.past in omega arith;
+        class = λ c least. absurd (let small = least_small bytes c least in omega arith);
+        free = λ small. absurd (omega arith);
+        large = λ is. (none.class_unread, none.free_unread);
+      }
+
+  refused_going : (looks : Looks) → IsRefused bytes looks s.view y.view → y.view.stopped ≡ None
+  refused_going looks (by_class class least full none) = full.going
+  refused_going looks (by_span large none) = none.going
+
+  refused_taken : (looks : Looks) → IsRefused bytes looks s.view y.view → y.view.taken ≡ s.view.taken
+  refused_taken looks (by_class class least full none) = full.taken
+  refused_taken looks (by_span large none) = none.taken
+
+  refused_parts : (looks : Looks) → IsRefused bytes looks s.view y.view → (parts y.view ≡ parts s.view) × (y.view.cuts ≡ s.view.cuts)
+  refused_parts looks (by_class class least full none) = (full.parts_are, full.cuts)
+  refused_parts looks (by_span large none) = (none.parts_are, none.cuts)
+
+  refused_heap : {a : Costs} (looks : Looks) → Row a x y → n.refusals ≡ s.refusals + 1 → n.refused_bytes ≡ bytes → n.refused_looks ≡ looks → IsRefused bytes looks s.view y.view
+      → Refuses bytes looks (heap_view s) (heap_view_of y.view y.marks n)
+  refused_heap looks row count bytes_are looks_are refused = record {
+    runs = runs_law s.view y.view s.marks y.marks (counts_of s) n step.has step.ran (refused_going looks refused) later_state;
+    found = found_none looks refused;
+    taken = refused_taken looks refused;
+    count = count;
+    bytes_are = bytes_are;
+    looks_are = looks_are;
+    pending = λ word own. pending_of s x y n step.was word (row.marks word (was_held word own));
+  }
+
+  answers_state : (result : Result Block AllocFault) → Answers bytes result x.view y.view → Answers bytes result s.view y.view
+  answers_state result = at_state (λ v. Answers bytes result v y.view) s x step.was
+
+  -- by what was answered
+  pub alloc_ok : {a : Costs} (result : Result Block AllocFault) → Answers bytes result x.view y.view → HoldingRow a x y → SameRefusals (heap_view s) (heap_view_of y.view y.marks n)
+      → IfOk result (λ b. Allocates bytes b (heap_view s) (heap_view_of y.view y.marks n))
+  alloc_ok (Ok b) answers row same = granted_heap b row same (answers_state (Ok b) answers)
+  alloc_ok (Err fault) answers row same = tt
+
+  pub full_cause : (a : Costs) (looks : Looks) (result : Result Block AllocFault) → result ≡ Err (Full looks) → Answers bytes result x.view y.view → OnErr result (Row a x y)
+      → n.refusals ≡ s.refusals + 1 → n.refused_bytes ≡ bytes → n.refused_looks ≡ looks → IfErr result (λ fault. FailsBy bytes fault (heap_view s) (heap_view_of y.view y.marks n))
+  full_cause a looks result is answers row count bytes_are looks_are =
+      subst (λ (r : Result Block AllocFault). IfErr r (λ fault. FailsBy bytes fault (heap_view s) (heap_view_of y.view y.marks n))) (sym is)
+      (refused_heap looks (subst (λ (r : Result Block AllocFault). OnErr r (Row a x y)) is row) count bytes_are looks_are
+      (answers_state (Err (Full looks)) (subst (λ (r : Result Block AllocFault). Answers bytes r x.view y.view) is answers)))
+
+  pub stop_cause : (result : Result Block AllocFault) → ((looks : Looks) → result ≡ Err (Full looks) → ⊥) → Answers bytes result x.view y.view → y.view.setup ≡ s.view.setup → SameRefusals (heap_view s) (heap_view_of y.view y.marks n)
+      → IfErr result (λ fault. FailsBy bytes fault (heap_view s) (heap_view_of y.view y.marks n))
+  stop_cause (Ok b) not_full answers setup same = tt
+  stop_cause (Err (Full looks)) not_full answers setup same = absurd (not_full looks refl)
+  stop_cause (Err (StoppedFault e)) not_full answers setup same = (stops_law s.view y.view s.marks y.marks (counts_of s) n e.step step.ran setup (answers_state (Err (StoppedFault e)) answers), same)
+
+  light_by : {moves : ℕ} → (y.view.cuts ≡ x.view.cuts → HoldingRow (light_request bytes moves) x y) → IsLight s.view y.view
+  light_by {moves} light cuts gives taken large =
+      let passes : Passes (light_request bytes moves) s.view y.view = at_state (λ v. Passes (light_request bytes moves) v y.view) s x step.was (light (cuts ∙ ap (λ (v : View). v.cuts) (sym step.was.view))).passes in
+      let d = passes.most.draws in let l = passes.more.losses in omega arith
+
+  pub alloc_room : (moves : ℕ) (result : Result Block AllocFault) → Answers bytes result x.view y.view → IfGoing result (y.view.cuts ≡ x.view.cuts → HoldingRow (light_request bytes moves) x y) → OnOk result (IsServed bytes s.view y.view)
+  alloc_room moves (Ok b) answers light = record { light = light_by light; large = by_kind (answers_state (Ok b) answers) } where
+    by_kind : IsGranted bytes b s.view y.view → largest_small < bytes → HasSeenRoom bytes s.view y.view
+    by_kind (by_class class least allocated) large = absurd (let small = least_small bytes class least in omega arith)
+    by_kind (by_span is allocated) large = record {
+      made = allocated.made;
+      room = let seen = allocated.seen in let room = allocated.room in let capacity = ap (λ (p : Parts). p.setup.capacity) allocated.parts_are in omega arith;
+    }
+  alloc_room moves (Err fault) answers light = tt
+
+  pub alloc_none : (moves : ℕ) (result : Result Block AllocFault) → Answers bytes result x.view y.view → IfGoing result (y.view.cuts ≡ x.view.cuts → HoldingRow (light_request bytes moves) x y)
+      → IfErr result (λ fault. (looks : Looks) → fault ≡ Full looks → IsTurnedAway bytes looks s.view y.view)
+  alloc_none moves (Ok b) answers light = tt
+  alloc_none moves (Err (Full found)) answers light = λ looks same. subst (λ l. IsTurnedAway bytes l s.view y.view) (one_looks found looks same) (away found (answers_state (Err (Full found)) answers)) where
+    looks_in : AllocFault → Looks
+    looks_in (Full l) = l
+    looks_in (StoppedFault e) = found
+
+    one_looks : (a b : Looks) → Full a ≡ Full b → a ≡ b
+    one_looks a b same = ap looks_in same
+
+    away : (looks : Looks) → IsRefused bytes looks s.view y.view → IsTurnedAway bytes looks s.view y.view
+    away looks (by_class class least full none) = record {
+      light = light_by light;
+      parts_are = full.parts_are;
+      cuts = full.cuts;
+      for_class = λ c other. subst (λ k. IsFull k looks s.view y.view × (of_class s.view.caches k ≡ [])) (one_least bytes class c least other) (full, none);
+      for_span = λ large. absurd (let small = least_small bytes class least in omega arith);
+    }
+    away looks (by_span is none) = record {
+      light = light_by light;
+      parts_are = none.parts_are;
+      cuts = none.cuts;
+      for_class = λ c least. absurd (let small = least_small bytes c least in omega arith);
+      for_span = λ large. none;
+    }
+  alloc_none moves (Err (StoppedFault e)) answers light = λ looks same. absurd (let no = ap kind_of same in omega arith) where
+    kind_of : AllocFault → ℕ
+    kind_of (Full l) = 1
+    kind_of (StoppedFault f) = 0
+
+-- a seat that has the same stays idle
+pub same_between : (v w : View) → IsIdle v → HasShortCaches v → w.batch ≡ v.batch → w.raw ≡ v.raw → w.split ≡ v.split → w.cutting ≡ v.cutting → w.classed ≡ v.classed → w.caches ≡ v.caches → IsIdle w × HasShortCaches w
+same_between v w idle short batch raw split cutting classed caches = (
+  record { batch = batch ∙ idle.batch; raw = raw ∙ idle.raw; split = split ∙ idle.split; cutting = cutting ∙ idle.cutting; classed = classed ∙ idle.classed },
+  record { each = λ class is. let s = short.each class is in let e = ap (λ l. length (of_class l class)) caches in omega arith },
+)
+
+pub parts_between : (v w : View) → IsIdle v → HasShortCaches v → parts w ≡ parts v → IsIdle w × HasShortCaches w
+parts_between v w idle short same = same_between v w idle short (ap (λ (p : Parts). p.batch) same) (ap (λ (p : Parts). p.raw) same) (ap (λ (p : Parts). p.split) same) (ap (λ (p : Parts). p.cutting) same) (ap (λ (p : Parts). p.classed) same) (ap (λ (p : Parts). p.caches) same)
+
+-- the caches stay short
+pub short_but : (v : View) (class : ℕ) (cache : List ℕ) (caches : List (List ℕ)) → class < length v.caches → HasShortCaches v → caches ≡ set v.caches class cache → length cache < blocks_of class
+    → (c : ℕ) → IsClass c → length (of_class caches c) < blocks_of c
+short_but v class cache caches below short is few c is_class = elim (cases_eq c class) as (λ _. length (of_class caches c) < blocks_of c) [
+  | inl same ↦ subst (λ k. length (of_class caches k) < blocks_of k) (sym same)
+      (let e = ap length (ap (λ l. of_class l class) is ∙ get_or-set_same v.caches class cache [] below) in omega arith)
+  | inr other ↦ let e = ap length (ap (λ l. of_class l c) is ∙ get_or-set_other v.caches class c cache [] other) in let s = short.each c is_class in omega arith
+]
+
+pub alloc_between : (bytes : ℕ) (v w : View) (has : HasSoundState v) (result : Result Block AllocFault) → IsIdle v → HasShortCaches v → Answers bytes result v w → IsBetweenCalls w
+alloc_between bytes v w has (Ok b) idle short (by_class class least allocated) going = (
+  record {
+    batch = ap (λ (p : Parts). p.batch) allocated.parts_are ∙ idle.batch;
+    raw = ap (λ (p : Parts). p.raw) allocated.parts_are ∙ idle.raw;
+    split = ap (λ (p : Parts). p.split) allocated.parts_are ∙ idle.split;
+    cutting = ap (λ (p : Parts). p.cutting) allocated.parts_are ∙ idle.cutting;
+    classed = ap (λ (p : Parts). p.classed) allocated.parts_are ∙ idle.classed;
+  },
+  record { each = short_but v class allocated.cache w.caches (let long = (has.sound.good.set_up has.seat v has.below has.at).caches in let last = least.is_class.last in omega arith) short (ap (λ (p : Parts). p.caches) allocated.parts_are) allocated.short },
+)
+alloc_between bytes v w has (Ok b) idle short (by_span large allocated) going = same_between v w idle short
+    (ap (λ (p : Parts). p.batch) allocated.parts_are) (ap (λ (p : Parts). p.raw) allocated.parts_are) (ap (λ (p : Parts). p.split) allocated.parts_are) (ap (λ (p : Parts). p.cutting) allocated.parts_are) (ap (λ (p : Parts). p.classed) allocated.parts_are) (ap (λ (p : Parts). p.caches) allocated.parts_are)
+alloc_between bytes v w has (Err (Full looks)) idle short (by_class class least full none) going = parts_between v w idle short full.parts_are
+alloc_between bytes v w has (Err (Full looks)) idle short (by_span large none) going = parts_between v w idle short none.parts_are
+alloc_between bytes v w has (Err (StoppedFault e)) idle short stop going = not_both stop.at going
+
+-- what a request costs is few
+pub request_few : (bytes moves : ℕ) → IsFew (request_costs bytes moves)
+request_few bytes moves = record { draws = omega arith; wins = omega arith; gives = omega arith; cuts = omega arith }
