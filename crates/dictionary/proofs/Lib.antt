@@ -3,3 +3,4 @@ pub mod LeadLemmas
 pub mod LinkLemmas
 pub mod WalkLemmas
 pub mod SameLemmas
+pub mod TogetherLemmas

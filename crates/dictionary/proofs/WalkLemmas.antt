@@ -31,11 +31,11 @@ module _ (image : Image) (b : Block) where
   find-push_same (x ∷ bs) none =
       find_behind image (key_in image b) x (bs ++ b ∷ []) (not_first image (key_in image b) x bs none) ∙ find-push_same bs (not_behind image (key_in image b) x bs none)
 
-  link_behind-push : (at : ℕ) (bs : List Block) → link_behind at (bs ++ b ∷ []) ≡ b.first_word
+  pub link_behind-push : (at : ℕ) (bs : List Block) → link_behind at (bs ++ b ∷ []) ≡ b.first_word
   link_behind-push at [] = refl
   link_behind-push at (x ∷ bs) = link_behind-push x.first_word bs
 
-  path-push : (leads : Leading) (shard bucket at : ℕ) (bs : List Block) → IsPath leads image shard bucket at bs → leads (image (link_behind at bs)) b
+  pub path-push : (leads : Leading) (shard bucket at : ℕ) (bs : List Block) → IsPath leads image shard bucket at bs → leads (image (link_behind at bs)) b
       → IsNode image shard bucket b → find image (key_in image b) bs ≡ None → IsPath leads image shard bucket at (bs ++ b ∷ [])
   path-push leads shard bucket at [] path to is none = (to, is, refl, tt)
   path-push leads shard bucket at (x ∷ bs) path to is none = (
@@ -86,14 +86,14 @@ module _ (leads : Leading) (image : Image) (shard : ℕ) (table : Block) where
     }
 
     -- what the map has at the key of a node of the bucket
-    at_key : (nodes : ℕ → List Block) (b : Block) → IsNode image shard k b → map_of image shard nodes (key_in image b) ≡ find image (key_in image b) (nodes k)
+    pub at_key : (nodes : ℕ → List Block) (b : Block) → IsNode image shard k b → map_of image shard nodes (key_in image b) ≡ find image (key_in image b) (nodes k)
     at_key nodes b is =
         cond-true (nat_eq (shard_of (key_in image b)) shard) (find image (key_in image b) (nodes (bucket_of (key_in image b)))) None (eq-eqb (shard_of (key_in image b)) shard is.in_shard)
         ∙ ap (λ j. find image (key_in image b) (nodes j)) is.in_bucket
 
     -- one more node
     module _ (nodes : ℕ → List Block) (b : Block) where
-      further : ℕ → List Block
+      unfoldable pub further : ℕ → List Block
       further = chains_with nodes k (nodes k ++ b ∷ [])
 
       other_key : (key : ℕ) → key_in image b ≢ key → (j : ℕ) → find image key (further j) ≡ find image key (nodes j)
@@ -104,7 +104,7 @@ module _ (leads : Leading) (image : Image) (shard : ℕ) (table : Block) where
         | inr apart ↦ ap (λ bs. find image key bs) (with_other nodes k (nodes k ++ b ∷ []) j apart)
       ]
 
-      more_means : (old new : BTreeMap ℕ (List ℕ)) → IsNode image shard k b → find image (key_in image b) (nodes k) ≡ None
+      pub more_means : (old new : BTreeMap ℕ (List ℕ)) → IsNode image shard k b → find image (key_in image b) (nodes k) ≡ None
           → ((key : ℕ) → get nat_cmp old key ≡ map_of image shard nodes key)
           → ((key : ℕ) → get nat_cmp new key ≡ cond (nat_eq (key_in image b) key) (Some (value_in image b)) (get nat_cmp old key))
           → (key : ℕ) → get nat_cmp new key ≡ map_of image shard further key

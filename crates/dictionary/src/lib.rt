@@ -5,6 +5,7 @@ mod fault;
 mod filter;
 mod laws;
 mod read;
+mod together;
 mod walk;
 
 pub use dict_seat::{PutFault, Shard};

@@ -10,11 +10,12 @@ ghost use Rattle.super_block.specs.Division.{Describes};
 ghost use Rattle.root_reach.specs.Reaching.{AreOrigins};
 ghost use Rattle.dict_model.specs.Links.{shards, kind_count, table_kind, dict_links};
 ghost use Rattle.dict_model.specs.Nodes.{buckets};
-ghost use Rattle.dict_model.specs.Shards.{HasTable, LeadsAlone, MapOf};
+ghost use Rattle.dict_model.specs.Shards.{HasTable, LeadsAlone, IsMap, MapOf};
 ghost use Rattle.dictionary.specs.Reading.{IsRead, IsMapUpTo, TellsBad, TellsLowest, AreMaps};
 
 use crate::fault::MapFault;
 use crate::filter::{DictFilter, TABLE};
+use crate::together::read_together;
 use crate::walk::{Lead, Walk};
 use dict_model::{BUCKETS, SHARDS};
 use filter_trace::Scan;
@@ -128,18 +129,36 @@ fn read_shard(
     if walk.scan.words[kind as usize] != TABLE as u64 {
         return Err(walk.fault(kind));
     }
-    let mut map = BTreeMap::new(alloc);
     let root = ROOT_WORD as usize + shard;
     match walk.table(walk.scan.words[root]) {
-        Lead::Null => Ok(map),
+        Lead::Null => Ok(BTreeMap::new(alloc)),
         Lead::Astray => Err(walk.fault(root as u64)),
-        Lead::To(table) => {
-            for bucket in 0..BUCKETS {
-                read_chain(alloc, &walk, table, bucket, &mut map)?;
-            }
-            Ok(map)
-        }
+        Lead::To(table) => match read_together(alloc, &walk, table)? {
+            Some(map) => Ok(map),
+            None => read_in_order(alloc, &walk, table),
+        },
     }
+}
+
+/// The map of a table, read bucket by bucket, so that the first bad link is found.
+fn read_in_order(alloc: Global, walk: &Walk, table: Block) -> Result<BTreeMap<u64, Bytes>, MapFault>
+    requires read { IsRead walk.now.scan.words.now walk.now.scan.directory.now
+        walk.now.origins.now }
+    requires shard { walk.now.shard < 8 }
+    requires kind { kinds_of (slice_index walk.now.scan.words.now) walk.now.shard ≡ table_kind }
+    requires table { HasTable (LeadsAlone (slice_index walk.now.scan.words.now) walk.now.shard)
+        (slice_index walk.now.scan.words.now) walk.now.shard table }
+    ensures ok { IfOk result (λ map.
+        IsMap (LeadsAlone (slice_index walk.now.scan.words.now) walk.now.shard)
+        (slice_index walk.now.scan.words.now) walk.now.shard (get nat_cmp map)) }
+    ensures ordered { IfOk result (λ map. IsOrdered nat_cmp map) }
+    ensures err { IfErr result (TellsBad (slice_index walk.now.scan.words.now) walk.now.shard) }
+{
+    let mut map = BTreeMap::new(alloc);
+    for bucket in 0..BUCKETS {
+        read_chain(alloc, walk, table, bucket, &mut map)?;
+    }
+    Ok(map)
 }
 
 /// Adds the keys and values of a bucket to those of the buckets before it.

@@ -1,20 +1,11 @@
-use Rattle.std.proofs.Common.{◌≡◌, refl, sym, subst, arith, slice_index}
+use Rattle.std.proofs.Common.{◌≡◌, IfSome, refl, sym, subst, slice_index}
 use Rattle.std.specs.BTreeMap.{get}
 use Rattle.std.specs.Ordering.{nat_cmp}
+use Rattle.std.proofs.lemmas.Result.{IfOk-weaker}
 use Rattle.dict_model.specs.Links.{table_kind}
-use Rattle.dict_model.specs.Nodes.{buckets}
 use Rattle.heap_model.specs.Geometry.{root_word}
-use Rattle.dict_model.specs.Shards.{LeadsAlone, at_root, at_kind, in_table}
-use Rattle.dictionary.specs.Reading.{IsMapUpTo}
-use Rattle.dictionary.proofs.WalkLemmas.{no_key, map_begins, map_ends}
+use Rattle.dict_model.specs.Shards.{LeadsAlone, IsMap, MapOf, at_root, at_kind, in_table}
 use Rattle.dictionary.proofs.read.read_shard.Goals as goal
-
-pub loop-bucket-init : goal.loop-bucket-init
-loop-bucket-init c = record {
-  upto = map_begins (LeadsAlone (slice_index c.args.scan.words.now) c.args.shard) (slice_index c.args.scan.words.now) c.args.shard c.in-To.table (get nat_cmp c.new-map.result)
-      (no_key c.new-map.result c.new-map.ensures.empty);
-  ordered = c.new-map.ensures.ordered;
-}
 
 pub returns-in-Astray-clause-err : goal.returns-in-Astray-clause-err
 returns-in-Astray-clause-err c = rw (c.fault-in-Astray.ensures) (
@@ -23,14 +14,22 @@ returns-in-Astray-clause-err c = rw (c.fault-in-Astray.ensures) (
       (subst (λ at. slice_index c.args.scan.words.now at ≡ table_kind) c.kind_place-kind.ensures.is c.if-walk-kind.false) (at_root c.in-Astray.ensures),
 )
 
-pub returns-after-loop-bucket-clause-ok : goal.returns-after-loop-bucket-clause-ok
-returns-after-loop-bucket-clause-ok c =
-    let all : c.loop-bucket.bucket ≡ buckets = omega arith in record {
+pub returns-in-Some-clause-ok : goal.returns-in-Some-clause-ok
+returns-in-Some-clause-ok c = record {
+  kind_is = subst (λ at. slice_index c.args.scan.words.now at ≡ table_kind) c.kind_place-kind.ensures.is c.if-walk-kind.false;
+  is_map = subst (λ found. IfSome found (λ map. IsMap (LeadsAlone (slice_index c.args.scan.words.now) c.args.shard) (slice_index c.args.scan.words.now) c.args.shard (get nat_cmp map)))
+      c.in-Some.is c.in_ok-map-in-To.ensures.map;
+}
+
+pub returns-in-None-clause-ok : goal.returns-in-None-clause-ok
+returns-in-None-clause-ok c = IfOk-weaker c.read_in_order.result
+    (λ map. IsMap (LeadsAlone (slice_index c.args.scan.words.now) c.args.shard) (slice_index c.args.scan.words.now) c.args.shard (get nat_cmp map))
+    (λ map. MapOf (slice_index c.args.scan.words.now) c.args.shard (get nat_cmp map))
+    (λ map is. record {
       kind_is = subst (λ at. slice_index c.args.scan.words.now at ≡ table_kind) c.kind_place-kind.ensures.is c.if-walk-kind.false;
-      is_map = map_ends (LeadsAlone (slice_index c.args.scan.words.now) c.args.shard) (slice_index c.args.scan.words.now) c.args.shard c.in-To.table (get nat_cmp c.loop-bucket.map)
-          (record { leads_there = c.in-To.ensures.0; size = c.in-To.ensures.1 })
-          (subst (λ k. IsMapUpTo (LeadsAlone (slice_index c.args.scan.words.now) c.args.shard) (slice_index c.args.scan.words.now) c.args.shard c.in-To.table k (get nat_cmp c.loop-bucket.map)) all c.loop-bucket.invariant.upto);
-    }
+      is_map = is;
+    })
+    c.read_in_order.ensures.ok
 
 pub returns-then-walk-kind-clause-err : goal.returns-then-walk-kind-clause-err
 returns-then-walk-kind-clause-err c =

@@ -3,7 +3,7 @@ use Rattle.std.specs.BTreeMap.{get, IsOrdered}
 use Rattle.std.specs.Ordering.{nat_cmp}
 use Rattle.dict_model.specs.Shards.{LeadsAlone}
 use Rattle.dictionary.specs.Reading.{IsMapUpTo}
-use Rattle.dictionary.proofs.read.read_shard.Given as goal
+use Rattle.dictionary.proofs.read.read_in_order.Given as goal
 
 abbrev pub invariant-loop-bucket : goal.invariant-loop-bucket
 invariant-loop-bucket l = record {
