@@ -1,5 +1,5 @@
 -- What a push on a list leaves.
-use Rattle.std.proofs.Common.{◌≡◌, ◌≢◌, ◌<◌, ◌≤◌, ℕ, ◌+◌, ◌-◌, ◌⊎◌, inl, inr, Bool, true, false, cond, nat_lt, Option, None, Some, refl, ap, sym, subst, ◌∙◌, lt-ltb, arith}
+use Rattle.std.proofs.Common.{◌≡◌, ◌≢◌, ◌<◌, ◌≤◌, ℕ, ◌+◌, ◌-◌, ◌⊎◌, inl, inr, Bool, true, false, cond, nat_eq, nat_lt, Option, None, Some, refl, ap, sym, subst, ◌∙◌, lt-ltb, arith}
 use Rattle.std.specs.Bool.{⊤}
 use Rattle.std.specs.Prelude.{Result, Ok, Err, IfOk}
 use Rattle.std.specs.Result.{is_ok}
@@ -23,7 +23,7 @@ use Rattle.heap_rule.specs.Shown.{Can, CanList, CanStore, Shows, ShowsEmpty, by_
 use Rattle.heap_rule.proofs.LeftLemmas.{push_won, push_lost}
 use Rattle.heap_rule.proofs.RawLemmas.{store_shown}
 use Rattle.seat_lists.specs.Pops.{SeesHead}
-use Rattle.seat_lists.specs.Pushes.{HasMissed, HasPushed, HasSetLink, Pushes, SeesLinked, without_claim_of}
+use Rattle.seat_lists.specs.Pushes.{HasMissed, HasPushed, HasSetLink, Pushes, SeesLinked, moved_by, without_claim_of}
 use Rattle.seat_lists.proofs.PopLemmas.{drawn_as, still_owns}
 use Rattle.seat_rows.specs.Costs.{no_costs, one_draw, one_push}
 use Rattle.seat_rows.specs.Rows.{HasDrawn, Parts, Stops, ViewRow, parts}
@@ -154,10 +154,21 @@ module _ (v : View) (has : HasSoundState v) (d : ℕ) where
     pushed_parts true x is = (ap (λ (y : View). y.stopped) is, ap parts is)
     pushed_parts false x is = (ap (λ (y : View). y.stopped) is, ap parts is)
 
+    moves_by : (free : Bool) (n : ℕ) → cond free (n + 1) n ≡ n + cond free 1 0
+    moves_by true n = refl
+    moves_by false n = omega arith
+
+    pushed_moves : (test : Bool) (x : View) → x ≡ cond test (pushed_raw (drawn_as v drawn.ticket u) d) (pushed_classed (drawn_as v drawn.ticket u) d)
+        → x.moves ≡ v.moves + cond test 0 (cond (nat_eq list 0) 1 0)
+    pushed_moves true x is = ap (λ (y : View). y.moves) is ∙ (let e : v.moves ≡ v.moves + 0 = omega arith in e)
+    pushed_moves false x is = ap (λ (y : View). y.moves) is
+        ∙ ap (λ i. cond (nat_eq i 0) (v.moves + 1) v.moves) (ap seen_of sees.is_seen) ∙ moves_by (nat_eq list 0) v.moves
+
     pub push_wins : found ≡ seen_word u.seen_head → HasPushed list d 1 v w
     push_wins same = record {
       going = shape.0 ∙ drawn.went;
       parts_are = shape.1;
+      moves = pushed_moves (nat_lt 0 (times d v.raw + times d v.split)) w (won_is ∙ ap (λ (x : View). pushed x d) drawn.left);
       row = view_row_then v u w row (push_row d u w found event);
       moved = λ free none. view_row_then v u w row (move_row d u w won_is
           (let e = ap (λ (x : View). times d x.raw + times d x.split) drawn.left in omega arith)
@@ -192,6 +203,7 @@ pub pushes_later : {n : ℕ} (m : ℕ) (won : Bool) (v t w : View) (list d : ℕ
 pushes_later m true v t w list d ran more setup room same row has = record {
   going = has.going;
   parts_are = has.parts_are ∙ ap (without_claim_of d) same;
+  moves = has.moves ∙ (let e = ap (moved_by list d) same in let least = row.passes.more.moves in let most = row.passes.most.moves in omega arith);
   row = view_row_then v t w row has.row;
   moved = λ free none. view_row_then v t w row (has.moved free (ap (λ (p : Parts). times d p.raw + times d p.split) same ∙ none));
 }
@@ -247,6 +259,7 @@ pub pushing_done : (v t w : View) (list d : ℕ) → Pushing list d v t → HasP
 pushing_done v t w list d pushing pushed = record {
   going = pushed.going;
   parts_are = pushed.parts_are ∙ ap (without_claim_of d) pushing.parts_are;
+  moves = pushed.moves ∙ (let e = ap (moved_by list d) pushing.parts_are in let least = pushing.row.passes.more.moves in let most = pushing.row.passes.most.moves in omega arith);
   row = view_row_then v t w pushing.row pushed.row;
   moved = λ free none. view_row_then v t w pushing.row (pushed.moved free (ap (λ (p : Parts). times d p.raw + times d p.split) pushing.parts_are ∙ none));
 }

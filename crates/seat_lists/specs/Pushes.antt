@@ -1,5 +1,5 @@
 -- What a push on a list of superblocks leaves of a seat.
-use Rattle.std.specs.Prelude.{◌≡◌, ◌≢◌, ◌<◌, ◌+◌, ℕ, Bool, true, false, None, cond, nat_lt}
+use Rattle.std.specs.Prelude.{◌≡◌, ◌≢◌, ◌<◌, ◌+◌, ℕ, Bool, true, false, None, cond, nat_eq, nat_lt}
 use Rattle.heap_model.specs.Counting.{times, without}
 use Rattle.heap_model.specs.Geometry.{link_word}
 use Rattle.heap_model.specs.Sizes.{IsClass}
@@ -43,10 +43,15 @@ abbrev pub without_claim_of : ℕ → Parts → Parts
 without_claim_of d p = cond (nat_lt 0 (times d p.raw + times d p.split)) (record p { raw = without d p.raw; split = without d p.split })
     (record p { classed = without_claim d p.classed })
 
+-- how many superblocks are moved to the list of the free ones: one that is claimed with a class, where it is put there
+abbrev pub moved_by : ℕ → ℕ → Parts → ℕ
+moved_by list d p = cond (nat_lt 0 (times d p.raw + times d p.split)) 0 (cond (nat_eq list 0) 1 0)
+
 -- it is in the list; one that was claimed with a class and is in the list of the free ones counts as moved there
 pub record HasPushed (list d draws : ℕ) (v w : View) : Type 0 where
   pub going : w.stopped ≡ None
   pub parts_are : parts w ≡ without_claim_of d (parts v)
+  pub moves : w.moves ≡ v.moves + moved_by list d (parts v)
   pub row : ViewRow (record one_push { draws = draws }) v w
   pub moved : list ≡ 0 → times d v.raw + times d v.split ≡ 0 → ViewRow (record one_move { draws = draws }) v w
 
