@@ -1,7 +1,7 @@
 //! A claimed superblock is pushed on a list.
 
 ghost use Rattle.heap_rule.specs.Seated.{IsSeatOf};
-ghost use Rattle.std.specs.Prelude.{◌≡◌, ◌<◌, ◌+◌, ℕ, IfOk, OnOk, IfErr};
+ghost use Rattle.std.specs.Prelude.{◌≡◌, ◌<◌, ◌≤◌, ◌+◌, ◌-◌, ◌*◌, ℕ, IfOk, OnOk, IfErr};
 ghost use Rattle.core_model.specs.Guards.{IsFreelyClaimed};
 ghost use Rattle.heap_model.specs.Geometry.{lists};
 ghost use Rattle.heap_rule.specs.Shown.{CanList};
@@ -52,6 +52,8 @@ fn push_seen<C: Chance>(
     ensures done { IfOk result (λ won. (list : ℕ) → SeesLinked list d seat.old.view
         → CanList seat.old.view d list
         → Pushes list d 1 won seat.old.view seat.new.view) }
+    ensures draws { seat.new.view.draws ≤ seat.old.view.draws + 1
+        + 4 * (seat.new.view.losses - seat.old.view.losses) }
     ensures stopped { IfErr result (λ e. Stops e.step seat.old.view seat.new.view) }
     ensures row { Row (record one_push { draws = 1 }) seat.old seat.new }
     ensures seat { IsSeatOf shared.now seat.new }
@@ -74,6 +76,8 @@ fn try_push_to<C: Chance>(
     requires durable { d < seat.old.view.floor }
     requires can { CanList seat.old.view d list }
     ensures done { IfOk result (λ won. Pushes list d 3 won seat.old.view seat.new.view) }
+    ensures draws { seat.new.view.draws ≤ seat.old.view.draws + 3
+        + 4 * (seat.new.view.losses - seat.old.view.losses) }
     ensures stopped { IfErr result (λ e. Stops e.step seat.old.view seat.new.view) }
     ensures row { Row (record one_push { draws = 3 }) seat.old seat.new }
     ensures seat { IsSeatOf shared.now seat.new }
@@ -97,6 +101,8 @@ pub fn push_to<C: Chance>(
     requires durable { d < seat.old.view.floor }
     requires can { CanList seat.old.view d list }
     ensures done { OnOk result (HasPushed list d 3 seat.old.view seat.new.view) }
+    ensures draws { seat.new.view.draws ≤ seat.old.view.draws + 3
+        + 4 * (seat.new.view.losses - seat.old.view.losses) }
     ensures stopped { IfErr result (λ e. Stops e.step seat.old.view seat.new.view) }
     ensures row { Row (record one_push { draws = 3 }) seat.old seat.new }
     ensures seat { IsSeatOf shared.now seat.new }
