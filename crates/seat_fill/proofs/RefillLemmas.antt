@@ -19,12 +19,12 @@ use Rattle.seat_fill.specs.declared.refills.FromClass.TheVariants.{Filled as Fil
 use Rattle.seat_fill.specs.Cuts.{HasCut, with_cut}
 use Rattle.seat_fill.specs.Refills.{FillsFrom, HasFilled, HasFound, HasMoved, IsFull, IsLook, IsNoneOfClass, IsNothingFree, fill_costs}
 use Rattle.seat_fill.specs.Takes.{HasTakenFree, IsAllFree, with_taken}
-use Rattle.seat_fill.proofs.TakeLemmas.{Taking, claim_still}
+use Rattle.seat_fill.proofs.TakeLemmas.{Taking}
 use Rattle.seat_lists.specs.declared.pops.Pop.{Pop}
 use Rattle.seat_lists.specs.declared.pops.Pop.TheVariants.{Empty as EmptyList}
 use Rattle.seat_lists.specs.Pops.{HasPopped, IsEmptyList, Pops, looked, with_claim}
 use Rattle.seat_lists.specs.Pushes.{HasPushed, IsClaimOf}
-use Rattle.seat_lists.proofs.AnchorLemmas.{claim_added, claim_free, claim_of_class, claim_pushed, raw_none}
+use Rattle.seat_lists.proofs.AnchorLemmas.{claim_added, claim_free, claim_of_class, claim_pushed, claim_still, raw_none}
 use Rattle.seat_rows.specs.Costs.{Costs, IsWithin, no_costs, one_move, one_win}
 use Rattle.seat_rows.specs.Idle.{IsIdle}
 use Rattle.seat_rows.specs.Rows.{Parts, Row, ViewRow, head_look, next_of, parts}

@@ -106,13 +106,6 @@ module _ (v u w : View) (d class found : ℕ) (drawn : HasDrawn v u) (claim : Is
   exchanged row won (Err x) told is = subst (λ b. TakesSeen d class b v w) (sym is) (take_loses row told.1)
 
 -- said of an earlier view
-pub claim_still : (v t : View) (d class : ℕ) → parts t ≡ parts v → IsClaimOf class d v → IsClaimOf class d t
-claim_still v t d class same claim = record {
-  is_class = claim.is_class;
-  claimed = subst (λ (p : Parts). 0 < times_classed d p.classed) (sym same) claim.claimed;
-  of = ap (λ (p : Parts). claim_class d p.classed) same ∙ claim.of;
-}
-
 pub uncached_still : (v t : View) (class : ℕ) → parts t ≡ parts v → of_class v.caches class ≡ [] → of_class t.caches class ≡ []
 uncached_still v t class same none = ap (λ (p : Parts). of_class p.caches class) same ∙ none
 

@@ -1,5 +1,5 @@
 -- What flushing a cache leaves.
-use Rattle.std.proofs.Common.{◌≡◌, ◌≢◌, ◌<◌, ◌≤◌, ℕ, zero, suc, ◌+◌, ◌-◌, inl, inr, true, false, cond, nat_lt, List, [], ◌∷◌, ◌++◌, length, set, None, refl, ap, sym, subst, ◌∙◌, eq-eqb, length-append, arith}
+use Rattle.std.proofs.Common.{◌≡◌, ◌≢◌, ◌<◌, ◌≤◌, ℕ, zero, suc, ◌+◌, ◌-◌, inl, inr, Bool, true, false, cond, nat_eq, nat_lt, List, [], ◌∷◌, ◌++◌, length, set, None, refl, ap, sym, subst, ◌∙◌, eq-eqb, ne_eqb, length-append, arith}
 use Rattle.std.specs.Prelude.{Result, Ok, Err, OnOk}
 use Rattle.std.proofs.lemmas.Bool.{cases_eq}
 use Rattle.std.proofs.lemmas.List.{set-set}
@@ -17,10 +17,10 @@ use Rattle.heap_table.specs.Plays.{HasSoundState}
 use Rattle.heap_rule.specs.Shown.{CanList, as_free, by_look, of_its_class}
 use Rattle.seat_lists.specs.Pops.{with_claim}
 use Rattle.seat_lists.specs.Pushes.{HasPushed, IsClaimOf}
-use Rattle.seat_lists.proofs.AnchorLemmas.{claim_added, claim_free, claim_of_class, claim_pushed}
+use Rattle.seat_lists.proofs.AnchorLemmas.{claim_added, claim_free, claim_of_class, claim_pushed, raw_none}
 use Rattle.seat_lists.proofs.PushLemmas.{freely_still}
-use Rattle.seat_flush.specs.Flushes.{HasFlushed, HasFlushedPrefix, HasListed, flush_costs, with_cache}
-use Rattle.seat_lists.specs.Anchors.{HasSeenAnchor}
+use Rattle.seat_flush.specs.Flushes.{HasFlushed, HasFlushedPrefix, HasListed, HasListedBy, flush_costs, with_cache}
+use Rattle.seat_lists.specs.Anchors.{HasSeenAnchor, anchor_seen}
 use Rattle.seat_flush.specs.Gives.{HasGiven, IsBatchOf, given_parts}
 use Rattle.seat_flush.specs.Lifts.{HasLiftedPrefix}
 use Rattle.seat_flush.proofs.LiftLemmas.{cache_set, lifting_batch}
@@ -30,19 +30,39 @@ use Rattle.seat_rows.proofs.RowLemmas.{stops_later, view_row_none, view_row_then
 
 module _ (v : View) (has : HasSoundState v) (class d : ℕ) (claim : IsClaimOf class d v) where
   -- by what was seen of its anchor
-  pub claim_lists : (t : View) (list found : ℕ) → HasSeenAnchor d found v t → anchor_state found < 2
-      → (anchor_state found ≡ partial_state → list ≡ class) → (anchor_state found ≢ partial_state → list ≡ 0) → CanList t d list
-  claim_lists t list found seen low partial other = elim (cases_eq (anchor_state found) partial_state) as (λ _. CanList t d list) [
-    | inl is ↦ subst (CanList t d) (sym (partial is)) (of_its_class class claim.is_class
-        (subst (λ (p : Parts). 0 < times_classed d p.classed) (sym seen.parts_are) claim.claimed)
-        (ap (λ (p : Parts). claim_class d p.classed) seen.parts_are ∙ claim.of))
-    | inr not ↦ subst (CanList t d) (sym (other not)) (as_free (freely_still v t d seen.parts_are (claim_free v has class d claim))
-        (by_look (subst (λ (p : Parts). 0 < times_classed d p.classed) (sym seen.parts_are) claim.claimed) (ap one_if_some seen.is_seen) (ap seen_of seen.is_seen)
-        (ap (λ s. anchor_state (seen_word s)) seen.is_seen ∙ (let e : anchor_state found ≡ empty_state = omega (arith, not) in e))))
+  pub claim_lists : (list found : ℕ) → v.seen_anchor ≡ anchor_seen d found → anchor_state found < 2
+      → (anchor_state found ≡ partial_state → list ≡ class) → (anchor_state found ≢ partial_state → list ≡ 0) → CanList v d list
+  claim_lists list found seen low partial other = elim (cases_eq (anchor_state found) partial_state) as (λ _. CanList v d list) [
+    | inl is ↦ subst (CanList v d) (sym (partial is)) (of_its_class class claim.is_class claim.claimed claim.of)
+    | inr not ↦ subst (CanList v d) (sym (other not)) (as_free (claim_free v has class d claim)
+        (by_look claim.claimed (ap one_if_some seen) (ap seen_of seen)
+        (ap (λ s. anchor_state (seen_word s)) seen ∙ (let e : anchor_state found ≡ empty_state = omega (arith, not) in e))))
   ]
 
-  pub listed : (t w : View) (list found : ℕ) → HasSeenAnchor d found v t → HasPushed list d 3 t w → HasListed d v w
-  listed t w list found seen pushed = record { going = pushed.going; parts_are = claim_pushed v has class d claim t w list seen.parts_are pushed }
+  moved : {w : View} (list : ℕ) → HasPushed list d 3 v w → w.moves ≡ v.moves + cond (nat_eq list 0) 1 0
+  moved list pushed = pushed.moves ∙ ap (λ (test : Bool). v.moves + cond test 0 (cond (nat_eq list 0) 1 0)) (not-lt 0 (times d v.raw + times d v.split) (let none = raw_none v has class d claim in omega arith))
+
+  pub listed_by : (w : View) (list found : ℕ) → (anchor_state found ≡ partial_state → list ≡ class) → (anchor_state found ≢ partial_state → list ≡ 0)
+      → HasPushed list d 3 v w → HasListedBy d found v w
+  listed_by w list found partial other pushed = record {
+    going = pushed.going;
+    parts_are = claim_pushed v has class d claim v w list refl pushed;
+    empty = λ is. moved list pushed ∙ ap (λ (test : Bool). v.moves + cond test 1 0) (eq-eqb list 0 (other (λ same. omega (arith, is, same))));
+    partial = λ is. moved list pushed ∙ ap (λ (test : Bool). v.moves + cond test 1 0) (ne_eqb list 0 (λ zero_list. let some = claim.is_class.some in let at = partial is in omega (arith, zero_list))) ∙ (let e : v.moves + 0 ≡ v.moves = omega arith in e);
+  }
+
+  -- and so after a look
+  pub listed : {a : Costs} (t w : View) (found : ℕ) → HasSeenAnchor d found v t → anchor_state found < 2 → a.moves ≡ 0 → ViewRow a v t → HasListedBy d found t w → HasListed d v w
+  listed t w found seen low none row by = record {
+    anchor = found;
+    at = t;
+    seen = seen;
+    low = low;
+    by = by;
+    parts_are = by.parts_are ∙ ap (λ (p : Parts). record p { classed = without_claim d p.classed }) seen.parts_are;
+    empty = λ is. let e = by.empty is in let least = row.passes.more.moves in let most = row.passes.most.moves in omega arith;
+    partial = λ is. let e = by.partial is in let least = row.passes.more.moves in let most = row.passes.most.moves in omega arith;
+  }
 
   pub list_below : (list found : ℕ) → (anchor_state found ≡ partial_state → list ≡ class) → (anchor_state found ≢ partial_state → list ≡ 0) → list < 21
   list_below list found partial other = let last = claim.is_class.last in elim (cases_eq (anchor_state found) partial_state) [

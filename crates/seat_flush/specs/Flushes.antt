@@ -1,14 +1,29 @@
 -- What flushing a cache leaves of a seat.
-use Rattle.std.specs.Prelude.{◌≡◌, ◌<◌, ◌≤◌, ◌*◌, ℕ, List, [], ◌++◌, length, set, None}
+use Rattle.std.specs.Prelude.{◌≡◌, ◌<◌, ◌≤◌, ◌+◌, ◌*◌, ℕ, List, [], ◌++◌, length, set, None}
+use Rattle.heap_model.specs.Words.{anchor_state, empty_state, partial_state}
 use Rattle.core_model.specs.Effects.{without_claim}
 use Rattle.core_model.specs.View.{View, of_class}
+use Rattle.seat_lists.specs.Anchors.{HasSeenAnchor}
 use Rattle.seat_rows.specs.Costs.{Costs, no_costs}
 use Rattle.seat_rows.specs.Rows.{Parts, ViewRow, parts}
 
--- it is in a list, and claimed no more
-pub record HasListed (d : ℕ) (v w : View) : Type 0 where
+-- it is claimed no more: by its anchor as it was seen, it was moved to the list of the free ones, or put on that of its class
+pub record HasListedBy (d anchor : ℕ) (v w : View) : Type 0 where
   pub going : w.stopped ≡ None
   pub parts_are : parts w ≡ record (parts v) { classed = without_claim d v.classed }
+  pub empty : anchor_state anchor ≡ empty_state → w.moves ≡ v.moves + 1
+  pub partial : anchor_state anchor ≡ partial_state → w.moves ≡ v.moves
+
+-- so it is after a look at the anchor
+pub record HasListed (d : ℕ) (v w : View) : Type 0 where
+  pub anchor : ℕ
+  pub at : View
+  pub seen : HasSeenAnchor d anchor v at
+  pub low : anchor_state anchor < 2
+  pub by : HasListedBy d anchor at w
+  pub parts_are : parts w ≡ record (parts v) { classed = without_claim d v.classed }
+  pub empty : anchor_state anchor ≡ empty_state → w.moves ≡ v.moves + 1
+  pub partial : anchor_state anchor ≡ partial_state → w.moves ≡ v.moves
 
 -- the seat has its parts, but for the cache of the class
 abbrev pub with_cache : ℕ → List ℕ → Parts → Parts

@@ -6,8 +6,9 @@ ghost use Rattle.core_model.specs.View.{no_batch, of_class};
 ghost use Rattle.heap_model.specs.Words.{anchor_state, partial_state};
 ghost use Rattle.seat_rows.specs.Costs.{one_push};
 ghost use Rattle.seat_rows.specs.Rows.{Row, Stops};
+ghost use Rattle.seat_lists.specs.Anchors.{anchor_seen};
 ghost use Rattle.seat_lists.specs.Pushes.{IsClaimOf};
-ghost use Rattle.seat_flush.specs.Flushes.{HasFlushed, HasFlushedPrefix, HasListed, flush_costs};
+ghost use Rattle.seat_flush.specs.Flushes.{HasFlushed, HasFlushedPrefix, HasListed, HasListedBy, flush_costs};
 
 use crate::gives::give;
 use crate::lifts::lift_prefix;
@@ -29,7 +30,33 @@ fn list_for(class: SizeClass, anchor: u64) -> u64
     0
 }
 
-/// Puts a superblock that is claimed with its class on the list where it belongs.
+/// Puts a superblock that is claimed with its class on the list where it belongs, by its anchor as
+/// it was seen.
+fn list_seen<C: Chance>(
+    seat: &mut Seat,
+    shared: &Shared,
+    d: u64,
+    class: SizeClass,
+    anchor: u64,
+    chance: &mut C,
+) -> Result<(), Stopped>
+    requires seat { IsSeatOf shared.now seat.old }
+    requires claim { IsClaimOf class.number d seat.old.view }
+    requires durable { d < seat.old.view.floor }
+    requires seen { seat.old.view.seen_anchor ≡ anchor_seen d anchor }
+    requires low { anchor_state anchor < 2 }
+    ensures listed { OnOk result (HasListedBy d anchor seat.old.view seat.new.view) }
+    ensures stopped { IfErr result (λ e. Stops e.step seat.old.view seat.new.view) }
+    ensures row { Row (record one_push { draws = 3 }) seat.old seat.new }
+    ensures seat { IsSeatOf shared.now seat.new }
+{
+    seat.has_a_sound_state();
+    let list = list_for(class, anchor);
+    push_to(seat, shared, list, d, chance)
+}
+
+/// Looks at the anchor of a superblock that is claimed with its class, and puts it on the list where
+/// it belongs by that.
 fn list<C: Chance>(
     seat: &mut Seat,
     shared: &Shared,
@@ -47,9 +74,7 @@ fn list<C: Chance>(
 {
     seat.has_a_sound_state();
     let anchor = look_anchor(seat, shared, d, chance)?;
-    let list = list_for(class, anchor);
-    seat.has_a_sound_state();
-    push_to(seat, shared, list, d, chance)
+    list_seen(seat, shared, d, class, anchor, chance)
 }
 
 /// Gives the first blocks of a cache, as many as lie together in one superblock, back to that,

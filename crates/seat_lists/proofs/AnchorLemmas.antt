@@ -50,6 +50,14 @@ module _ (v : View) (has : HasSoundState v) (class d : ℕ) (claim : IsClaimOf c
   claim_pushed t w list same pushed = pushed.parts_are ∙ ap (without_claim_of d) same
       ∙ skip (nat_lt 0 (times d v.raw + times d v.split)) _ _ (not-lt 0 (times d v.raw + times d v.split) (let none = raw_none in omega arith))
 
+-- it is still claimed with the class
+pub claim_still : (v t : View) (d class : ℕ) → parts t ≡ parts v → IsClaimOf class d v → IsClaimOf class d t
+claim_still v t d class same claim = record {
+  is_class = claim.is_class;
+  claimed = subst (λ (p : Parts). 0 < times_classed d p.classed) (sym same) claim.claimed;
+  of = ap (λ (p : Parts). claim_class d p.classed) same ∙ claim.of;
+}
+
 -- with a class, it is claimed with that
 pub claim_added : (class d : ℕ) (p : Parts) → IsClass class → with_claim class d p ≡ record p { classed = record { descriptor = d; class = class } ∷ p.classed }
 claim_added zero d p is = absurd (let f = is.some in omega arith)

@@ -1,7 +1,8 @@
 use Rattle.std.proofs.Common.{subst}
 use Rattle.seat_rows.proofs.RowLemmas.{row_then}
 use Rattle.seat_fill.specs.Takes.{TakesSeen}
-use Rattle.seat_fill.proofs.TakeLemmas.{claim_still, not_taken_later, taken_later}
+use Rattle.seat_lists.proofs.AnchorLemmas.{claim_still}
+use Rattle.seat_fill.proofs.TakeLemmas.{not_taken_later, taken_later}
 use Rattle.seat_fill.proofs.takes.try_take.Goals as goal
 
 pub returns-in_err-take_seen-clause-row : goal.returns-in_err-take_seen-clause-row

@@ -50,5 +50,5 @@ returns-clause-flushed g c =
     let v = c.args.seat.now.view in let t = c.lift_prefix.new.seat.view in let x = c.give.new.seat.view in let w = c.list.new.seat.view in
     let given : HasGiven c.in_ok-prefix.prefix.d c.args.class.number true t x = subst (λ full. HasGiven c.in_ok-prefix.prefix.d c.args.class.number full t x) c.if-not-branch.false c.in_ok-give.ensures.given in
     on_ok_then c.list.result (λ listed. prefix_done v t x c.has_a_sound_state.ensures c.args.class.number c.in_ok-prefix.prefix.d c.in_ok-prefix.prefix.last c.args.class.is c.requires.no_batch c.in_ok-prefix.ensures.lifted w (record { draws = omega arith; wins = omega arith; gives = omega arith; cuts = omega arith; taken = omega arith; moves = omega arith })
-    (row_then c.lift_prefix.new.seat c.give.new.seat c.list.new.seat c.give.ensures.row c.list.ensures.row).view listed.going (let more = c.list.ensures.row.view.passes.more.gives in let gave = given.gave in omega arith)
+    (row_then c.lift_prefix.new.seat c.give.new.seat c.list.new.seat c.give.ensures.row c.list.ensures.row).view listed.by.going (let more = c.list.ensures.row.view.passes.more.gives in let gave = given.gave in omega arith)
     (given_listed v t x c.has_a_sound_state.ensures c.args.class.number c.in_ok-prefix.prefix.d c.in_ok-prefix.prefix.last c.args.class.is c.requires.no_batch c.in_ok-prefix.ensures.lifted w given listed)) c.list.ensures.listed
