@@ -1,6 +1,7 @@
 //! Pop and push of the list of free superblocks.
 
 ghost use Rattle.std.specs.Prelude.{◌≡◌, ◌≤◌, ◌<◌, ◌+◌, ◌-◌, ◌*◌, IfOk, OnOk, IfErr};
+ghost use Rattle.core_model.specs.View.{times_claimed};
 ghost use Rattle.heap_rule.specs.Seated.{IsSeatOf};
 ghost use Rattle.heap_rule.specs.Shown.{CanList};
 ghost use Rattle.seat_rows.specs.Costs.{one_push, one_win};
@@ -42,7 +43,7 @@ pub fn pop<C: Chance>(seat: &mut Seat, shared: &Shared, chance: &mut C) -> Resul
     pop_from(seat, shared, FREE_LIST, chance)
 }
 
-/// Pushes a free superblock that is in this hand: it is the list's then, and no seat's.
+/// Pushes a free superblock that is in this hand: it is in this hand no more.
 ///
 /// It reads the head, lets the superblock's link lead to the first one, and exchanges the head for
 /// the superblock, with as many pops as before. The exchange is where it takes effect. Where
@@ -59,6 +60,9 @@ pub fn push<C: Chance>(
     requires durable { d < seat.old.view.floor }
     requires can { CanList seat.old.view d 0 }
     ensures done { OnOk result (HasPushed 0 d 3 seat.old.view seat.new.view) }
+    ensures free { OnOk result (times_claimed d seat.new.view ≡ 0) }
+    ensures draws { seat.new.view.draws ≤ seat.old.view.draws + 4
+        + 4 * (seat.new.view.losses - seat.old.view.losses) }
     ensures stopped { IfErr result (λ e. Stops e.step seat.old.view seat.new.view) }
     ensures row { Row (record one_push { draws = 3 }) seat.old seat.new }
     ensures seat { IsSeatOf shared.now seat.new }

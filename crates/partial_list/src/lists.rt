@@ -1,6 +1,7 @@
 //! Pop and push of the list of superblocks of a class that have free blocks.
 
 ghost use Rattle.std.specs.Prelude.{◌≡◌, ◌≤◌, ◌<◌, ◌+◌, ◌-◌, ◌*◌, IfOk, OnOk, IfErr};
+ghost use Rattle.core_model.specs.View.{times_claimed};
 ghost use Rattle.heap_model.specs.Sizes.{IsClass};
 ghost use Rattle.heap_rule.specs.Seated.{IsSeatOf};
 ghost use Rattle.heap_rule.specs.Shown.{CanList};
@@ -41,7 +42,7 @@ pub fn pop<C: Chance>(
     pop_from(seat, shared, class.number as u64, chance)
 }
 
-/// Pushes a superblock of the class that is in this hand: it is the list's then, and no seat's.
+/// Pushes a superblock of the class that is in this hand: it is in this hand no more.
 ///
 /// Whether it has free blocks is not asked: they may all be free by the time it is popped.
 pub fn push<C: Chance>(
@@ -55,6 +56,9 @@ pub fn push<C: Chance>(
     requires durable { d < seat.old.view.floor }
     requires can { CanList seat.old.view d class.number }
     ensures done { OnOk result (HasPushed class.number d 3 seat.old.view seat.new.view) }
+    ensures free { OnOk result (times_claimed d seat.new.view ≡ 0) }
+    ensures draws { seat.new.view.draws ≤ seat.old.view.draws + 4
+        + 4 * (seat.new.view.losses - seat.old.view.losses) }
     ensures stopped { IfErr result (λ e. Stops e.step seat.old.view seat.new.view) }
     ensures row { Row (record one_push { draws = 3 }) seat.old seat.new }
     ensures seat { IsSeatOf shared.now seat.new }

@@ -3,6 +3,7 @@
 ghost use Rattle.heap_rule.specs.Seated.{IsSeatOf};
 ghost use Rattle.std.specs.Prelude.{◌≡◌, ◌<◌, ◌≤◌, ◌+◌, ◌-◌, ◌*◌, ℕ, IfOk, OnOk, IfErr};
 ghost use Rattle.core_model.specs.Guards.{IsFreelyClaimed};
+ghost use Rattle.core_model.specs.View.{times_claimed};
 ghost use Rattle.heap_model.specs.Geometry.{lists};
 ghost use Rattle.heap_rule.specs.Shown.{CanList};
 ghost use Rattle.seat_rows.specs.Costs.{one_draw, one_push};
@@ -101,12 +102,14 @@ pub fn push_to<C: Chance>(
     requires durable { d < seat.old.view.floor }
     requires can { CanList seat.old.view d list }
     ensures done { OnOk result (HasPushed list d 3 seat.old.view seat.new.view) }
+    ensures free { OnOk result (times_claimed d seat.new.view ≡ 0) }
     ensures draws { seat.new.view.draws ≤ seat.old.view.draws + 3
         + 4 * (seat.new.view.losses - seat.old.view.losses) }
     ensures stopped { IfErr result (λ e. Stops e.step seat.old.view seat.new.view) }
     ensures row { Row (record one_push { draws = 3 }) seat.old seat.new }
     ensures seat { IsSeatOf shared.now seat.new }
 {
+    seat.has_a_sound_state();
     while !try_push_to(seat, shared, list, d, chance)? {}
     Ok(())
 }

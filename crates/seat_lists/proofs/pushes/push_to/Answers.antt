@@ -1,6 +1,7 @@
 use Rattle.std.proofs.Common.{inl, subst}
 use Rattle.seat_rows.proofs.RowLemmas.{marks_behind}
 use Rattle.seat_lists.specs.Pushes.{Pushes}
+use Rattle.seat_lists.proofs.HandLemmas.{pushed_free}
 use Rattle.seat_lists.proofs.PushLemmas.{pushing_begins, pushing_done, pushing_on, pushing_row}
 use Rattle.seat_lists.proofs.pushes.push_to.Goals as goal
 
@@ -11,6 +12,12 @@ pub returns-clause-done : goal.returns-clause-done
 returns-clause-done g c =
     pushing_done c.args.seat.now.view c.loop.seat.view c.try_push_to.new.seat.view c.args.list c.args.d c.loop.invariant.pushing
     (subst (λ won. Pushes c.args.list c.args.d 3 won c.loop.seat.view c.try_push_to.new.seat.view) c.if-not-branch.false c.in_ok-try_push_to.ensures.done)
+
+pub returns-clause-free : goal.returns-clause-free
+returns-clause-free g c =
+    pushed_free c.args.seat.now.view c.try_push_to.new.seat.view c.has_a_sound_state.ensures c.args.d c.args.list c.requires.can
+    (pushing_done c.args.seat.now.view c.loop.seat.view c.try_push_to.new.seat.view c.args.list c.args.d c.loop.invariant.pushing
+    (subst (λ won. Pushes c.args.list c.args.d 3 won c.loop.seat.view c.try_push_to.new.seat.view) c.if-not-branch.false c.in_ok-try_push_to.ensures.done))
 
 pub returns-in_err-try_push_to-clause-row : goal.returns-in_err-try_push_to-clause-row
 returns-in_err-try_push_to-clause-row g c = record {
