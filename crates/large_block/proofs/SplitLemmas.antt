@@ -113,6 +113,9 @@ module _ (v : View) (has : HasSoundState v) (e : ℕ) (split : 0 < times e v.spl
       same : parts w ≡ record (parts v) { raw = e ∷ without e v.raw; split = without e v.split; cutting = without e v.cutting }
       same = ap parts left ∙ ap (λ (y : View). record (parts y) { raw = e ∷ without e y.raw; split = without e y.split; cutting = without e y.cutting }) drawn.left
 
+      pub none_lost : w.losses ≡ v.losses
+      none_lost = ap (λ (y : View). y.losses) left ∙ ap (λ (y : View). y.losses) drawn.left
+
       pub anchor_cleared : HasCleared e v w
       anchor_cleared = let once = raw_once v has e in record {
         ran = drawn.went;
@@ -133,13 +136,14 @@ pub record Clearing (d e : ℕ) (v t : SeatView) : Type 0 where
   pub going : t.view.stopped ≡ None
   pub parts_are : parts t.view ≡ all_cleared d (e - d) (parts v.view)
   pub anchors : (i : ℕ) → d ≤ i → i < e → Shows t.view (anchor_cell i) 0
+  pub losses : t.view.losses ≡ v.view.losses
   pub row : Row (record no_costs { draws = e - d }) v t
 
 pub still_split : (v t : SeatView) (d e : ℕ) → d ≤ e → Clearing d e v t → 0 < times e v.view.split → 0 < times e t.view.split
 still_split v t d e from clearing split = let s = ap (λ (p : Parts). times e p.split) clearing.parts_are in let l = split_still d (e - d) e (parts v.view) (omega arith) in omega arith
 
-pub clearing_on : (v t w : SeatView) (d e : ℕ) → d ≤ e → e ≤ v.view.setup.capacity → Clearing d e v t → HasCleared e t.view w.view → Row one_draw t w → Clearing d (e + 1) v w
-clearing_on v t w d e from inside clearing cleared row = record {
+pub clearing_on : (v t w : SeatView) (d e : ℕ) → d ≤ e → e ≤ v.view.setup.capacity → Clearing d e v t → HasCleared e t.view w.view → w.view.losses ≡ t.view.losses → Row one_draw t w → Clearing d (e + 1) v w
+clearing_on v t w d e from inside clearing cleared losses row = record {
   going = cleared.going;
   parts_are = cleared.parts_are ∙ ap (with_cleared e) clearing.parts_are
       ∙ ap (λ i. with_cleared i (all_cleared d (e - d) (parts v.view))) (let s : e ≡ d + (e - d) = omega arith in s)
@@ -148,6 +152,7 @@ clearing_on v t w d e from inside clearing cleared row = record {
     | inl same ↦ subst (λ j. Shows w.view (anchor_cell j) 0) (sym same) cleared.anchor
     | inr other ↦ cleared.others i other (let c = ap (λ (k : Setup). k.capacity) clearing.row.view.passes.setup in omega (arith, other)) (clearing.anchors i low (omega (arith, other)))
   ];
+  losses = losses ∙ clearing.losses;
   row = row_within (record no_costs { draws = e + 1 - d }) v w (record { draws = omega arith; wins = omega arith; gives = omega arith; cuts = omega arith; taken = omega arith; moves = omega arith }) (row_then v t w clearing.row row);
 }
 

@@ -55,6 +55,7 @@ fn clear_anchor<C: Chance>(
     requires split { 0 < times e seat.old.view.split }
     ensures cleared { OnOk result (HasCleared e seat.old.view seat.new.view) }
     ensures stopped { IfErr result (λ e. Stops e.step seat.old.view seat.new.view) }
+    ensures losses { seat.new.view.losses ≡ seat.old.view.losses }
     ensures row { Row one_draw seat.old seat.new }
     ensures seat { IsSeatOf shared.now seat.new }
 {
@@ -80,6 +81,7 @@ fn clear_anchors<C: Chance>(
     ensures cleared { OnOk result (HasClearedAll span.first span.count
         seat.old.view seat.new.view) }
     ensures stopped { IfErr result (λ e. Stops e.step seat.old.view seat.new.view) }
+    ensures losses { seat.new.view.losses ≡ seat.old.view.losses }
     ensures row { Row (record no_costs { draws = span.count }) seat.old seat.new }
     ensures seat { IsSeatOf shared.now seat.new }
 {
@@ -110,6 +112,7 @@ pub fn split<C: Chance>(
         seat.old.view seat.new.view }
     ensures stopped { IfErr result (λ e. Stops e.step seat.old.view seat.new.view) }
     ensures drew { seat.old.view.stopped ≡ None → next_of seat.old.view < next_of seat.new.view }
+    ensures losses { seat.new.view.losses ≡ seat.old.view.losses }
     ensures row { let d = superblock_at seat.old.view.setup.capacity block.first_word in
         HoldingRow (record no_costs { draws = span_count d seat.old.view.large + 1 })
         seat.old seat.new }

@@ -101,6 +101,23 @@ module _ (v early : View) (settles : Settles v early) where
           let last : w.last_ticket ≡ Some step = ap (λ (u : View). u.last_ticket) (stop_is step went stop) in
           let is = ap after_ticket last in let same = (stop_step step went stop).0 in let least = early_later in omega arith
 
+    -- it loses no exchange
+    pub lost_none : v.stopped ≡ None → w.losses ≡ v.losses
+    lost_none went = by_stop w.stopped refl where
+      losses_of : (m : Memory) (u : View) (s : Option Shift) → (shifted m u s).losses ≡ u.losses
+      losses_of m u None = refl
+      losses_of m u (Some (Cut d)) = refl
+      losses_of m u (Some (Alloc class)) = refl
+      losses_of m u (Some (Free block)) = refl
+      losses_of m u (Some (Lift class)) = refl
+      losses_of m u (Some (Large d n)) = refl
+      losses_of m u (Some (Split block)) = refl
+
+      by_stop : (o : Option ℕ) → w.stopped ≡ o → w.losses ≡ v.losses
+      by_stop None going = ap (λ (u : View). u.losses) (shifted_is going)
+          ∙ losses_of (memory_of early.setup.capacity event.before.words) (record (drew v found) { volatile = early.volatile; durable = early.durable }) shift
+      by_stop (Some step) stop = ap (λ (u : View). u.losses) (stop_is step went stop)
+
   module _ (w : View) (found : ℕ) (event : IsEvent (Tick None) early found w) where
     drawn_is : w.stopped ≡ None → w ≡ record (drew v found) { volatile = early.volatile; durable = early.durable }
     drawn_is going = draw_done None early w found event going ∙ ap (λ (u : View). drew u found) early_rest
@@ -157,6 +174,12 @@ module _ (shift : Option Shift) (v w : View) (event : v.stopped ≡ None → (ea
   pub told_stopped : (result : Result ⊤ Stopped) → TellsDraw w result → HasSoundState v → IfErr result (λ e. Stops e.step v w)
   told_stopped (Ok x) told has = tt
   told_stopped (Err e) told has = told_stop has e.step told
+
+  pub told_losses : w.losses ≡ v.losses
+  told_losses = by_stop v.stopped refl where
+    by_stop : (o : Option ℕ) → v.stopped ≡ o → w.losses ≡ v.losses
+    by_stop None went = let e = event went in lost_none v e.0 e.1 shift w e.2 e.3 went
+    by_stop (Some before) had = ap (λ (x : View). x.losses) (idle before had)
 
 -- one with no change
 module _ (v w : View) (event : v.stopped ≡ None → (early : View) × Settles v early × (found : ℕ) × IsEvent (Tick None) early found w) (idle : (step : ℕ) → v.stopped ≡ Some step → w ≡ v) where

@@ -30,6 +30,7 @@ pub fn draw_with<C: Chance>(
     ensures had_stopped { (step : ℕ) → seat.old.view.stopped ≡ Some step → seat.new ≡ seat.old }
     ensures told { TellsDraw seat.new.view result }
     ensures drew { seat.old.view.stopped ≡ None → next_of seat.old.view < next_of seat.new.view }
+    ensures losses { seat.new.view.losses ≡ seat.old.view.losses }
     ensures stores { KeepsStores seat.old seat.new }
     ensures seat { IsSeatOf shared.now seat.new }
 {
@@ -43,6 +44,7 @@ pub fn draw<C: Chance>(seat: &mut Seat, shared: &Shared, chance: &mut C) -> Resu
     ensures stopped { IfErr result (λ e. Stops e.step seat.old.view seat.new.view) }
     ensures row { Row one_draw seat.old seat.new }
     ensures looks { SameLooks seat.old.view seat.new.view }
+    ensures losses { seat.new.view.losses ≡ seat.old.view.losses }
     ensures stores { KeepsStores seat.old seat.new }
     ensures seat { IsSeatOf shared.now seat.new }
 {

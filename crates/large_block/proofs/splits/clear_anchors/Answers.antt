@@ -13,6 +13,6 @@ returns-in_err-clear_anchor-clause-row g c =
 pub loop-e-preserved : goal.loop-e-preserved
 loop-e-preserved g c = record {
   clearing = clearing_on c.args.seat.now c.loop-e.seat c.clear_anchor.new.seat c.args.span.first c.loop-e.e c.loop-e.auto.e (let inside = c.requires.inside in let until = c.loop-e-test.true in omega arith)
-      c.loop-e.invariant.clearing c.in_ok-clear_anchor.ensures.cleared c.clear_anchor.ensures.row;
+      c.loop-e.invariant.clearing c.in_ok-clear_anchor.ensures.cleared c.clear_anchor.ensures.losses c.clear_anchor.ensures.row;
   is_of = c.clear_anchor.ensures.seat;
 }

@@ -1,4 +1,6 @@
-use Rattle.seat_rows.proofs.DrawLemmas.{by_chance, drew_later}
+use Rattle.std.proofs.Common.{ap}
+use Rattle.heap_rule.specs.Seated.{SeatView}
+use Rattle.seat_rows.proofs.DrawLemmas.{by_chance, drew_later, told_losses}
 use Rattle.seat_rows.proofs.draws.draw_with.Goals as goal
 
 pub returns-clause-event : goal.returns-clause-event
@@ -7,3 +9,7 @@ returns-clause-event g c = λ going. let e = c.draw.ensures.event going in (e.2.
 pub returns-clause-drew : goal.returns-clause-drew
 returns-clause-drew g c = λ going. let e = returns-clause-event g c going in
     drew_later c.args.seat.now.view e.0 e.1 c.args.shift c.draw.new.self.view e.2 e.3 going
+
+pub returns-clause-losses : goal.returns-clause-losses
+returns-clause-losses g c =
+    told_losses c.args.shift c.args.seat.now.view c.draw.new.self.view (returns-clause-event g c) (λ step stop. ap (λ (x : SeatView). x.view) (c.draw.ensures.had_stopped step stop).0)
