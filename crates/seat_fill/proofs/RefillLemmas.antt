@@ -129,9 +129,9 @@ module _ (v t : View) (class d : ℕ) (is : IsClass class) (popped : HasPopped c
     }
 
 -- the list of the class was empty
-pub none_of_class : (v w : View) (class head : ℕ) → IsClass class → HasSoundState w → ViewRow (fill_costs 3 0 v w) v w → IsEmptyList class head v w → IsNoneOfClass class head v w
-none_of_class v w class head is has row empty =
-    let look = looked_is w (head_look w class) head (next_of v) (get_or_default w.head_looks class w.used_look (looked head w) (let long = looks_long w has in let last = is.last in omega arith) ∙ empty.look) empty.later in record {
+pub none_of_class : (v w : View) (class head : ℕ) → ViewRow (fill_costs 3 0 v w) v w → IsEmptyList class head v w → IsNoneOfClass class head v w
+none_of_class v w class head row empty =
+    let look = looked_is w (head_look w class) head (next_of v) empty.look empty.later in record {
       ran = empty.ran;
       going = empty.going;
       parts_are = empty.parts_are;
@@ -185,8 +185,8 @@ filling_done v t w class (Empty head) filling none = record {
 -- neither list nor mark gave a superblock
 pub nothing_free : (v t w : View) (head used : ℕ) → HasSoundState w → ViewRow (record no_costs { draws = 6 }) v w → IsEmptyList 0 head v t → IsPast 1 used t w → IsNothingFree head used v w
 nothing_free v t w head used has row empty past =
-    let long = looks_long w has in
-    let free : head_look w 0 ≡ looked head t = get_or_default w.head_looks 0 w.used_look (looked head t) (omega arith) ∙ ap (λ looks. get_or looks 0 (looked head t)) past.heads ∙ empty.look in
+    let kept : (list : ℕ) → list < lists → head_look w list ≡ head_look t list = λ list less. let long = looks_long w has in
+    get_or_default w.head_looks list w.used_look t.used_look (omega arith) ∙ ap (λ looks. get_or looks list t.used_look) past.heads in
     let first = looked_is t (looked head t) head (next_of v) refl empty.later in
     let second = looked_is w w.used_look used (next_of t) past.look past.later in record {
       going = past.going;
@@ -195,13 +195,12 @@ nothing_free v t w head used has row empty past =
       taken = past.taken ∙ empty.taken;
       none = empty.none;
       past = subst (λ (k : Setup). k.capacity < used + 1) (ap (λ (p : Parts). p.setup) empty.parts_are) past.past;
-      free_look = look_later (looked head t) (head_look w 0) head t w free past.wins past.taken first.0;
+      free_look = look_later (looked head t) (head_look w 0) head t w (kept 0 (omega arith) ∙ empty.look) past.wins past.taken first.0;
       used_look = second.0;
       since = first.1;
       order = let a = first.2 in let b = second.1 in omega arith;
       last = second.2;
-      others = λ list less apart. get_or_default w.head_looks list w.used_look t.used_look (omega arith)
-          ∙ ap (λ looks. get_or looks list t.used_look) past.heads ∙ empty.others.heads list apart;
+      others = λ list less apart. kept list less ∙ empty.others.heads list apart;
       row = row;
     }
 

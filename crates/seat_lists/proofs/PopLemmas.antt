@@ -157,7 +157,7 @@ pub head_seen : (v u w : View) (list head : ℕ) → list < lists → HasDrawn v
 head_seen v u w list head less drawn event = subst (SeesHead list head v) (sym left) (record {
   goes_on = record { ran = drawn.went; going = drawn.went; room = drawn.room; more = omega arith; parts_are = refl; wins = refl; losses = refl; taken = refl; cuts = refl; anchor = refl; words = λ k own. let p = drawn.words k own in record { volatile = p.volatile; durable = p.durable } };
   is_seen = refl;
-  look = get_or-set_same v.head_looks list (record { word = head; ticket = Some drawn.ticket; wins = v.wins; taken = v.taken }) (record { word = head; ticket = Some drawn.ticket; wins = v.wins; taken = v.taken })
+  look = get_or-set_same v.head_looks list (record { word = head; ticket = Some drawn.ticket; wins = v.wins; taken = v.taken }) v.used_look
       (let long = (event.before.sound.good.set_up event.before.seat u event.before.below event.before.at).looks in let same = ap (λ (x : View). length x.head_looks) drawn.left in omega arith);
   others = record { used = refl; heads = λ other apart. get_or-set_other v.head_looks list other (record { word = head; ticket = Some drawn.ticket; wins = v.wins; taken = v.taken }) v.used_look apart };
   later = let x = drawn.later in omega arith;

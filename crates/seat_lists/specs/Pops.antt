@@ -1,5 +1,5 @@
 -- What a look at a list of superblocks, and a pop from it, leave of a seat.
-use Rattle.std.specs.Prelude.{◌≡◌, ◌≢◌, ◌<◌, ◌+◌, ℕ, zero, suc, ◌∷◌, Bool, true, false, get_or, Option, None, Some}
+use Rattle.std.specs.Prelude.{◌≡◌, ◌≢◌, ◌<◌, ◌+◌, ℕ, zero, suc, ◌∷◌, Bool, true, false, Option, None, Some}
 use Rattle.heap_model.specs.Words.{head_first}
 use Rattle.core_model.specs.Guards.{IsThere}
 use Rattle.core_model.specs.View.{LastLook, Snapshot, View}
@@ -40,7 +40,7 @@ pub record GoesOn (v w : View) : Type 0 where
 pub record SeesHead (list head : ℕ) (v w : View) : Type 0 where
   pub goes_on : GoesOn v w
   pub is_seen : w.seen_head ≡ list_head list head
-  pub look : get_or w.head_looks list (looked head w) ≡ looked head w
+  pub look : head_look w list ≡ looked head w
   pub others : KeepsOtherLooks list v w
   pub later : next_of v < next_of w
 
@@ -101,7 +101,7 @@ pub record IsEmptyList (list head : ℕ) (v w : View) : Type 0 where
   pub cuts : w.cuts ≡ v.cuts
   pub is_seen : w.seen_head ≡ list_head list head
   pub none : head_first head ≡ 0
-  pub look : get_or w.head_looks list (looked head w) ≡ looked head w
+  pub look : head_look w list ≡ looked head w
   pub others : KeepsOtherLooks list v w
   pub later : next_of v < next_of w
 

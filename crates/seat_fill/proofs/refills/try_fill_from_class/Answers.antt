@@ -65,5 +65,5 @@ returns-in_ok-push-in-Got-clause-done g c = let v = c.args.seat.now in let t = c
 pub returns-in-Empty-clause-done : goal.returns-in-Empty-clause-done
 returns-in-Empty-clause-done g c = let v = c.args.seat.now in let w = c.pop.new.seat in
     let row = empty_list_row c.args.class.number c.in-Empty.head v w c.in_ok-pop.pop c.in-Empty.is c.in_ok-pop.ensures.done c.pop.ensures.row in
-    none_of_class v.view w.view c.args.class.number c.in-Empty.head c.args.class.is c.has_a_sound_state.ensures (row_moves v w row).view
+    none_of_class v.view w.view c.args.class.number c.in-Empty.head (row_moves v w row).view
     (subst (λ pop. Pops c.args.class.number pop v.view w.view) c.in-Empty.is c.in_ok-pop.ensures.done)
