@@ -1,5 +1,5 @@
 -- What holding and freeing a large block leaves.
-use Rattle.std.proofs.Common.{◌-◌, ◌<◌, None, eq-eqb, ◌≡◌, ◌≤◌, ℕ, zero, suc, ◌+◌, ◌*◌, ◌∷◌, ◌++◌, [], cond, nat_le, nat_lt, refl, ap, sym, ◌∙◌, le-leb, lt-ltb, arith}
+use Rattle.std.proofs.Common.{◌-◌, ◌<◌, None, eq-eqb, ne_eqb, ◌≡◌, ◌≤◌, ℕ, zero, suc, ◌+◌, ◌*◌, ◌∷◌, ◌++◌, [], cond, nat_le, nat_lt, refl, ap, sym, ◌∙◌, le-leb, lt-ltb, arith}
 use Rattle.heap_model.specs.declared.block.Block.{Block}
 use Rattle.heap_model.specs.Counting.{times, without}
 use Rattle.heap_model.specs.Geometry.{start_word, superblock_words}
@@ -86,50 +86,61 @@ not_held_row v t w n take row = row_within (large_costs n) v w (record { draws =
 pub held_row : (v t w : SeatView) (n : ℕ) → Row (taking n) v t → HoldingRow (record no_costs { draws = 2 }) t w → HoldingRow (large_costs n) v w
 held_row v t w n take row = holding_within (large_costs n) v w (record { draws = omega arith; wins = omega arith; gives = omega arith; cuts = omega arith; taken = omega arith; moves = omega arith }) (then_holding v t w take row)
 
+-- the first of some numbers stands in the list that has them from the last on, and without it the others are left
+has_first : (d m : ℕ) → 0 < times d (down d (suc m))
+has_first d zero = let one = eq-eqb-one (d + 0) d (omega arith) in omega arith
+has_first d (suc m) = let more = has_first d m in omega arith
+
+without_first : (d m : ℕ) → without d (down d (suc m)) ≡ down (d + 1) m
+without_first d zero = ap (λ t. cond t [] ((d + 0) ∷ [])) (eq-eqb (d + 0) d (omega arith))
+without_first d (suc m) =
+    ap (λ t. cond t (down d (suc m)) ((d + suc m) ∷ without d (down d (suc m)))) (ne_eqb (d + suc m) d (λ same. omega (arith, same)))
+    ∙ ap (λ l. (d + suc m) ∷ l) (without_first d m)
+    ∙ ap (λ i. i ∷ down (d + 1) m) (let e : d + suc m ≡ d + 1 + m = omega arith in e)
+
 -- the first of the superblocks that are left may be listed
-module _ (v : View) (d n : ℕ) (raw : v.raw ≡ down d (suc n)) (cutting : v.cutting ≡ []) where
-  last_there : 0 < times (d + n) v.raw
-  last_there = let s = ap (times (d + n)) raw in let one = eq-eqb-one (d + n) (d + n) refl in omega arith
+module _ (v : View) (d m : ℕ) (raw : v.raw ≡ down d (suc m)) (cutting : v.cutting ≡ []) where
+  first_there : 0 < times d v.raw
+  first_there = let s = ap (times d) raw in let first = has_first d m in omega arith
 
-  pub can_list : CanList v (d + n) 0
-  can_list = as_free (record { claimed = let l = last_there in omega arith; not_cutting = ap (times (d + n)) cutting }) (by_claim last_there)
+  pub can_list : CanList v d 0
+  can_list = as_free (record { claimed = let l = first_there in omega arith; not_cutting = ap (times d) cutting }) (by_claim first_there)
 
-  pub listed_parts : v.split ≡ [] → without_claim_of (d + n) (parts v) ≡ record (parts v) { raw = down d n }
+  pub listed_parts : v.split ≡ [] → without_claim_of d (parts v) ≡ record (parts v) { raw = down (d + 1) m }
   listed_parts split =
-      ap (λ t. cond t (record (parts v) { raw = without (d + n) v.raw; split = without (d + n) v.split }) (record (parts v) { classed = without_claim (d + n) v.classed }))
-      (lt-ltb 0 (times (d + n) v.raw + times (d + n) v.split) (let l = last_there in omega arith))
-      ∙ ap (λ l. record (parts v) { raw = without (d + n) l; split = without (d + n) v.split }) raw
-      ∙ ap (λ t. record (parts v) { raw = cond t (down d n) ((d + n) ∷ without (d + n) (down d n)); split = without (d + n) v.split }) (eq-eqb (d + n) (d + n) refl)
-      ∙ ap (λ l. record (parts v) { raw = down d n; split = l }) (ap (without (d + n)) split ∙ sym split)
+      ap (λ t. cond t (record (parts v) { raw = without d v.raw; split = without d v.split }) (record (parts v) { classed = without_claim d v.classed }))
+      (lt-ltb 0 (times d v.raw + times d v.split) (let l = first_there in omega arith))
+      ∙ ap (λ l. record (parts v) { raw = l; split = without d v.split }) (ap (without d) raw ∙ without_first d m)
+      ∙ ap (λ l. record (parts v) { raw = down (d + 1) m; split = l }) (ap (without d) split ∙ sym split)
 
 -- how far they are listed
-pub record Listing (d n left : ℕ) (v t : SeatView) : Type 0 where
+pub record Listing (d n e : ℕ) (v t : SeatView) : Type 0 where
   pub going : t.view.stopped ≡ None
-  pub fewer : left ≤ n
-  pub parts_are : parts t.view ≡ record (parts v.view) { raw = down d left }
-  pub row : Row (list_costs (n - left)) v t
+  pub most : e ≤ d + n
+  pub parts_are : parts t.view ≡ record (parts v.view) { raw = down e (d + n - e) }
+  pub row : Row (list_costs (e - d)) v t
 
-module _ (v t : SeatView) (d n left m : ℕ) (listing : Listing d n left v t) (is : left ≡ suc m) (cutting : v.view.cutting ≡ []) where
-  raw_is : t.view.raw ≡ down d (suc m)
-  raw_is = ap (λ (p : Parts). p.raw) listing.parts_are ∙ ap (down d) is
+module _ (v t : SeatView) (d n e : ℕ) (from : d ≤ e) (until : e < d + n) (listing : Listing d n e v t) (cutting : v.view.cutting ≡ []) where
+  raw_is : t.view.raw ≡ down e (suc (d + n - (e + 1)))
+  raw_is = ap (λ (p : Parts). p.raw) listing.parts_are ∙ ap (down e) (let s : d + n - e ≡ suc (d + n - (e + 1)) = omega arith in s)
 
   cutting_is : t.view.cutting ≡ []
   cutting_is = ap (λ (p : Parts). p.cutting) listing.parts_are ∙ cutting
 
-  pub can_push : CanList t.view (d + m) 0
-  can_push = can_list t.view d m raw_is cutting_is
+  pub can_push : CanList t.view e 0
+  can_push = can_list t.view e (d + n - (e + 1)) raw_is cutting_is
 
   module _ (w : SeatView) (row : Row (record one_push { draws = 3 }) t w) where
     pub listing_row : Row (list_costs n) v w
-    listing_row = let less = listing.fewer in row_within (list_costs n) v w (record { draws = omega arith; wins = omega arith; gives = omega arith; cuts = omega arith; taken = omega arith; moves = omega arith }) (row_then v t w listing.row row)
+    listing_row = row_within (list_costs n) v w (record { draws = omega arith; wins = omega arith; gives = omega arith; cuts = omega arith; taken = omega arith; moves = omega arith }) (row_then v t w listing.row row)
 
-    pub listing_on : v.view.split ≡ [] → HasPushed 0 (d + m) 3 t.view w.view → Listing d n m v w
-    listing_on split pushed = let less = listing.fewer in record {
+    pub listing_on : v.view.split ≡ [] → HasPushed 0 e 3 t.view w.view → Listing d n (e + 1) v w
+    listing_on split pushed = record {
       going = pushed.going;
-      fewer = omega arith;
-      parts_are = pushed.parts_are ∙ listed_parts t.view d m raw_is cutting_is (ap (λ (p : Parts). p.split) listing.parts_are ∙ split)
-          ∙ ap (λ (p : Parts). record p { raw = down d m }) listing.parts_are;
-      row = row_within (list_costs (n - m)) v w (record { draws = omega arith; wins = omega arith; gives = omega arith; cuts = omega arith; taken = omega arith; moves = omega arith }) (row_then v t w listing.row row);
+      most = omega arith;
+      parts_are = pushed.parts_are ∙ listed_parts t.view e (d + n - (e + 1)) raw_is cutting_is (ap (λ (p : Parts). p.split) listing.parts_are ∙ split)
+          ∙ ap (λ (p : Parts). record p { raw = down (e + 1) (d + n - (e + 1)) }) listing.parts_are;
+      row = row_within (list_costs (e + 1 - d)) v w (record { draws = omega arith; wins = omega arith; gives = omega arith; cuts = omega arith; taken = omega arith; moves = omega arith }) (row_then v t w listing.row row);
     }
 
 pub freed_row : (v t w : SeatView) (n : ℕ) → HoldingRow (record no_costs { draws = n + 1 }) v t → Row (list_costs n) t w → HoldingRow (large_free_costs n) v w

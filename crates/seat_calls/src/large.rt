@@ -56,8 +56,7 @@ pub fn alloc_large<C: Chance>(
     Ok(hold(seat, shared, d, n, chance)?)
 }
 
-/// Pushes claimed superblocks on the list of the free ones, from the last to the first, so that
-/// they are popped in their order.
+/// Pushes claimed superblocks on the list of the free ones, from the first to the last.
 fn list_all<C: Chance>(
     seat: &mut Seat,
     shared: &Shared,
@@ -77,10 +76,8 @@ fn list_all<C: Chance>(
     ensures seat { IsSeatOf shared.now seat.new }
 {
     let _capacity = seat.capacity(shared);
-    let mut left = span.count;
-    while left > 0 {
-        left -= 1;
-        free_list::push(seat, shared, span.first + left, chance)?;
+    for d in span.first..span.first + span.count {
+        free_list::push(seat, shared, d, chance)?;
     }
     Ok(())
 }
