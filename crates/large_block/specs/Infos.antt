@@ -15,6 +15,7 @@ pub record HasInfo (d info : ℕ) (v w : View) : Type 0 where
   pub parts_are : parts w ≡ parts v
   pub floor : w.floor ≡ v.floor
   pub look : w.used_look ≡ v.used_look
+  pub losses : w.losses ≡ v.losses
   pub info_is : Shows w (info_cell d) info
   pub durable_info_is : ShowsDurable w (info_cell d) info
   pub words : (word : ℕ) → word ≢ info_word d → Owns v word → KeepsWord v w word

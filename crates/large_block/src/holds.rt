@@ -1,7 +1,7 @@
 //! Superblocks that were taken are held as a large block.
 
 ghost use Rattle.heap_rule.specs.Seated.{IsSeatOf};
-ghost use Rattle.std.specs.Prelude.{IfOk, OnErr, IfErr};
+ghost use Rattle.std.specs.Prelude.{◌≡◌, IfOk, OnErr, IfErr};
 ghost use Rattle.seat_rows.specs.Costs.{no_costs};
 ghost use Rattle.seat_rows.specs.Rows.{HoldingRow, Row, Stops};
 ghost use Rattle.large_block.specs.Holds.{HasHeld, IsFreshClaim};
@@ -31,6 +31,7 @@ pub fn hold<C: Chance>(
     ensures held { IfOk result (λ b. HasHeld d n b seat.old.view seat.new.view) }
     ensures stopped { IfErr result (λ e. Stops e.step seat.old.view seat.new.view) }
     ensures none { OnErr result (Row (record no_costs { draws = 2 }) seat.old seat.new) }
+    ensures losses { seat.new.view.losses ≡ seat.old.view.losses }
     ensures row { HoldingRow (record no_costs { draws = 2 }) seat.old seat.new }
     ensures seat { IsSeatOf shared.now seat.new }
 {

@@ -1,7 +1,7 @@
 //! The info of a claimed superblock says what becomes of it.
 
 ghost use Rattle.heap_rule.specs.Seated.{IsSeatOf};
-ghost use Rattle.std.specs.Prelude.{◌<◌, OnOk, IfErr};
+ghost use Rattle.std.specs.Prelude.{◌≡◌, ◌<◌, OnOk, IfErr};
 ghost use Rattle.core_model.specs.View.{times_raw};
 ghost use Rattle.seat_rows.specs.Costs.{one_draw};
 ghost use Rattle.seat_rows.specs.Rows.{Row, Stops};
@@ -25,6 +25,7 @@ pub fn set_info<C: Chance>(
     requires claimed { 0 < times_raw d seat.old.view }
     ensures set { OnOk result (HasInfo d info seat.old.view seat.new.view) }
     ensures stopped { IfErr result (λ e. Stops e.step seat.old.view seat.new.view) }
+    ensures losses { seat.new.view.losses ≡ seat.old.view.losses }
     ensures row { Row one_draw seat.old seat.new }
     ensures seat { IsSeatOf shared.now seat.new }
 {

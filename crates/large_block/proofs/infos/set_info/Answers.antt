@@ -33,3 +33,6 @@ returns-clause-row g c = let e = c.store_word.ensures.event in let s = c.settle.
     (subst (λ (n : ℕ). IsEvent (Store n c.args.info) c.draw.new.seat.view e.0 c.store_word.new.self.view) c.info-place.ensures e.1)
     (subst (λ (n : ℕ). HasNewStore n c.draw.new.seat c.store_word.new.self) c.info-place.ensures c.store_word.ensures.stores)
     (subst (λ (n : ℕ). IsEvent (Settle n) c.store_word.new.self.view s.0 c.settle.new.self.view) c.info-place.ensures s.1) c.settle.ensures.stores
+
+pub returns-clause-losses : goal.returns-clause-losses
+returns-clause-losses g c = (returns-clause-set g c).losses
