@@ -82,7 +82,8 @@ fn list_all<C: Chance>(
     Ok(())
 }
 
-/// Frees a held large block: its superblocks are in the list of the free ones then.
+/// Frees a held large block, and pushes its superblocks on the list of the free ones: none of them
+/// is claimed then.
 ///
 /// The block is held no more once its first ticket is drawn. A seat that stops on the way may have
 /// superblocks of it that it has not pushed yet.

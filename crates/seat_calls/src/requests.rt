@@ -49,8 +49,8 @@ pub fn alloc<C: Chance>(
     }
 }
 
-/// Frees a held block: one of a class goes into the seat's cache, the superblocks of a large one
-/// into the list of the free ones.
+/// Frees a held block: one of a class goes into the seat's cache, and the superblocks of a large one
+/// are pushed on the list of the free ones.
 ///
 /// Where the seat stops, the block may be held still, but its words may be others. No word outside
 /// it that is held is stored to.
