@@ -1,9 +1,9 @@
 -- What a call for a block of a class leaves, once its cache was filled.
-use Rattle.std.proofs.Common.{◌≡◌, ℕ, ◌+◌, ◌-◌, ap, ◌∙◌, arith}
+use Rattle.std.proofs.Common.{◌≡◌, ℕ, ◌+◌, ◌-◌, length, ap, ◌∙◌, arith}
 use Rattle.std.proofs.lemmas.List.{set-set}
 use Rattle.heap_model.specs.declared.block.Block.{Block}
 use Rattle.heap_model.specs.Sizes.{blocks_of}
-use Rattle.core_model.specs.View.{View}
+use Rattle.core_model.specs.View.{View, of_class}
 use Rattle.heap_rule.specs.Seated.{SeatView}
 use Rattle.seat_rows.specs.Costs.{Costs, no_costs, one_draw}
 use Rattle.seat_rows.specs.Rows.{HoldingRow, IsHeldBoth, Row, parts}
@@ -44,11 +44,12 @@ module _ (v t : SeatView) (class : ℕ) where
         (then_holding v t w (light (let a = row.view.passes.more.cuts in let b = holding.passes.more.cuts in omega (arith, a, b, same))) holding)
 
 -- the cache was filled before
-pub filled_alloc : (v t w : View) (class : ℕ) (b : Block) → HasFilled class v t → HasAllocated class b t w → HasAllocated class b v w
-filled_alloc v t w class b filled allocated = record {
+pub filled_alloc : (v t w : View) (class : ℕ) (b : Block) → length (of_class v.caches class) ≡ 0 → HasFilled class v t → HasAllocated class b t w → HasAllocated class b v w
+filled_alloc v t w class b none filled allocated = record {
   going = allocated.going;
   size = allocated.size;
   cache = allocated.cache;
+  first = λ some. absurd (omega (arith, some, none));
   short = allocated.short;
   parts_are = allocated.parts_are ∙ ap (with_allocated class b.first_word allocated.cache) filled.parts_are
       ∙ ap (λ l. record (with_allocated class b.first_word allocated.cache (parts v)) { caches = l }) (set-set v.caches class filled.blocks allocated.cache);

@@ -282,6 +282,10 @@ rest_length : (bs : List ℕ) → 1 ≤ length bs → length (rest_of bs) + 1 �
 rest_length [] some = absurd (omega (arith, some))
 rest_length (b ∷ bs) some = omega arith
 
+first_and_rest : (bs : List ℕ) → 1 ≤ length bs → bs ≡ first_of bs ∷ rest_of bs
+first_and_rest [] some = absurd (omega (arith, some))
+first_and_rest (b ∷ bs) some = refl
+
 module _ (v early w : View) (class found : ℕ) (settles : Settles v early) (event : IsEvent (Tick (Some (Alloc class))) early found w) where
   pub allocated : (first words : ℕ) → 1 ≤ length (of_class v.caches class) → length (of_class v.caches class) ≤ blocks_of class → first ≡ first_of (of_class v.caches class) → words ≡ words_of_class class → w.stopped ≡ None
       → HasAllocated class (record { first_word = first; words = words }) v w
@@ -289,6 +293,7 @@ module _ (v early w : View) (class found : ℕ) (settles : Settles v early) (eve
     going = going;
     size = size;
     cache = rest_of (of_class v.caches class);
+    first = λ _. first_and_rest (of_class v.caches class) some ∙ ap (λ b. b ∷ rest_of (of_class v.caches class)) (sym is);
     short = let rest = rest_length (of_class v.caches class) some in omega (arith, rest, most);
     parts_are = ap parts (shifted_is v early settles (Some (Alloc class)) w found event going)
         ∙ ap (λ b. record (parts v) { small = set v.small class (b ∷ of_class v.small class); caches = set v.caches class (rest_of (of_class v.caches class)) }) (sym is);
