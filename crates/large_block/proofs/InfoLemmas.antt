@@ -74,6 +74,7 @@ module _ (v : View) (has : HasSoundState v) (d : ℕ) (raw : 0 < times_raw d v) 
           floor = ap (λ (y : View). y.floor) left ∙ ap (λ (y : View). y.floor) stored_left ∙ ap (λ (y : View). y.floor) drawn.left;
           look = ap (λ (y : View). y.used_look) left ∙ ap (λ (y : View). y.used_look) stored_left ∙ ap (λ (y : View). y.used_look) drawn.left;
           losses = ap (λ (y : View). y.losses) left ∙ ap (λ (y : View). y.losses) stored_left ∙ ap (λ (y : View). y.losses) drawn.left;
+          heads = ap (λ (y : View). y.head_looks) left ∙ ap (λ (y : View). y.head_looks) stored_left ∙ ap (λ (y : View). y.head_looks) drawn.left;
           info_is = ap (λ (y : View). get_or y.volatile (info_word d) None) left ∙ get_or-set_same x.volatile (info_word d) (Some info) None below;
           durable_info_is = ap (λ (y : View). get_or y.durable (info_word d) None) left ∙ get_or-set_same x.durable (info_word d) (Some info) None below_durable;
           words = λ k other own. word_then v x w k

@@ -16,6 +16,7 @@ pub record HasInfo (d info : ℕ) (v w : View) : Type 0 where
   pub floor : w.floor ≡ v.floor
   pub look : w.used_look ≡ v.used_look
   pub losses : w.losses ≡ v.losses
+  pub heads : w.head_looks ≡ v.head_looks
   pub info_is : Shows w (info_cell d) info
   pub durable_info_is : ShowsDurable w (info_cell d) info
   pub words : (word : ℕ) → word ≢ info_word d → Owns v word → KeepsWord v w word
