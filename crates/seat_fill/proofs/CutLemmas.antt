@@ -14,7 +14,7 @@ use Rattle.line_memory.specs.declared.memory.Stopped.{Stopped}
 use Rattle.core_model.specs.declared.event.Event.TheVariants.{Store, Tick}
 use Rattle.core_model.specs.declared.event.Shift.TheVariants.{Cut}
 use Rattle.core_model.specs.Cells.{Cell, anchor_cell, data_cell, info_cell, cell_at, superblock_at}
-use Rattle.core_model.specs.Effects.{class_blocks, last_of, learn, steps, stored, used_up}
+use Rattle.core_model.specs.Effects.{class_blocks, drew, last_of, learn, steps, stored, used_up}
 use Rattle.core_model.specs.Guards.{IsOwn}
 use Rattle.core_model.specs.Sound.{IsCutBlock}
 use Rattle.core_model.specs.View.{Batch, View, of_class, times_raw}
@@ -24,6 +24,7 @@ use Rattle.core_model.proofs.TotalLemmas.{eq-eqb-one}
 use Rattle.crash_core.proofs.ChainSteps.{cut_range}
 use Rattle.crash_core.proofs.LiftSteps.{last_there}
 use Rattle.heap_rule.specs.Fences.{Owns}
+use Rattle.heap_rule.specs.Parts.{cut_for}
 use Rattle.heap_rule.specs.Seated.{TellsDraw}
 use Rattle.heap_rule.specs.Shown.{Shows, ShowsLinks, by_claim, as_full, Can, CanCut, CanStore}
 use Rattle.heap_rule.proofs.LeftLemmas.{draw_cuts, draw_done}
@@ -34,13 +35,16 @@ use Rattle.large_block.specs.Infos.{HasInfo}
 use Rattle.seat_lists.proofs.PopLemmas.{drawn_as}
 use Rattle.seat_rows.specs.Costs.{Costs, no_costs, one_draw}
 use Rattle.seat_rows.specs.Draws.{Settles}
-use Rattle.seat_rows.specs.Rows.{HasDrawn, Parts, Stops, ViewRow, parts}
+use Rattle.seat_rows.specs.Rows.{HasDrawn, Parts, SameLooks, Stops, ViewRow, parts}
 use Rattle.seat_rows.specs.Words.{IsHeldWord, KeepsWord, times_held}
 use Rattle.seat_rows.proofs.DrawLemmas.{early_rest, early_words, stops}
 use Rattle.seat_rows.proofs.OnceLemmas.{own_once}
 use Rattle.seat_rows.proofs.RowLemmas.{stops_later, view_row_none, view_row_then, view_row_within}
 use Rattle.seat_rows.proofs.WordLemmas.{durable_then, word_same, word_then}
 use Rattle.seat_fill.specs.Cuts.{HasCut, HasDurableInfo, HasFilledAnchor, HasLink, HasLinks, Leads, with_cut, with_making}
+
+same_looks_then : (v t w : View) → SameLooks v t → SameLooks t w → SameLooks v w
+same_looks_then v t w first next = record { used = next.used ∙ first.used; heads = next.heads ∙ first.heads }
 
 -- of another word than the one that is stored to, what was known is known
 other_kept : (v u w : View) (word value found k : ℕ) → HasDrawn v u → IsEvent (Store word value) u found w → k ≢ word → Owns v k → KeepsWord v w k
@@ -109,6 +113,7 @@ module _ (v : View) (has : HasSoundState v) (word : ℕ) (from : start_word v.se
       parts_are = ap parts word_stored ∙ ap (λ (b : Batch). record (parts v) { batch = b }) batch_is;
       link = subst (λ (cell : Cell). Shows w cell value) word_here (store_shown word value u w found event);
       words = λ k other own. other_kept v u w word value found k drawn event other own;
+      looks = record { used = ap (λ (x : View). x.used_look) word_stored; heads = ap (λ (x : View). x.head_looks) word_stored };
     }
 
 -- links that are known are known as long as the words are kept
@@ -168,9 +173,10 @@ pub record Linking (d class n : ℕ) (v t : View) : Type 0 where
   pub info_is : HasDurableInfo d class t
   pub links : Leads t (start_word v.setup.capacity d) (words_of_class class) n
   pub row : ViewRow (record no_costs { draws = n }) v t
+  pub looks : SameLooks v t
 
 pub linking_begins : (v : View) (d class : ℕ) → v.stopped ≡ None → HasDurableInfo d class v → Linking d class 0 v v
-linking_begins v d class going info = record { ran = going; going = going; parts_are = refl; info_is = info; links = λ j less. absurd (omega (arith, less)); row = view_row_none v }
+linking_begins v d class going info = record { ran = going; going = going; parts_are = refl; info_is = info; links = λ j less. absurd (omega (arith, less)); row = view_row_none v; looks = record { used = refl; heads = refl } }
 
 module _ (v t : View) (has : HasSoundState v) (d class n : ℕ) (is : IsClass class) (raw : 0 < times_raw d v) (linking : Linking d class n v t) where
   same_capacity : t.setup.capacity ≡ v.setup.capacity
@@ -215,6 +221,7 @@ module _ (v t : View) (has : HasSoundState v) (d class n : ℕ) (is : IsClass cl
           (block_owned t class d j is (subst (λ c. d < c) (sym same_capacity) (raw_inside v has d raw)) raw_still (omega (arith, less, below)))))
           (subst (λ b. Shows w (data_cell (start_word v.setup.capacity d + n * words_of_class class)) b) link_next (subst (λ a. Shows w (data_cell a) (block + words_of_class class)) at_block linked.link));
       row = view_row_then v t w linking.row row;
+      looks = same_looks_then v t w linking.looks linked.looks;
     }
 
 -- the anchor of a claimed superblock becomes full
@@ -250,6 +257,7 @@ module _ (v : View) (has : HasSoundState v) (d : ℕ) (raw : 0 < times d v.raw) 
       going = ap (λ (x : View). x.stopped) anchor_stored ∙ drawn.went;
       parts_are = ap parts anchor_stored;
       words = λ k other own. other_kept v u w (anchor_word d) full_anchor found k drawn event other own;
+      looks = record { used = ap (λ (x : View). x.used_look) anchor_stored; heads = ap (λ (x : View). x.head_looks) anchor_stored };
     }
 
 -- the superblock may be cut
@@ -336,10 +344,20 @@ module _ (v : View) (has : HasSoundState v) (d class : ℕ) (is : IsClass class)
       early_ready = ready_kept y early y_ready (ap (λ (z : View). z.stopped) (early_rest y early settles) ∙ filled.going) early_parts
           (let e = ap (λ (z : View). z.floor) (early_rest y early settles) in omega arith) (early_words y early settles)
 
+      y_looks : SameLooks v y
+      y_looks = same_looks_then v x y (same_looks_then v t x (record { used = set_is.look; heads = set_is.heads }) linked.looks) filled.looks
+
+      cut_is : w.stopped ≡ None → w ≡ cut_for class (drew early found) d
+      cut_is going = draw_cuts d early w found event going (ready_can early early_ready)
+
       pub cut_done : w.stopped ≡ None → HasCut d class v w
       cut_done going = record {
         going = going;
-        parts_are = ap parts (draw_cuts d early w found event going (ready_can early early_ready))
+        looks = same_looks_then v y w y_looks (record {
+          used = ap (λ (z : View). z.used_look) (cut_is going) ∙ ap (λ (z : View). z.used_look) (early_rest y early settles);
+          heads = ap (λ (z : View). z.head_looks) (cut_is going) ∙ ap (λ (z : View). z.head_looks) (early_rest y early settles);
+        });
+        parts_are = ap parts (cut_is going)
             ∙ ap (λ (p : Parts). record p { caches = set p.caches class (class_blocks p.setup.capacity class d); cutting = without d p.cutting }) (early_parts ∙ y_ready.parts_are)
             ∙ ap (λ l. record (with_cut d class (parts v)) { cutting = l }) (pick (nat_eq d d) (without d v.cutting) (d ∷ without d (without d v.cutting)) (eq-eqb d d refl));
       }

@@ -8,7 +8,7 @@ use Rattle.core_model.specs.Effects.{class_blocks}
 use Rattle.core_model.specs.View.{View}
 use Rattle.heap_rule.specs.Fences.{Owns}
 use Rattle.heap_rule.specs.Shown.{Shows, ShowsDurable}
-use Rattle.seat_rows.specs.Rows.{Parts, parts}
+use Rattle.seat_rows.specs.Rows.{Parts, SameLooks, parts}
 use Rattle.seat_rows.specs.Words.{KeepsWord}
 
 -- loads see this number in the superblock's info, and a crash leaves it
@@ -26,6 +26,7 @@ pub record HasLink (word value : ℕ) (v w : View) : Type 0 where
   pub parts_are : parts w ≡ parts v
   pub link : Shows w (data_cell word) value
   pub words : (k : ℕ) → k ≢ word → Owns v k → KeepsWord v w k
+  pub looks : SameLooks v w
 
 -- each block of the superblock but the last leads to the next, and its info is the class still
 pub record HasLinks (d class : ℕ) (v w : View) : Type 0 where
@@ -33,6 +34,7 @@ pub record HasLinks (d class : ℕ) (v w : View) : Type 0 where
   pub parts_are : parts w ≡ parts v
   pub info_is : HasDurableInfo d class w
   pub links : Leads w (start_word v.setup.capacity d) (words_of_class class) (blocks_of class - 1)
+  pub looks : SameLooks v w
 
 -- the superblock's anchor is full: its blocks are being made
 abbrev pub with_making : ℕ → Parts → Parts
@@ -42,6 +44,7 @@ pub record HasFilledAnchor (d : ℕ) (v w : View) : Type 0 where
   pub going : w.stopped ≡ None
   pub parts_are : parts w ≡ with_making d (parts v)
   pub words : (k : ℕ) → k ≢ anchor_word d → Owns v k → KeepsWord v w k
+  pub looks : SameLooks v w
 
 -- all blocks of the superblock are in the cache of the class, and it is claimed no more
 abbrev pub with_cut : ℕ → ℕ → Parts → Parts
@@ -55,3 +58,4 @@ with_cut d class p = record p {
 pub record HasCut (d class : ℕ) (v w : View) : Type 0 where
   pub going : w.stopped ≡ None
   pub parts_are : parts w ≡ with_cut d class (parts v)
+  pub looks : SameLooks v w
