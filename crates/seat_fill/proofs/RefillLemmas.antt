@@ -3,6 +3,7 @@ use Rattle.std.proofs.Common.{◌≡◌, ◌<◌, ◌≤◌, ◌+◌, ◌-◌, i
 use Rattle.std.proofs.lemmas.List.{get_or_default}
 use Rattle.heap_model.specs.Counting.{times, without}
 use Rattle.heap_model.specs.Geometry.{lists}
+use Rattle.heap_model.specs.Words.{head_first}
 use Rattle.heap_model.specs.Sizes.{IsClass, blocks_of}
 use Rattle.heap_model.proofs.SizeLemmas.{four_blocks}
 use Rattle.core_model.specs.Effects.{class_blocks, without_claim}
@@ -13,11 +14,12 @@ use Rattle.heap_rule.specs.Seated.{SeatView}
 use Rattle.heap_rule.specs.Shown.{CanList, as_free}
 use Rattle.heap_rule.specs.Tickets.{after_ticket}
 use Rattle.heap_table.specs.Plays.{HasSoundState}
-use Rattle.large_block.specs.Fresh.{IsPast}
+use Rattle.heap_seat.specs.declared.fault.Looks.{Looks}
+use Rattle.large_block.specs.Fresh.{HasTakenFresh, IsPast}
 use Rattle.seat_fill.specs.declared.refills.FromClass.{FromClass}
 use Rattle.seat_fill.specs.declared.refills.FromClass.TheVariants.{Filled as FilledFromClass, Empty}
 use Rattle.seat_fill.specs.Cuts.{HasCut, with_cut}
-use Rattle.seat_fill.specs.Refills.{FillsFrom, HasFilled, HasFound, HasMoved, IsFull, IsLook, IsNoneOfClass, IsNothingFree, fill_costs}
+use Rattle.seat_fill.specs.Refills.{FillsFrom, HasFilled, HasFound, HasMoved, HasSeenEmpty, HasSeenNoFree, HasSeenNone, IsFilledInOrder, IsFull, IsLook, IsNoneOfClass, IsNothingFree, fill_costs}
 use Rattle.seat_fill.specs.Takes.{HasTakenFree, IsAllFree, with_taken}
 use Rattle.seat_fill.proofs.TakeLemmas.{Taking}
 use Rattle.seat_lists.specs.declared.pops.Pop.{Pop}
@@ -182,6 +184,31 @@ filling_done v t w class (Empty head) filling none = record {
   row = fill_then v t w filling.row none.row;
 }
 
+-- a look at an empty list
+abbrev seen_empty : (list word : ℕ) (v t w : View) (look : LastLook) → head_look w list ≡ look → (is : IsLook look word t) → head_first word ≡ 0 → t.taken ≡ v.taken → next_of v ≤ is.ticket → is.ticket < next_of w → HasSeenEmpty list v w
+seen_empty list word v t w look same is none taken since below = record {
+  made = record {
+    ticket = is.ticket;
+    by = ap (λ (l : LastLook). l.ticket) same ∙ is.by;
+    since = since;
+    below = below;
+    taken_least = let a = ap (λ (l : LastLook). l.taken) same in let b = is.taken in omega (arith, a, b, taken);
+    taken_most = let a = ap (λ (l : LastLook). l.taken) same in let b = is.taken in omega (arith, a, b, taken);
+  };
+  empty = ap head_first (ap (λ (l : LastLook). l.word) same ∙ is.word_is) ∙ none;
+}
+
+-- the list of the free ones had none
+pub fresh_behind : (v t w : View) (head d : ℕ) → HasSoundState w → IsEmptyList 0 head v t → HasTakenFresh 1 d t w → next_of t ≤ next_of w → HasSeenNoFree v w
+fresh_behind v t w head d has empty got next =
+    let long = looks_long w has in
+    let free : head_look w 0 ≡ looked head t = get_or_default w.head_looks 0 w.used_look (looked head t) (omega arith) ∙ ap (λ looks. get_or looks 0 (looked head t)) got.heads ∙ empty.look in
+    let first = looked_is t (looked head t) head (next_of v) refl empty.later in record {
+      none = seen_empty 0 head v t w (looked head t) free first.0 empty.none empty.taken first.1 (let l = first.2 in omega (arith, next, l));
+      others = λ list less apart. get_or_default w.head_looks list w.used_look t.used_look (omega arith)
+          ∙ ap (λ looks. get_or looks list t.used_look) got.heads ∙ empty.others.heads list apart;
+    }
+
 -- neither list nor mark gave a superblock
 pub nothing_free : (v t w : View) (head used : ℕ) → HasSoundState w → ViewRow (record no_costs { draws = 6 }) v w → IsEmptyList 0 head v t → IsPast 1 used t w → IsNothingFree head used v w
 nothing_free v t w head used has row empty past =
@@ -252,3 +279,47 @@ nothing_left v t w class class_head free_head used is none nothing = record {
   free_empty = nothing.none;
   past = subst (λ (k : Setup). k.capacity < used + 1) (ap (λ (p : Parts). p.setup) none.parts_are) nothing.past;
 }
+
+-- a filling that cuts nothing takes nothing
+pub order_uncut : {a : Costs} (class : ℕ) (v w : View) → a.cuts ≡ 0 → a.taken ≡ 0 → ViewRow a v w → IsFilledInOrder class v w
+order_uncut class v w none_cut none_taken row = let taken = row.passes.most.taken in let more = row.passes.more.taken in record {
+  uncut = λ same. omega (arith, taken, more, none_taken);
+  fresh = λ rose. absurd (omega (arith, taken, rose, none_taken));
+}
+
+pub order_full : (class : ℕ) (looks : Looks) (v w : View) → IsFull class looks v w → IsFilledInOrder class v w
+order_full class looks v w full = let taken = full.taken in record {
+  uncut = λ same. taken;
+  fresh = λ rose. absurd (omega (arith, taken, rose));
+}
+
+-- a superblock is cut behind looks at the lists
+pub order_cut : {n : ℕ} (class head d : ℕ) (v t x w : View) → IsClass class → IsNoneOfClass class head v t → (t.taken < x.taken → HasSeenNoFree t x) → HasCut d class x w → v.cuts < w.cuts → ViewRow (record no_costs { draws = n; cuts = 1 }) x w
+    → next_of t ≤ next_of x → IsFilledInOrder class v w
+order_cut class head d v t x w is none seen done cut row next = record {
+  uncut = λ same. absurd (omega (arith, same, cut));
+  fresh = λ rose. both (seen (let a = row.passes.most.taken in let b = t_taken in omega (arith, a, b, rose)));
+} where
+  t_taken : t.taken ≡ v.taken
+  t_taken = let a = none.row.passes.more.taken in let b = none.row.passes.most.taken in omega arith
+
+  kept : (list : ℕ) → head_look w list ≡ head_look x list
+  kept list = ap (λ l. get_or l list w.used_look) done.looks.heads ∙ ap (λ u. get_or x.head_looks list u) done.looks.used
+
+  both : HasSeenNoFree t x → HasSeenNone class v w
+  both free = record {
+    of_class = seen_empty class head v t w (head_look t class) (kept class ∙ free.others class (let last = is.last in omega (arith, last)) (λ zero_class. let some = is.some in omega (arith, some, zero_class))) none.look none.none t_taken none.since
+        (let l = none.last in let n = row.passes.next in omega (arith, l, n, next));
+    free = record {
+      made = let m = free.none.made in record {
+        ticket = m.ticket;
+        by = ap (λ (l : LastLook). l.ticket) (kept 0) ∙ m.by;
+        since = let s = m.since in let l = none.last in let b = none.since in omega (arith, s, l, b);
+        below = let b = m.below in let n = row.passes.next in omega (arith, b, n);
+        taken_least = let e = ap (λ (l : LastLook). l.taken) (kept 0) in let l = m.taken_least in let b = t_taken in omega (arith, e, l, b);
+        taken_most = let e = ap (λ (l : LastLook). l.taken) (kept 0) in let l = m.taken_most in let b = t_taken in omega (arith, e, l, b);
+      };
+      empty = ap head_first (ap (λ (l : LastLook). l.word) (kept 0)) ∙ free.none.empty;
+    };
+    order = let s = free.none.made.since in let l = none.last in omega (arith, s, l);
+  }

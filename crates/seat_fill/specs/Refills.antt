@@ -13,7 +13,7 @@ use Rattle.seat_fill.specs.declared.refills.Filling.{Filling}
 use Rattle.seat_fill.specs.declared.refills.Filling.TheVariants.{Filled, Full}
 use Rattle.seat_lists.specs.Pops.{with_claim}
 use Rattle.seat_rows.specs.Costs.{Costs, no_costs}
-use Rattle.seat_rows.specs.Rows.{ViewRow, head_look, next_of, parts}
+use Rattle.seat_rows.specs.Rows.{IsMade, ViewRow, head_look, next_of, parts}
 
 -- so many draws and exchanges that are won, whatever superblocks are moved to the list of the free ones
 abbrev pub fill_costs : ℕ → ℕ → View → View → Costs
@@ -67,6 +67,27 @@ pub record HasMoved (v w : View) : Type 0 where
 abbrev pub TriesFrom : ℕ → Option FromClass → View → View → Type 0
 TriesFrom class None v w = HasMoved v w
 TriesFrom class (Some from) v w = FillsFrom class from v w
+
+-- the last look at a list was made in between, before any superblock was taken that never was before; it found the list empty
+pub record HasSeenEmpty (list : ℕ) (v w : View) : Type 0 where
+  pub made : IsMade (next_of v) (next_of w) v.taken v.taken (head_look w list)
+  pub empty : head_first (head_look w list).word ≡ 0
+
+-- so did that at the list of the free ones; the last looks at the lists of the classes stay
+pub record HasSeenNoFree (v w : View) : Type 0 where
+  pub none : HasSeenEmpty 0 v w
+  pub others : (list : ℕ) → list < lists → list ≢ 0 → head_look w list ≡ head_look v list
+
+-- both lists were found empty, that of the class first
+pub record HasSeenNone (class : ℕ) (v w : View) : Type 0 where
+  pub of_class : HasSeenEmpty class v w
+  pub free : HasSeenEmpty 0 v w
+  pub order : of_class.made.ticket < free.made.ticket
+
+-- a superblock that was never taken is taken to be cut alone, and only where neither list had one
+pub record IsFilledInOrder (class : ℕ) (v w : View) : Type 0 where
+  pub uncut : w.cuts ≡ v.cuts → w.taken ≡ v.taken
+  pub fresh : v.taken < w.taken → HasSeenNone class v w
 
 -- a superblock is claimed without a class, and no crash forgets that it was taken
 pub record HasFound (d : ℕ) (v w : View) : Type 0 where

@@ -1,13 +1,13 @@
 //! An empty cache is filled.
 
-ghost use Rattle.std.specs.Prelude.{◌≡◌, ◌≤◌, ◌+◌, ◌-◌, [], IfOk, IfErr};
+ghost use Rattle.std.specs.Prelude.{◌≡◌, ◌<◌, ◌≤◌, ◌+◌, ◌-◌, [], IfOk, IfErr};
 ghost use Rattle.heap_model.specs.Sizes.{blocks_of};
 ghost use Rattle.core_model.specs.View.{of_class};
 ghost use Rattle.heap_rule.specs.Seated.{IsSeatOf};
 ghost use Rattle.seat_rows.specs.Costs.{no_costs, one_win};
 ghost use Rattle.seat_rows.specs.Idle.{IsIdle};
 ghost use Rattle.seat_rows.specs.Rows.{Row, Stops};
-ghost use Rattle.seat_fill.specs.Refills.{FillsFrom, Finds, Refills, TriesFrom};
+ghost use Rattle.seat_fill.specs.Refills.{FillsFrom, Finds, HasSeenNoFree, IsFilledInOrder, Refills, TriesFrom};
 
 use crate::cuts::cut;
 use crate::takes::take_free_blocks;
@@ -116,6 +116,8 @@ fn find_superblock<C: Chance>(
     requires seat { IsSeatOf shared.now seat.old }
     requires idle { seat.old.view.raw ≡ [] }
     ensures done { IfOk result (λ found. Finds found seat.old.view seat.new.view) }
+    ensures fresh { IfOk result (λ _. seat.old.view.taken < seat.new.view.taken
+        → HasSeenNoFree seat.old.view seat.new.view) }
     ensures stopped { IfErr result (λ e. Stops e.step seat.old.view seat.new.view) }
     ensures row { Row (record one_win { draws = 6; taken = 1 }) seat.old seat.new }
     ensures seat { IsSeatOf shared.now seat.new }
@@ -148,6 +150,8 @@ pub fn refill<C: Chance>(
     requires uncached { of_class seat.old.view.caches class.number ≡ [] }
     requires idle { IsIdle seat.old.view }
     ensures done { IfOk result (λ filling. Refills class.number filling
+        seat.old.view seat.new.view) }
+    ensures order { IfOk result (λ _. IsFilledInOrder class.number
         seat.old.view seat.new.view) }
     ensures light { IfOk result (λ _. seat.new.view.cuts ≡ seat.old.view.cuts
         → Row (record no_costs {

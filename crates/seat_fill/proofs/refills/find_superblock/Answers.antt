@@ -1,8 +1,8 @@
-use Rattle.std.proofs.Common.{subst}
-use Rattle.large_block.specs.Fresh.{IsPast, Takes}
+use Rattle.std.proofs.Common.{subst, arith}
+use Rattle.large_block.specs.Fresh.{HasTakenFresh, IsPast, Takes}
 use Rattle.seat_lists.specs.Pops.{IsEmptyList, Pops}
 use Rattle.seat_rows.proofs.RowLemmas.{row_then, view_row_then}
-use Rattle.seat_fill.proofs.RefillLemmas.{empty_list_row, nothing_free, nothing_won}
+use Rattle.seat_fill.proofs.RefillLemmas.{empty_list_row, fresh_behind, nothing_free, nothing_won}
 use Rattle.seat_fill.proofs.refills.find_superblock.Goals as goal
 
 pub returns-in_err-take-clause-row : goal.returns-in_err-take-clause-row
@@ -24,3 +24,18 @@ returns-in-Past-clause-done g c = let v = c.args.seat.now in let t = c.pop.new.s
     nothing_free v.view t.view w c.in-Empty.head c.in-Past.used c.has_a_sound_state.ensures
     (view_row_then v.view t.view w (empty_list_row 0 c.in-Empty.head v t c.in_ok-d.field-0 c.in-Empty.is c.in_ok-d.ensures.done c.pop.ensures.row).view (nothing_won t.view w past.wins past.taken c.take_fresh.ensures.row.view))
     empty past
+
+pub returns-in-Got-clause-fresh : goal.returns-in-Got-clause-fresh
+returns-in-Got-clause-fresh g c = λ rose. absurd (let none = c.pop.ensures.row.view.passes.most.taken in omega (arith, rose, none))
+
+pub returns-in-Got-take-clause-fresh : goal.returns-in-Got-take-clause-fresh
+returns-in-Got-take-clause-fresh g c = let v = c.args.seat.now.view in let t = c.pop.new.seat.view in let w = c.take_fresh.new.seat.view in λ rose.
+    let empty : IsEmptyList 0 c.in-Empty.head v t = subst (λ pop. Pops 0 pop v t) c.in-Empty.is c.in_ok-d.ensures.done in
+    let got : HasTakenFresh 1 c.in-Got-take.d t w = subst (λ take. Takes 1 take t w) c.in-Got-take.is c.in_ok-take.ensures.done in
+    fresh_behind v t w c.in-Empty.head c.in-Got-take.d c.has_a_sound_state.ensures empty got c.take_fresh.ensures.row.view.passes.next
+
+pub returns-in-Past-clause-fresh : goal.returns-in-Past-clause-fresh
+returns-in-Past-clause-fresh g c = let v = c.args.seat.now.view in let t = c.pop.new.seat.view in let w = c.take_fresh.new.seat.view in λ rose.
+    let empty : IsEmptyList 0 c.in-Empty.head v t = subst (λ pop. Pops 0 pop v t) c.in-Empty.is c.in_ok-d.ensures.done in
+    let past : IsPast 1 c.in-Past.used t w = subst (λ take. Takes 1 take t w) c.in-Past.is c.in_ok-take.ensures.done in
+    absurd (let a = empty.taken in let b = past.taken in omega (arith, a, b, rose))

@@ -1,9 +1,9 @@
-use Rattle.std.proofs.Common.{subst, arith}
+use Rattle.std.proofs.Common.{subst, refl, arith}
 use Rattle.seat_rows.specs.Costs.{no_costs}
 use Rattle.seat_rows.specs.Rows.{Row}
 use Rattle.seat_rows.proofs.RowLemmas.{row_moves, row_then, row_within}
 use Rattle.seat_fill.specs.Refills.{FillsFrom, Finds, HasFound, IsNoneOfClass, IsNothingFree, fill_costs}
-use Rattle.seat_fill.proofs.RefillLemmas.{cut_fills, empty_class_row, nothing_left, refill_row}
+use Rattle.seat_fill.proofs.RefillLemmas.{cut_fills, empty_class_row, nothing_left, order_cut, order_full, order_uncut, refill_row}
 use Rattle.seat_fill.proofs.refills.refill.Goals as goal
 
 pub returns-in_err-d-clause-row : goal.returns-in_err-d-clause-row
@@ -44,3 +44,20 @@ pub returns-in-Nothing-clause-row : goal.returns-in-Nothing-clause-row
 returns-in-Nothing-clause-row g c = let v = c.args.seat.now in let t = c.fill_from_class.new.seat in let w = c.find_superblock.new.seat in
     let first = empty_class_row c.args.class.number c.in-Empty.head v t c.in_ok-fill_from_class.field-0 c.in-Empty.is c.in_ok-fill_from_class.ensures.done c.fill_from_class.ensures.row in
     refill_row c.args.class.number v w (record { draws = omega arith; wins = omega arith; gives = omega arith; cuts = omega arith; taken = omega arith; moves = omega arith }) (row_then v t w first c.find_superblock.ensures.row)
+
+pub returns-in-Filled-clause-order : goal.returns-in-Filled-clause-order
+returns-in-Filled-clause-order g c = let v = c.args.seat.now.view in let w = c.fill_from_class.new.seat.view in
+    order_uncut c.args.class.number v w refl refl c.fill_from_class.ensures.row.view
+
+pub returns-in_ok-cut-in-Got-clause-order : goal.returns-in_ok-cut-in-Got-clause-order
+returns-in_ok-cut-in-Got-clause-order g c = let v = c.args.seat.now.view in let t = c.fill_from_class.new.seat.view in let x = c.find_superblock.new.seat.view in let w = c.cut.new.seat.view in
+    let none : IsNoneOfClass c.args.class.number c.in-Empty.head v t = subst (λ from. FillsFrom c.args.class.number from v t) c.in-Empty.is c.in_ok-fill_from_class.ensures.done in
+    order_cut c.args.class.number c.in-Empty.head c.in-Got.d v t x w c.args.class.is none c.in_ok-d.ensures.fresh c.in_ok-cut-in-Got.ensures.cut
+    (let a = none.row.passes.more.cuts in let b = c.find_superblock.ensures.row.view.passes.more.cuts in let now = c.in_ok-cut-in-Got.ensures.counted in omega (arith, a, b, now))
+    c.cut.ensures.row.view c.find_superblock.ensures.row.view.passes.next
+
+pub returns-in-Nothing-clause-order : goal.returns-in-Nothing-clause-order
+returns-in-Nothing-clause-order g c = let v = c.args.seat.now.view in let t = c.fill_from_class.new.seat.view in let w = c.find_superblock.new.seat.view in
+    let none : IsNoneOfClass c.args.class.number c.in-Empty.head v t = subst (λ from. FillsFrom c.args.class.number from v t) c.in-Empty.is c.in_ok-fill_from_class.ensures.done in
+    let nothing : IsNothingFree c.in-Nothing.free_head c.in-Nothing.used t w = subst (λ found. Finds found t w) c.in-Nothing.is c.in_ok-d.ensures.done in
+    order_full c.args.class.number _ v w (nothing_left v t w c.args.class.number c.in-Empty.head c.in-Nothing.free_head c.in-Nothing.used c.args.class.is none nothing)
