@@ -1,15 +1,16 @@
 -- What a call for a block of a class leaves, once its cache was filled.
-use Rattle.std.proofs.Common.{◌≡◌, ℕ, ◌+◌, ◌-◌, length, ap, ◌∙◌, arith}
+use Rattle.std.proofs.Common.{◌≡◌, ◌≤◌, ℕ, ◌+◌, ◌-◌, get_or, length, ap, ◌∙◌, arith}
 use Rattle.std.proofs.lemmas.List.{set-set}
 use Rattle.heap_model.specs.declared.block.Block.{Block}
 use Rattle.heap_model.specs.Sizes.{blocks_of}
-use Rattle.core_model.specs.View.{View, of_class}
+use Rattle.heap_model.specs.Words.{head_first}
+use Rattle.core_model.specs.View.{LastLook, View, of_class}
 use Rattle.heap_rule.specs.Seated.{SeatView}
 use Rattle.seat_rows.specs.Costs.{Costs, no_costs, one_draw}
-use Rattle.seat_rows.specs.Rows.{HoldingRow, IsHeldBoth, Row, parts}
+use Rattle.seat_rows.specs.Rows.{HoldingRow, IsHeldBoth, Row, SameLooks, head_look, next_of, parts}
 use Rattle.seat_rows.proofs.RowLemmas.{but_fewer, holding_within, row_but, row_then, row_within, then_holding}
 use Rattle.seat_calls.specs.Small.{HasAllocated, alloc_costs, light_alloc, with_allocated}
-use Rattle.seat_fill.specs.Refills.{HasFilled}
+use Rattle.seat_fill.specs.Refills.{HasFilled, HasSeenEmpty, HasSeenNone, IsFilledInOrder}
 
 -- the costs of filling a cache
 abbrev refill_costs : ℕ → ℕ → Costs
@@ -53,4 +54,37 @@ filled_alloc v t w class b none filled allocated = record {
   short = allocated.short;
   parts_are = allocated.parts_are ∙ ap (with_allocated class b.first_word allocated.cache) filled.parts_are
       ∙ ap (λ l. record (with_allocated class b.first_word allocated.cache (parts v)) { caches = l }) (set-set v.caches class filled.blocks allocated.cache);
+}
+
+-- a draw with a change of the seat's parts looks at no list
+pub order_held : (class : ℕ) (v w : SeatView) → HoldingRow one_draw v w → IsFilledInOrder class v.view w.view
+order_held class v w row = let taken = row.passes.most.taken in let more = row.passes.more.taken in record {
+  uncut = λ same. omega (arith, taken, more);
+  fresh = λ rose. absurd (omega (arith, taken, rose));
+}
+
+looks_still : (list : ℕ) (t w : View) → SameLooks t w → head_look w list ≡ head_look t list
+looks_still list t w same = ap (λ l. get_or l list w.used_look) same.heads ∙ ap (λ u. get_or t.head_looks list u) same.used
+
+abbrev seen_still : (list : ℕ) (v t w : View) → SameLooks t w → next_of t ≤ next_of w → HasSeenEmpty list v t → HasSeenEmpty list v w
+seen_still list v t w same next seen = record {
+  made = let m = seen.made in record {
+    ticket = m.ticket;
+    by = ap (λ (l : LastLook). l.ticket) (looks_still list t w same) ∙ m.by;
+    since = m.since;
+    below = let b = m.below in omega (arith, b, next);
+    taken_least = let e = ap (λ (l : LastLook). l.taken) (looks_still list t w same) in let l = m.taken_least in omega (arith, e, l);
+    taken_most = let e = ap (λ (l : LastLook). l.taken) (looks_still list t w same) in let l = m.taken_most in omega (arith, e, l);
+  };
+  empty = ap (λ (l : LastLook). head_first l.word) (looks_still list t w same) ∙ seen.empty;
+}
+
+pub order_still : (class : ℕ) (v : View) (t w : SeatView) → IsFilledInOrder class v t.view → SameLooks t.view w.view → HoldingRow one_draw t w → IsFilledInOrder class v w.view
+order_still class v t w order same row = let taken = row.passes.most.taken in let more = row.passes.more.taken in let cuts = row.passes.most.cuts in let more_cuts = row.passes.more.cuts in record {
+  uncut = λ uncut. let before = order.uncut (omega (arith, cuts, more_cuts, uncut)) in omega (arith, taken, more, before);
+  fresh = λ rose. let none = order.fresh (omega (arith, taken, rose)) in record {
+    of_class = seen_still class v t.view w.view same row.passes.next none.of_class;
+    free = seen_still 0 v t.view w.view same row.passes.next none.free;
+    order = none.order;
+  };
 }

@@ -8,7 +8,7 @@ use Rattle.heap_model.specs.Counting.{times, one_if}
 use Rattle.heap_model.specs.Geometry.{largest_capacity, start_word, superblock_words, superblocks_end}
 use Rattle.heap_model.specs.Sizes.{IsClass, IsLeastClassFor, blocks_of, largest_small, span_of, words_of_class}
 use Rattle.heap_model.proofs.SizeLemmas.{few_blocks, few_words, four_blocks, size_of-words}
-use Rattle.size_table.proofs.ClassLemmas.{least_of_size, least_small}
+use Rattle.size_table.proofs.ClassLemmas.{least_of_size, least_small, one_least}
 use Rattle.line_memory.specs.declared.memory.Stopped.{Stopped}
 use Rattle.heap_seat.specs.declared.fault.AllocFault.{AllocFault}
 use Rattle.heap_seat.specs.declared.fault.AllocFault.TheVariants.{Full, Stopped as StoppedFault}
@@ -32,6 +32,7 @@ use Rattle.seat_rows.specs.Rows.{HoldingRow, IsHeldBoth, Parts, Row, RowBut}
 use Rattle.seat_rows.specs.Words.{IsHeldWord, times_held}
 use Rattle.seat_rows.proofs.RowLemmas.{but_fewer, holding_within, row_within}
 use Rattle.seat_rows.proofs.WordLemmas.{owns_held, still_held}
+use Rattle.seat_fill.specs.Refills.{IsFilledInOrder}
 use Rattle.seat_calls.specs.Large.{AllocatesNoLarge, HasAllocatedLarge, HasFreedLarge, large_costs, large_free_costs}
 use Rattle.seat_calls.specs.Requests.{Answers, IsGivenBack, IsGranted, IsRefused, IsSmallBlock, IsSpan, MayBeGivenBack, by_class, by_span, light_free_costs, light_request, most_free_costs, of_a_class, of_a_span, request_costs}
 use Rattle.seat_calls.specs.Small.{AllocatesNone, HasAllocated, HasFreed, IfGoing, IsHeldOutside, MayHaveFreed, alloc_costs, block_of, free_costs, light_alloc}
@@ -86,6 +87,17 @@ module _ (bytes moves : ℕ) where
   span_light P v w (Ok b) row = λ p. holding_within (light_request bytes moves) v w (record { draws = omega arith; wins = omega arith; gives = omega arith; cuts = omega arith; taken = omega arith; moves = omega arith }) row
   span_light P v w (Err (Full looks)) row = λ p. holding_within (light_request bytes moves) v w (record { draws = omega arith; wins = omega arith; gives = omega arith; cuts = omega arith; taken = omega arith; moves = omega arith }) row
   span_light P v w (Err (StoppedFault e)) row = tt
+
+-- the order by which the cache of the least class was filled
+pub class_order : (bytes class : ℕ) (v w : View) (result : Result Block AllocFault) → IsLeastClassFor bytes class → IfGoing result (IsFilledInOrder class v w) → IfGoing result ((c : ℕ) → IsLeastClassFor bytes c → IsFilledInOrder c v w)
+class_order bytes class v w (Ok b) least order = λ c other. subst (λ k. IsFilledInOrder k v w) (one_least bytes class c least other) order
+class_order bytes class v w (Err (Full looks)) least order = λ c other. subst (λ k. IsFilledInOrder k v w) (one_least bytes class c least other) order
+class_order bytes class v w (Err (StoppedFault e)) least order = tt
+
+pub span_order : (bytes : ℕ) (v w : View) (result : Result Block AllocFault) → largest_small < bytes → IfGoing result ((c : ℕ) → IsLeastClassFor bytes c → IsFilledInOrder c v w)
+span_order bytes v w (Ok b) large = λ c least. absurd (let small = least_small bytes c least in omega arith)
+span_order bytes v w (Err (Full looks)) large = λ c least. absurd (let small = least_small bytes c least in omega arith)
+span_order bytes v w (Err (StoppedFault e)) large = tt
 
 -- a held block, by its size
 module _ (v : View) (has : HasSoundState v) where

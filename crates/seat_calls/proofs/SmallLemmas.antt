@@ -35,7 +35,7 @@ use Rattle.seat_lists.proofs.PopLemmas.{drawn_as, still_owns}
 use Rattle.seat_rows.specs.Costs.{Costs, IsWithin, no_costs, one_draw}
 use Rattle.seat_rows.specs.Draws.{Settles}
 use Rattle.seat_rows.specs.Idle.{IsIdle}
-use Rattle.seat_rows.specs.Rows.{HasDrawn, HoldingRow, Parts, Passes, Row, RowBut, Stops, StoringRow, parts}
+use Rattle.seat_rows.specs.Rows.{HasDrawn, HoldingRow, Parts, Passes, Row, RowBut, SameLooks, Stops, StoringRow, parts}
 use Rattle.seat_rows.specs.Words.{IsHeldWord, times_held}
 use Rattle.seat_rows.proofs.DrawLemmas.{early_rest, early_words, row_of_stop, shifted_is, stops}
 use Rattle.seat_rows.proofs.RowLemmas.{but_fewer, but_then, row_but, stops_passed}
@@ -298,6 +298,10 @@ module _ (v early w : View) (class found : ℕ) (settles : Settles v early) (eve
     parts_are = ap parts (shifted_is v early settles (Some (Alloc class)) w found event going)
         ∙ ap (λ b. record (parts v) { small = set v.small class (b ∷ of_class v.small class); caches = set v.caches class (rest_of (of_class v.caches class)) }) (sym is);
   }
+
+  pub alloc_looks : w.stopped ≡ None → SameLooks v w
+  alloc_looks going = let left = shifted_is v early settles (Some (Alloc class)) w found event going in
+      record { used = ap (λ (x : View). x.used_look) left; heads = ap (λ (x : View). x.head_looks) left }
 
 pub on_err : {A E P : Type 0} (result : Result A E) → P → OnErr result P
 on_err (Ok x) p = tt

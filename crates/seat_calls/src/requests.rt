@@ -1,10 +1,12 @@
 //! Requests of any size, and the freeing of any block.
 
-ghost use Rattle.std.specs.Prelude.{◌≡◌, ◌<◌, ◌-◌, None, OnOk, OnErr, IfErr};
+ghost use Rattle.std.specs.Prelude.{◌≡◌, ◌<◌, ◌-◌, ℕ, None, OnOk, OnErr, IfErr};
 ghost use Rattle.core_model.specs.Held.{IsHeld};
+ghost use Rattle.heap_model.specs.Sizes.{IsLeastClassFor};
 ghost use Rattle.heap_rule.specs.Seated.{IsSeatOf};
 ghost use Rattle.seat_rows.specs.Idle.{HasShortCaches, IsIdle};
 ghost use Rattle.seat_rows.specs.Rows.{HoldingRow, Row, RowBut, Stops, next_of};
+ghost use Rattle.seat_fill.specs.Refills.{IsFilledInOrder};
 ghost use Rattle.seat_calls.specs.Requests.{Answers, IsGivenBack, MayBeGivenBack, light_free_costs, light_request, most_free_costs, request_costs};
 ghost use Rattle.seat_calls.specs.Small.{IfGoing, IsHeldOutside};
 
@@ -34,6 +36,8 @@ pub fn alloc<C: Chance>(
     ensures none { OnErr result
         (Row (request_costs bytes (seat.new.view.moves - seat.old.view.moves))
         seat.old seat.new) }
+    ensures order { IfGoing result ((class : ℕ) → IsLeastClassFor bytes class
+        → IsFilledInOrder class seat.old.view seat.new.view) }
     ensures drew { next_of seat.old.view < next_of seat.new.view }
     ensures light { IfGoing result (seat.new.view.cuts ≡ seat.old.view.cuts
         → HoldingRow (light_request bytes (seat.new.view.moves - seat.old.view.moves))

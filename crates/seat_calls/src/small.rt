@@ -8,7 +8,8 @@ ghost use Rattle.core_model.specs.View.{of_class};
 ghost use Rattle.heap_rule.specs.Seated.{IsSeatOf};
 ghost use Rattle.seat_rows.specs.Costs.{no_costs, one_draw};
 ghost use Rattle.seat_rows.specs.Idle.{HasShortCaches, IsIdle};
-ghost use Rattle.seat_rows.specs.Rows.{HoldingRow, Row, RowBut, Stops, StoringRow, next_of};
+ghost use Rattle.seat_rows.specs.Rows.{HoldingRow, Row, RowBut, SameLooks, Stops, StoringRow, next_of};
+ghost use Rattle.seat_fill.specs.Refills.{IsFilledInOrder};
 ghost use Rattle.seat_calls.specs.Small.{AllocatesNone, HasAllocated, HasCached, HasFreed, HasWay, IfGoing, IsHeldOutside, MayHaveFreed, alloc_costs, block_of, free_costs, light_alloc};
 
 use core_model::Shift;
@@ -38,6 +39,7 @@ fn alloc_cached<C: Chance>(
     ensures stopped { IfErr result (λ e. Stops e.step seat.old.view seat.new.view) }
     ensures none { OnErr result (Row one_draw seat.old seat.new) }
     ensures drew { next_of seat.old.view < next_of seat.new.view }
+    ensures looks { OnOk result (SameLooks seat.old.view seat.new.view) }
     ensures row { HoldingRow one_draw seat.old seat.new }
     ensures seat { IsSeatOf shared.now seat.new }
 {
@@ -74,6 +76,8 @@ pub fn alloc_small<C: Chance>(
     ensures none { OnErr result
         (Row (alloc_costs class.number (seat.new.view.moves - seat.old.view.moves))
         seat.old seat.new) }
+    ensures order { IfGoing result (IsFilledInOrder class.number
+        seat.old.view seat.new.view) }
     ensures drew { next_of seat.old.view < next_of seat.new.view }
     ensures light { IfGoing result (seat.new.view.cuts ≡ seat.old.view.cuts
         → HoldingRow (light_alloc (seat.new.view.moves - seat.old.view.moves))

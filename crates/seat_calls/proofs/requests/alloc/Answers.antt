@@ -1,5 +1,5 @@
 use Rattle.std.proofs.Common.{◌-◌, refl}
-use Rattle.seat_calls.proofs.RequestLemmas.{answers_class, answers_span, class_light, class_none, class_row, span_light, span_none, span_row}
+use Rattle.seat_calls.proofs.RequestLemmas.{answers_class, answers_span, class_light, class_none, class_order, class_row, span_light, span_none, span_order, span_row}
 use Rattle.seat_calls.proofs.requests.alloc.Goals as goal
 
 pub returns-in-Some-clause-answers : goal.returns-in-Some-clause-answers
@@ -25,3 +25,9 @@ returns-in-None-clause-row g c = span_row c.args.bytes (c.alloc_large.new.seat.v
 
 pub returns-in-None-clause-light : goal.returns-in-None-clause-light
 returns-in-None-clause-light g c = span_light c.args.bytes (c.alloc_large.new.seat.view.moves - c.args.seat.now.view.moves) _ c.args.seat.now c.alloc_large.new.seat c.alloc_large.result c.alloc_large.ensures.row
+
+pub returns-in-Some-clause-order : goal.returns-in-Some-clause-order
+returns-in-Some-clause-order g c = class_order c.args.bytes c.in-Some.class.number c.args.seat.now.view c.alloc_small.new.seat.view c.alloc_small.result c.in-Some.ensures.some c.alloc_small.ensures.order
+
+pub returns-in-None-clause-order : goal.returns-in-None-clause-order
+returns-in-None-clause-order g c = span_order c.args.bytes c.args.seat.now.view c.alloc_large.new.seat.view c.alloc_large.result (c.in-None.ensures.none.0 refl)

@@ -4,7 +4,7 @@ use Rattle.core_model.specs.declared.event.Shift.TheVariants.{Alloc}
 use Rattle.seat_rows.proofs.DrawLemmas.{row_of_stop, stops}
 use Rattle.seat_rows.proofs.RowLemmas.{row_of}
 use Rattle.seat_rows.proofs.ShiftLemmas.{shift_row}
-use Rattle.seat_calls.proofs.SmallLemmas.{allocated, on_err}
+use Rattle.seat_calls.proofs.SmallLemmas.{alloc_looks, allocated, on_err}
 use Rattle.seat_calls.proofs.small.alloc_cached.Goals as goal
 
 pub returns-in_err-draw_with-clause-stopped : goal.returns-in_err-draw_with-clause-stopped
@@ -28,3 +28,7 @@ returns-clause-allocated g c = let e = c.draw_with.ensures.event c.requires.goin
 pub returns-clause-row : goal.returns-clause-row
 returns-clause-row g c = let e = c.draw_with.ensures.event c.requires.going in
     shift_row c.args.seat.now c.draw_with.new.seat c.draw_with.ensures.stores e.0 e.1 c.requires.going e.2 (Alloc c.args.class.number) e.3
+
+pub returns-clause-looks : goal.returns-clause-looks
+returns-clause-looks g c = let e = c.draw_with.ensures.event c.requires.going in
+    alloc_looks c.args.seat.now.view e.0 c.draw_with.new.seat.view c.args.class.number e.2 e.1 e.3 c.in_ok-draw_with.ensures.told

@@ -1,6 +1,6 @@
 use Rattle.std.proofs.Common.{arith, subst}
 use Rattle.seat_fill.specs.Refills.{Refills}
-use Rattle.seat_calls.proofs.AllocLemmas.{alloc_light, alloc_row, filled_alloc, full_light, full_row, stopped_row}
+use Rattle.seat_calls.proofs.AllocLemmas.{alloc_light, alloc_row, filled_alloc, full_light, full_row, order_held, order_still, stopped_row}
 use Rattle.seat_calls.proofs.SmallLemmas.{on_err}
 use Rattle.seat_calls.proofs.small.alloc_small.Goals as goal
 
@@ -31,3 +31,12 @@ returns-in_ok-block-in-Filled-clause-row g c = alloc_row c.args.seat.now c.refil
 pub returns-in-Full-clause-drew : goal.returns-in-Full-clause-drew
 returns-in-Full-clause-drew g c = let full = subst (λ filling. Refills c.args.class.number filling c.args.seat.now.view c.refill.new.seat.view) c.in-Full.is c.in_ok-looks.ensures.done in
     let since = full.since in let first = full.class_first in let second = full.free_second in let last = full.last in omega arith
+
+pub returns-then-count-gt0-clause-order : goal.returns-then-count-gt0-clause-order
+returns-then-count-gt0-clause-order g c = order_held c.args.class.number c.args.seat.now c.alloc_cached.new.seat c.alloc_cached.ensures.row
+
+pub returns-in-Full-clause-order : goal.returns-in-Full-clause-order
+returns-in-Full-clause-order g c = c.in_ok-looks.ensures.order
+
+pub returns-in_ok-block-in-Filled-clause-order : goal.returns-in_ok-block-in-Filled-clause-order
+returns-in_ok-block-in-Filled-clause-order g c = order_still c.args.class.number c.args.seat.now.view c.refill.new.seat c.alloc_cached-in-Filled.new.seat c.in_ok-looks.ensures.order c.in_ok-block-in-Filled.ensures.looks c.alloc_cached-in-Filled.ensures.row
