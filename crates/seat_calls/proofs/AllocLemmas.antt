@@ -10,7 +10,7 @@ use Rattle.seat_rows.specs.Costs.{Costs, no_costs, one_draw}
 use Rattle.seat_rows.specs.Rows.{HoldingRow, IsHeldBoth, Row, SameLooks, head_look, next_of, parts}
 use Rattle.seat_rows.proofs.RowLemmas.{but_fewer, holding_within, row_but, row_then, row_within, then_holding}
 use Rattle.seat_calls.specs.Small.{HasAllocated, alloc_costs, light_alloc, with_allocated}
-use Rattle.seat_fill.specs.Refills.{HasFilled, HasSeenEmpty, HasSeenNone, IsFilledInOrder}
+use Rattle.seat_fill.specs.Refills.{HasFilled, HasSeenEmpty, IsFilledInOrder}
 
 -- the costs of filling a cache
 abbrev refill_costs : ℕ → ℕ → Costs
