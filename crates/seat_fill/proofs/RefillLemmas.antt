@@ -29,7 +29,7 @@ use Rattle.seat_lists.specs.Pushes.{HasPushed, IsClaimOf}
 use Rattle.seat_lists.proofs.AnchorLemmas.{claim_added, claim_free, claim_of_class, claim_pushed, claim_still, raw_none}
 use Rattle.seat_rows.specs.Costs.{Costs, IsWithin, no_costs, one_move, one_win}
 use Rattle.seat_rows.specs.Idle.{IsIdle}
-use Rattle.seat_rows.specs.Rows.{Parts, Row, ViewRow, head_look, next_of, parts}
+use Rattle.seat_rows.specs.Rows.{IsKeptOrMade, IsMade, Parts, Row, ViewRow, head_look, next_of, parts}
 use Rattle.seat_rows.proofs.RowLemmas.{row_moves, row_within, view_row_none, view_row_then, view_row_within}
 
 -- a row in which nothing was won or taken
@@ -280,26 +280,51 @@ nothing_left v t w class class_head free_head used is none nothing = record {
   past = subst (λ (k : Setup). k.capacity < used + 1) (ap (λ (p : Parts). p.setup) none.parts_are) nothing.past;
 }
 
+-- a look at the list of the class, and what may have come behind it
+class_looked : (class head : ℕ) (v t w : View) → IsNoneOfClass class head v t → next_of t ≤ next_of w → t.taken ≤ w.taken → IsKeptOrMade t w (head_look t class) (head_look w class) → IsMade (next_of v) (next_of w) v.taken w.taken (head_look w class)
+class_looked class head v t w none next more (inr made) = record {
+  ticket = made.ticket;
+  by = made.by;
+  since = let n = none.row.passes.next in let s = made.since in omega arith;
+  below = made.below;
+  taken_least = let n = none.row.passes.more.taken in let l = made.taken_least in omega arith;
+  taken_most = made.taken_most;
+}
+class_looked class head v t w none next more (inl same) = record {
+  ticket = none.look.ticket;
+  by = ap (λ (l : LastLook). l.ticket) same ∙ none.look.by;
+  since = none.since;
+  below = let l = none.last in omega (arith, l, next);
+  taken_least = let n = none.row.passes.more.taken in let e = ap (λ (l : LastLook). l.taken) same in let k = none.look.taken in omega (arith, n, e, k);
+  taken_most = let e = ap (λ (l : LastLook). l.taken) same in let k = none.look.taken in omega (arith, e, k, more);
+}
+
 -- a filling that cuts nothing takes nothing
 pub order_uncut : {a : Costs} (class : ℕ) (v w : View) → a.cuts ≡ 0 → a.taken ≡ 0 → ViewRow a v w → IsFilledInOrder class v w
-order_uncut class v w none_cut none_taken row = let taken = row.passes.most.taken in let more = row.passes.more.taken in record {
+order_uncut class v w none_cut none_taken row = let taken = row.passes.most.taken in let more = row.passes.more.taken in let cuts = row.passes.most.cuts in record {
+  looked = λ cut. absurd (omega (arith, cuts, cut, none_cut));
   uncut = λ same. omega (arith, taken, more, none_taken);
   fresh = λ rose. absurd (omega (arith, taken, rose, none_taken));
 }
 
 pub order_full : (class : ℕ) (looks : Looks) (v w : View) → IsFull class looks v w → IsFilledInOrder class v w
-order_full class looks v w full = let taken = full.taken in record {
+order_full class looks v w full = let taken = full.taken in let cuts = full.cuts in record {
+  looked = λ cut. absurd (omega (arith, cuts, cut));
   uncut = λ same. taken;
   fresh = λ rose. absurd (omega (arith, taken, rose));
 }
 
 -- a superblock is cut behind looks at the lists
-pub order_cut : {n : ℕ} (class head d : ℕ) (v t x w : View) → IsClass class → IsNoneOfClass class head v t → (t.taken < x.taken → HasSeenNoFree t x) → HasCut d class x w → v.cuts < w.cuts → ViewRow (record no_costs { draws = n; cuts = 1 }) x w
-    → next_of t ≤ next_of x → IsFilledInOrder class v w
-order_cut class head d v t x w is none seen done cut row next = record {
+pub order_cut : {a : Costs} {n : ℕ} (class head d : ℕ) (v t x w : View) → IsClass class → IsNoneOfClass class head v t → (t.taken < x.taken → HasSeenNoFree t x) → HasCut d class x w → v.cuts < w.cuts → ViewRow (record no_costs { draws = n; cuts = 1 }) x w
+    → ViewRow a t x → IsFilledInOrder class v w
+order_cut class head d v t x w is none seen done cut row found = record {
+  looked = λ _. let all = view_row_then t x w found row in class_looked class head v t w none all.passes.next all.passes.more.taken (all.passes.looks.heads class);
   uncut = λ same. absurd (omega (arith, same, cut));
   fresh = λ rose. both (seen (let a = row.passes.most.taken in let b = t_taken in omega (arith, a, b, rose)));
 } where
+  next : next_of t ≤ next_of x
+  next = found.passes.next
+
   t_taken : t.taken ≡ v.taken
   t_taken = let a = none.row.passes.more.taken in let b = none.row.passes.most.taken in omega arith
 

@@ -84,8 +84,9 @@ pub record HasSeenNone (class : ℕ) (v w : View) : Type 0 where
   pub free : HasSeenEmpty 0 v w
   pub order : of_class.made.ticket < free.made.ticket
 
--- a superblock that was never taken is taken to be cut alone, and only where neither list had one
+-- a superblock is cut only behind a look at the list of the class; one that was never taken is taken to be cut alone, and only where neither list had one
 pub record IsFilledInOrder (class : ℕ) (v w : View) : Type 0 where
+  pub looked : v.cuts < w.cuts → IsMade (next_of v) (next_of w) v.taken w.taken (head_look w class)
   pub uncut : w.cuts ≡ v.cuts → w.taken ≡ v.taken
   pub fresh : v.taken < w.taken → HasSeenNone class v w
 

@@ -54,7 +54,7 @@ returns-in_ok-cut-in-Got-clause-order g c = let v = c.args.seat.now.view in let 
     let none : IsNoneOfClass c.args.class.number c.in-Empty.head v t = subst (λ from. FillsFrom c.args.class.number from v t) c.in-Empty.is c.in_ok-fill_from_class.ensures.done in
     order_cut c.args.class.number c.in-Empty.head c.in-Got.d v t x w c.args.class.is none c.in_ok-d.ensures.fresh c.in_ok-cut-in-Got.ensures.cut
     (let a = none.row.passes.more.cuts in let b = c.find_superblock.ensures.row.view.passes.more.cuts in let now = c.in_ok-cut-in-Got.ensures.counted in omega (arith, a, b, now))
-    c.cut.ensures.row.view c.find_superblock.ensures.row.view.passes.next
+    c.cut.ensures.row.view c.find_superblock.ensures.row.view
 
 pub returns-in-Nothing-clause-order : goal.returns-in-Nothing-clause-order
 returns-in-Nothing-clause-order g c = let v = c.args.seat.now.view in let t = c.fill_from_class.new.seat.view in let w = c.find_superblock.new.seat.view in
