@@ -1,24 +1,18 @@
 -- What flushing a cache leaves.
-use Rattle.std.proofs.Common.{◌≡◌, ◌≢◌, ◌<◌, ◌≤◌, ℕ, zero, suc, ◌+◌, ◌-◌, inl, inr, Bool, true, false, cond, nat_eq, nat_lt, List, [], ◌∷◌, ◌++◌, length, set, None, refl, ap, sym, subst, ◌∙◌, eq-eqb, ne_eqb, length-append, arith}
+use Rattle.std.proofs.Common.{◌≡◌, ◌≢◌, ◌<◌, ◌≤◌, ℕ, zero, suc, ◌+◌, ◌-◌, inl, inr, Bool, true, false, cond, nat_eq, List, [], ◌∷◌, ◌++◌, length, set, None, refl, ap, sym, subst, ◌∙◌, eq-eqb, ne_eqb, length-append, arith}
 use Rattle.std.specs.Prelude.{Result, Ok, Err, OnOk}
 use Rattle.std.proofs.lemmas.Bool.{cases_eq}
 use Rattle.std.proofs.lemmas.List.{set-set}
 use Rattle.heap_model.specs.Counting.{times}
 use Rattle.heap_model.specs.Sizes.{IsClass}
 use Rattle.heap_model.specs.Words.{anchor_state, empty_state, partial_state}
-use Rattle.core_model.specs.Effects.{claim_class, last_of, seen_of, seen_word, without_claim}
-use Rattle.core_model.specs.Guards.{IsFreelyClaimed, MayLookAt}
-use Rattle.core_model.specs.Memory.{memory_of, used}
-use Rattle.core_model.specs.View.{Batch, Claim, Setup, View, no_batch, of_class, one_if_some, times_classed, times_raw}
-use Rattle.core_model.proofs.OwnLemmas.{one_at_most}
-use Rattle.core_model.proofs.PlaceLemmas.{not-lt, skip}
-use Rattle.core_model.proofs.TotalLemmas.{eq-eqb-one, total_at}
+use Rattle.core_model.specs.Effects.{last_of, seen_of, seen_word, without_claim}
+use Rattle.core_model.specs.View.{Batch, Claim, Setup, View, no_batch, of_class, one_if_some}
+use Rattle.core_model.proofs.PlaceLemmas.{not-lt}
 use Rattle.heap_table.specs.Plays.{HasSoundState}
 use Rattle.heap_rule.specs.Shown.{CanList, as_free, by_look, of_its_class}
-use Rattle.seat_lists.specs.Pops.{with_claim}
 use Rattle.seat_lists.specs.Pushes.{HasPushed, IsClaimOf}
 use Rattle.seat_lists.proofs.AnchorLemmas.{claim_added, claim_free, claim_of_class, claim_pushed, raw_none}
-use Rattle.seat_lists.proofs.PushLemmas.{freely_still}
 use Rattle.seat_flush.specs.Flushes.{HasFlushed, HasFlushedPrefix, HasListed, HasListedBy, flush_costs, with_cache}
 use Rattle.seat_lists.specs.Anchors.{HasSeenAnchor, anchor_seen}
 use Rattle.seat_flush.specs.Gives.{HasGiven, IsBatchOf, given_parts}
