@@ -7,7 +7,7 @@ use Rattle.seat_lists.specs.Anchors.{HasSeenAnchor}
 use Rattle.seat_rows.specs.Costs.{Costs, no_costs}
 use Rattle.seat_rows.specs.Rows.{Parts, ViewRow, parts}
 
--- it is claimed no more: by its anchor as it was seen, it was moved to the list of the free ones, or put on that of its class
+-- it is claimed no more: by its anchor as it was seen, it was moved to the list of the free ones, or nothing was
 pub record HasListedBy (d anchor : ℕ) (v w : View) : Type 0 where
   pub going : w.stopped ≡ None
   pub parts_are : parts w ≡ record (parts v) { classed = without_claim d v.classed }
