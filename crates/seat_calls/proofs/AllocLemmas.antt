@@ -59,7 +59,7 @@ filled_alloc v t w class b none filled allocated = record {
 -- a draw with a change of the seat's parts looks at no list
 pub order_held : (class : ℕ) (v w : SeatView) → HoldingRow one_draw v w → IsFilledInOrder class v.view w.view
 order_held class v w row = let taken = row.passes.most.taken in let more = row.passes.more.taken in let cuts = row.passes.most.cuts in record {
-  looked = λ cut. absurd (omega (arith, cuts, cut));
+  cut = λ rose. absurd (omega (arith, cuts, rose));
   uncut = λ same. omega (arith, taken, more);
   fresh = λ rose. absurd (omega (arith, taken, rose));
 }
@@ -82,14 +82,7 @@ seen_still list v t w same next seen = record {
 
 pub order_still : (class : ℕ) (v : View) (t w : SeatView) → IsFilledInOrder class v t.view → SameLooks t.view w.view → HoldingRow one_draw t w → IsFilledInOrder class v w.view
 order_still class v t w order same row = let taken = row.passes.most.taken in let more = row.passes.more.taken in let cuts = row.passes.most.cuts in let more_cuts = row.passes.more.cuts in record {
-  looked = λ cut. let m = order.looked (omega (arith, cuts, cut)) in let next = row.passes.next in record {
-    ticket = m.ticket;
-    by = ap (λ (l : LastLook). l.ticket) (looks_still class t.view w.view same) ∙ m.by;
-    since = m.since;
-    below = let b = m.below in omega (arith, b, next);
-    taken_least = let e = ap (λ (l : LastLook). l.taken) (looks_still class t.view w.view same) in let l = m.taken_least in omega (arith, e, l);
-    taken_most = let e = ap (λ (l : LastLook). l.taken) (looks_still class t.view w.view same) in let l = m.taken_most in omega (arith, e, l, more);
-  };
+  cut = λ rose. seen_still class v t.view w.view same row.passes.next (order.cut (omega (arith, cuts, rose)));
   uncut = λ uncut. let before = order.uncut (omega (arith, cuts, more_cuts, uncut)) in omega (arith, taken, more, before);
   fresh = λ rose. let none = order.fresh (omega (arith, taken, rose)) in record {
     of_class = seen_still class v t.view w.view same row.passes.next none.of_class;

@@ -19,7 +19,7 @@ use Rattle.large_block.specs.Fresh.{HasTakenFresh, IsPast}
 use Rattle.seat_fill.specs.declared.refills.FromClass.{FromClass}
 use Rattle.seat_fill.specs.declared.refills.FromClass.TheVariants.{Filled as FilledFromClass, Empty}
 use Rattle.seat_fill.specs.Cuts.{HasCut, with_cut}
-use Rattle.seat_fill.specs.Refills.{FillsFrom, HasFilled, HasFound, HasMoved, HasSeenEmpty, HasSeenNoFree, HasSeenNone, IsFilledInOrder, IsFull, IsLook, IsNoneOfClass, IsNothingFree, fill_costs}
+use Rattle.seat_fill.specs.Refills.{FillsFrom, HasFilled, HasFound, HasMoved, HasSeenEmpty, IsFilledInOrder, KeepsClassLooks, IsFull, IsLook, IsNoneOfClass, IsNothingFree, fill_costs}
 use Rattle.seat_fill.specs.Takes.{HasTakenFree, IsAllFree, with_taken}
 use Rattle.seat_fill.proofs.TakeLemmas.{Taking}
 use Rattle.seat_lists.specs.declared.pops.Pop.{Pop}
@@ -29,7 +29,7 @@ use Rattle.seat_lists.specs.Pushes.{HasPushed, IsClaimOf}
 use Rattle.seat_lists.proofs.AnchorLemmas.{claim_added, claim_free, claim_of_class, claim_pushed, claim_still, raw_none}
 use Rattle.seat_rows.specs.Costs.{Costs, IsWithin, no_costs, one_move, one_win}
 use Rattle.seat_rows.specs.Idle.{IsIdle}
-use Rattle.seat_rows.specs.Rows.{IsKeptOrMade, IsMade, Parts, Row, ViewRow, head_look, next_of, parts}
+use Rattle.seat_rows.specs.Rows.{Parts, Row, SameLooks, ViewRow, head_look, next_of, parts}
 use Rattle.seat_rows.proofs.RowLemmas.{row_moves, row_within, view_row_none, view_row_then, view_row_within}
 
 -- a row in which nothing was won or taken
@@ -199,15 +199,21 @@ seen_empty list word v t w look same is none taken since below = record {
 }
 
 -- the list of the free ones had none
-pub fresh_behind : (v t w : View) (head d : ℕ) → HasSoundState w → IsEmptyList 0 head v t → HasTakenFresh 1 d t w → next_of t ≤ next_of w → HasSeenNoFree v w
-fresh_behind v t w head d has empty got next =
-    let long = looks_long w has in
-    let free : head_look w 0 ≡ looked head t = get_or_default w.head_looks 0 w.used_look (looked head t) (omega arith) ∙ ap (λ looks. get_or looks 0 (looked head t)) got.heads ∙ empty.look in
-    let first = looked_is t (looked head t) head (next_of v) refl empty.later in record {
-      none = seen_empty 0 head v t w (looked head t) free first.0 empty.none empty.taken first.1 (let l = first.2 in omega (arith, next, l));
-      others = λ list less apart. get_or_default w.head_looks list w.used_look t.used_look (omega arith)
-          ∙ ap (λ looks. get_or looks list t.used_look) got.heads ∙ empty.others.heads list apart;
-    }
+module _ (v t w : View) (head d : ℕ) (has : HasSoundState w) (empty : IsEmptyList 0 head v t) (got : HasTakenFresh 1 d t w) where
+  pub fresh_behind : next_of t ≤ next_of w → HasSeenEmpty 0 v w
+  fresh_behind next =
+      let long = looks_long w has in
+      let free : head_look w 0 ≡ looked head t = get_or_default w.head_looks 0 w.used_look t.used_look (omega arith) ∙ ap (λ looks. get_or looks 0 t.used_look) got.heads ∙ empty.look in
+      let first = looked_is t (looked head t) head (next_of v) refl empty.later in
+      seen_empty 0 head v t w (looked head t) free first.0 empty.none empty.taken first.1 (let l = first.2 in omega (arith, next, l))
+
+  pub fresh_others : KeepsClassLooks v w
+  fresh_others list less apart = let long = looks_long w has in
+      get_or_default w.head_looks list w.used_look t.used_look (omega arith) ∙ ap (λ looks. get_or looks list t.used_look) got.heads ∙ empty.others.heads list apart
+
+pub past_others : (v t w : View) (head used : ℕ) → HasSoundState w → IsEmptyList 0 head v t → IsPast 1 used t w → KeepsClassLooks v w
+past_others v t w head used has empty past list less apart = let long = looks_long w has in
+    get_or_default w.head_looks list w.used_look t.used_look (omega arith) ∙ ap (λ looks. get_or looks list t.used_look) past.heads ∙ empty.others.heads list apart
 
 -- neither list nor mark gave a superblock
 pub nothing_free : (v t w : View) (head used : ℕ) → HasSoundState w → ViewRow (record no_costs { draws = 6 }) v w → IsEmptyList 0 head v t → IsPast 1 used t w → IsNothingFree head used v w
@@ -227,7 +233,7 @@ nothing_free v t w head used has row empty past =
       since = first.1;
       order = let a = first.2 in let b = second.1 in omega arith;
       last = second.2;
-      others = λ list less apart. kept list less ∙ empty.others.heads list apart;
+      others = past_others v t w head used has empty past;
       row = row;
     }
 
@@ -280,71 +286,53 @@ nothing_left v t w class class_head free_head used is none nothing = record {
   past = subst (λ (k : Setup). k.capacity < used + 1) (ap (λ (p : Parts). p.setup) none.parts_are) nothing.past;
 }
 
--- a look at the list of the class, and what may have come behind it
-class_looked : (class head : ℕ) (v t w : View) → IsNoneOfClass class head v t → next_of t ≤ next_of w → t.taken ≤ w.taken → IsKeptOrMade t w (head_look t class) (head_look w class) → IsMade (next_of v) (next_of w) v.taken w.taken (head_look w class)
-class_looked class head v t w none next more (inr made) = record {
-  ticket = made.ticket;
-  by = made.by;
-  since = let n = none.row.passes.next in let s = made.since in omega arith;
-  below = made.below;
-  taken_least = let n = none.row.passes.more.taken in let l = made.taken_least in omega arith;
-  taken_most = made.taken_most;
-}
-class_looked class head v t w none next more (inl same) = record {
-  ticket = none.look.ticket;
-  by = ap (λ (l : LastLook). l.ticket) same ∙ none.look.by;
-  since = none.since;
-  below = let l = none.last in omega (arith, l, next);
-  taken_least = let n = none.row.passes.more.taken in let e = ap (λ (l : LastLook). l.taken) same in let k = none.look.taken in omega (arith, n, e, k);
-  taken_most = let e = ap (λ (l : LastLook). l.taken) same in let k = none.look.taken in omega (arith, e, k, more);
-}
-
 -- a filling that cuts nothing takes nothing
 pub order_uncut : {a : Costs} (class : ℕ) (v w : View) → a.cuts ≡ 0 → a.taken ≡ 0 → ViewRow a v w → IsFilledInOrder class v w
 order_uncut class v w none_cut none_taken row = let taken = row.passes.most.taken in let more = row.passes.more.taken in let cuts = row.passes.most.cuts in record {
-  looked = λ cut. absurd (omega (arith, cuts, cut, none_cut));
+  cut = λ rose. absurd (omega (arith, cuts, rose, none_cut));
   uncut = λ same. omega (arith, taken, more, none_taken);
   fresh = λ rose. absurd (omega (arith, taken, rose, none_taken));
 }
 
 pub order_full : (class : ℕ) (looks : Looks) (v w : View) → IsFull class looks v w → IsFilledInOrder class v w
 order_full class looks v w full = let taken = full.taken in let cuts = full.cuts in record {
-  looked = λ cut. absurd (omega (arith, cuts, cut));
+  cut = λ rose. absurd (omega (arith, cuts, rose));
   uncut = λ same. taken;
   fresh = λ rose. absurd (omega (arith, taken, rose));
 }
 
 -- a superblock is cut behind looks at the lists
-pub order_cut : {a : Costs} {n : ℕ} (class head d : ℕ) (v t x w : View) → IsClass class → IsNoneOfClass class head v t → (t.taken < x.taken → HasSeenNoFree t x) → HasCut d class x w → v.cuts < w.cuts → ViewRow (record no_costs { draws = n; cuts = 1 }) x w
-    → ViewRow a t x → IsFilledInOrder class v w
-order_cut class head d v t x w is none seen done cut row found = record {
-  looked = λ _. let all = view_row_then t x w found row in class_looked class head v t w none all.passes.next all.passes.more.taken (all.passes.looks.heads class);
-  uncut = λ same. absurd (omega (arith, same, cut));
-  fresh = λ rose. both (seen (let a = row.passes.most.taken in let b = t_taken in omega (arith, a, b, rose)));
-} where
-  next : next_of t ≤ next_of x
-  next = found.passes.next
-
+module _ {a : Costs} {n : ℕ} (class head : ℕ) (v t x w : View) (none : IsNoneOfClass class head v t) (same : SameLooks x w) (row : ViewRow (record no_costs { draws = n; cuts = 1 }) x w) (found : ViewRow a t x) where
   t_taken : t.taken ≡ v.taken
-  t_taken = let a = none.row.passes.more.taken in let b = none.row.passes.most.taken in omega arith
+  t_taken = let least = none.row.passes.more.taken in let most = none.row.passes.most.taken in omega (arith, least, most)
 
   kept : (list : ℕ) → head_look w list ≡ head_look x list
-  kept list = ap (λ l. get_or l list w.used_look) done.looks.heads ∙ ap (λ u. get_or x.head_looks list u) done.looks.used
+  kept list = ap (λ l. get_or l list w.used_look) same.heads ∙ ap (λ u. get_or x.head_looks list u) same.used
 
-  both : HasSeenNoFree t x → HasSeenNone class v w
-  both free = record {
-    of_class = seen_empty class head v t w (head_look t class) (kept class ∙ free.others class (let last = is.last in omega (arith, last)) (λ zero_class. let some = is.some in omega (arith, some, zero_class))) none.look none.none t_taken none.since
-        (let l = none.last in let n = row.passes.next in omega (arith, l, n, next));
-    free = record {
-      made = let m = free.none.made in record {
-        ticket = m.ticket;
-        by = ap (λ (l : LastLook). l.ticket) (kept 0) ∙ m.by;
-        since = let s = m.since in let l = none.last in let b = none.since in omega (arith, s, l, b);
-        below = let b = m.below in let n = row.passes.next in omega (arith, b, n);
-        taken_least = let e = ap (λ (l : LastLook). l.taken) (kept 0) in let l = m.taken_least in let b = t_taken in omega (arith, e, l, b);
-        taken_most = let e = ap (λ (l : LastLook). l.taken) (kept 0) in let l = m.taken_most in let b = t_taken in omega (arith, e, l, b);
-      };
-      empty = ap head_first (ap (λ (l : LastLook). l.word) (kept 0)) ∙ free.none.empty;
+  abbrev class_empty : IsClass class → KeepsClassLooks t x → HasSeenEmpty class v w
+  class_empty is others = seen_empty class head v t w (head_look t class) (kept class ∙ others class (let last = is.last in omega (arith, last)) (λ zero_class. let some = is.some in omega (arith, some, zero_class))) none.look none.none t_taken none.since
+      (let l = none.last in let p = row.passes.next in let q = found.passes.next in omega (arith, l, p, q))
+
+  abbrev free_empty : HasSeenEmpty 0 t x → HasSeenEmpty 0 v w
+  free_empty free = record {
+    made = let m = free.made in record {
+      ticket = m.ticket;
+      by = ap (λ (l : LastLook). l.ticket) (kept 0) ∙ m.by;
+      since = let s = m.since in let l = none.last in let b = none.since in omega (arith, s, l, b);
+      below = let b = m.below in let p = row.passes.next in omega (arith, b, p);
+      taken_least = let e = ap (λ (l : LastLook). l.taken) (kept 0) in let l = m.taken_least in let b = t_taken in omega (arith, e, l, b);
+      taken_most = let e = ap (λ (l : LastLook). l.taken) (kept 0) in let l = m.taken_most in let b = t_taken in omega (arith, e, l, b);
     };
-    order = let s = free.none.made.since in let l = none.last in omega (arith, s, l);
+    empty = ap head_first (ap (λ (l : LastLook). l.word) (kept 0)) ∙ free.empty;
+  }
+
+  pub order_cut : IsClass class → (t.taken < x.taken → HasSeenEmpty 0 t x) → KeepsClassLooks t x → v.cuts < w.cuts → IsFilledInOrder class v w
+  order_cut is seen others more = record {
+    cut = λ _. class_empty is others;
+    uncut = λ uncut. absurd (omega (arith, uncut, more));
+    fresh = λ rose. let free = seen (let most = row.passes.most.taken in let b = t_taken in omega (arith, most, b, rose)) in record {
+      of_class = class_empty is others;
+      free = free_empty free;
+      order = let s = free.made.since in let l = none.last in omega (arith, s, l);
+    };
   }

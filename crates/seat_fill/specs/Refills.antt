@@ -73,10 +73,9 @@ pub record HasSeenEmpty (list : ℕ) (v w : View) : Type 0 where
   pub made : IsMade (next_of v) (next_of w) v.taken v.taken (head_look w list)
   pub empty : head_first (head_look w list).word ≡ 0
 
--- so did that at the list of the free ones; the last looks at the lists of the classes stay
-pub record HasSeenNoFree (v w : View) : Type 0 where
-  pub none : HasSeenEmpty 0 v w
-  pub others : (list : ℕ) → list < lists → list ≢ 0 → head_look w list ≡ head_look v list
+-- the last looks at the lists of the classes stay
+abbrev pub KeepsClassLooks : View → View → Type 0
+KeepsClassLooks v w = (list : ℕ) → list < lists → list ≢ 0 → head_look w list ≡ head_look v list
 
 -- both lists were found empty, that of the class first
 pub record HasSeenNone (class : ℕ) (v w : View) : Type 0 where
@@ -84,9 +83,9 @@ pub record HasSeenNone (class : ℕ) (v w : View) : Type 0 where
   pub free : HasSeenEmpty 0 v w
   pub order : of_class.made.ticket < free.made.ticket
 
--- a superblock is cut only behind a look at the list of the class; one that was never taken is taken to be cut alone, and only where neither list had one
+-- a superblock is cut only where the list of the class had none; one that was never taken is taken to be cut alone, and only where neither list had one
 pub record IsFilledInOrder (class : ℕ) (v w : View) : Type 0 where
-  pub looked : v.cuts < w.cuts → IsMade (next_of v) (next_of w) v.taken w.taken (head_look w class)
+  pub cut : v.cuts < w.cuts → HasSeenEmpty class v w
   pub uncut : w.cuts ≡ v.cuts → w.taken ≡ v.taken
   pub fresh : v.taken < w.taken → HasSeenNone class v w
 
@@ -109,7 +108,7 @@ pub record IsNothingFree (free_head used : ℕ) (v w : View) : Type 0 where
   pub since : next_of v ≤ free_look.ticket
   pub order : free_look.ticket < used_look.ticket
   pub last : next_of w ≡ used_look.ticket + 1
-  pub others : (list : ℕ) → list < lists → list ≢ 0 → head_look w list ≡ head_look v list
+  pub others : KeepsClassLooks v w
   pub row : ViewRow (record no_costs { draws = 6 }) v w
 
 abbrev pub Finds : Found → View → View → Type 0

@@ -7,7 +7,7 @@ ghost use Rattle.heap_rule.specs.Seated.{IsSeatOf};
 ghost use Rattle.seat_rows.specs.Costs.{no_costs, one_win};
 ghost use Rattle.seat_rows.specs.Idle.{IsIdle};
 ghost use Rattle.seat_rows.specs.Rows.{Row, Stops};
-ghost use Rattle.seat_fill.specs.Refills.{FillsFrom, Finds, HasSeenNoFree, IsFilledInOrder, Refills, TriesFrom};
+ghost use Rattle.seat_fill.specs.Refills.{FillsFrom, Finds, HasSeenEmpty, IsFilledInOrder, KeepsClassLooks, Refills, TriesFrom};
 
 use crate::cuts::cut;
 use crate::takes::take_free_blocks;
@@ -117,7 +117,8 @@ fn find_superblock<C: Chance>(
     requires idle { seat.old.view.raw ≡ [] }
     ensures done { IfOk result (λ found. Finds found seat.old.view seat.new.view) }
     ensures fresh { IfOk result (λ _. seat.old.view.taken < seat.new.view.taken
-        → HasSeenNoFree seat.old.view seat.new.view) }
+        → HasSeenEmpty 0 seat.old.view seat.new.view) }
+    ensures others { IfOk result (λ _. KeepsClassLooks seat.old.view seat.new.view) }
     ensures stopped { IfErr result (λ e. Stops e.step seat.old.view seat.new.view) }
     ensures row { Row (record one_win { draws = 6; taken = 1 }) seat.old seat.new }
     ensures seat { IsSeatOf shared.now seat.new }

@@ -1,8 +1,8 @@
 use Rattle.std.proofs.Common.{subst, arith}
 use Rattle.large_block.specs.Fresh.{HasTakenFresh, IsPast, Takes}
-use Rattle.seat_lists.specs.Pops.{IsEmptyList, Pops}
+use Rattle.seat_lists.specs.Pops.{HasPopped, IsEmptyList, Pops}
 use Rattle.seat_rows.proofs.RowLemmas.{row_then, view_row_then}
-use Rattle.seat_fill.proofs.RefillLemmas.{empty_list_row, fresh_behind, nothing_free, nothing_won}
+use Rattle.seat_fill.proofs.RefillLemmas.{empty_list_row, fresh_behind, fresh_others, nothing_free, nothing_won, past_others}
 use Rattle.seat_fill.proofs.refills.find_superblock.Goals as goal
 
 pub returns-in_err-take-clause-row : goal.returns-in_err-take-clause-row
@@ -39,3 +39,20 @@ returns-in-Past-clause-fresh g c = let v = c.args.seat.now.view in let t = c.pop
     let empty : IsEmptyList 0 c.in-Empty.head v t = subst (λ pop. Pops 0 pop v t) c.in-Empty.is c.in_ok-d.ensures.done in
     let past : IsPast 1 c.in-Past.used t w = subst (λ take. Takes 1 take t w) c.in-Past.is c.in_ok-take.ensures.done in
     absurd (let a = empty.taken in let b = past.taken in omega (arith, a, b, rose))
+
+pub returns-in-Got-clause-others : goal.returns-in-Got-clause-others
+returns-in-Got-clause-others g c = let v = c.args.seat.now.view in let w = c.pop.new.seat.view in
+    let popped : HasPopped 0 c.in-Got.d v w = subst (λ pop. Pops 0 pop v w) c.in-Got.is c.in_ok-d.ensures.done in
+    λ list less apart. popped.others.heads list apart
+
+pub returns-in-Got-take-clause-others : goal.returns-in-Got-take-clause-others
+returns-in-Got-take-clause-others g c = let v = c.args.seat.now.view in let t = c.pop.new.seat.view in let w = c.take_fresh.new.seat.view in
+    let empty : IsEmptyList 0 c.in-Empty.head v t = subst (λ pop. Pops 0 pop v t) c.in-Empty.is c.in_ok-d.ensures.done in
+    let got : HasTakenFresh 1 c.in-Got-take.d t w = subst (λ take. Takes 1 take t w) c.in-Got-take.is c.in_ok-take.ensures.done in
+    fresh_others v t w c.in-Empty.head c.in-Got-take.d c.has_a_sound_state.ensures empty got
+
+pub returns-in-Past-clause-others : goal.returns-in-Past-clause-others
+returns-in-Past-clause-others g c = let v = c.args.seat.now.view in let t = c.pop.new.seat.view in let w = c.take_fresh.new.seat.view in
+    let empty : IsEmptyList 0 c.in-Empty.head v t = subst (λ pop. Pops 0 pop v t) c.in-Empty.is c.in_ok-d.ensures.done in
+    let past : IsPast 1 c.in-Past.used t w = subst (λ take. Takes 1 take t w) c.in-Past.is c.in_ok-take.ensures.done in
+    past_others v t w c.in-Empty.head c.in-Past.used c.has_a_sound_state.ensures empty past
