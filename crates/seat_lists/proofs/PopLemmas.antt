@@ -55,8 +55,8 @@ goes_then v t u p q = record { ran = p.ran; going = q.going; room = p.room; more
 -- the exchange
 won_parts : (list d : ℕ) (v w : View) (ticket : ℕ) (volatile durable : _) → v.stopped ≡ None → v.draws < v.setup.budget
     → w ≡ claimed (record (won (record (drew v ticket) { volatile = volatile; durable = durable })) { seen_head = None; seen_link = None; seen_anchor = cleared d 1 v.seen_anchor }) d list → HasPopped list d v w
-won_parts zero d v w ticket volatile durable going room after = subst (HasPopped zero d v) (sym after) (record { ran = going; going = going; room = room; more = omega arith; parts_are = refl; durable = omega arith; others = record { used = refl; heads = λ other apart. refl } })
-won_parts (suc class) d v w ticket volatile durable going room after = subst (HasPopped (suc class) d v) (sym after) (record { ran = going; going = going; room = room; more = omega arith; parts_are = refl; durable = omega arith; others = record { used = refl; heads = λ other apart. refl } })
+won_parts zero d v w ticket volatile durable going room after = subst (HasPopped zero d v) (sym after) (record { ran = going; going = going; room = room; more = omega arith; parts_are = refl; durable = omega arith; wins = refl; others = record { used = refl; heads = λ other apart. refl } })
+won_parts (suc class) d v w ticket volatile durable going room after = subst (HasPopped (suc class) d v) (sym after) (record { ran = going; going = going; room = room; more = omega arith; parts_are = refl; durable = omega arith; wins = refl; others = record { used = refl; heads = λ other apart. refl } })
 
 add-one : (d : ℕ) → d + 1 ≡ suc d
 add-one d = omega arith
@@ -98,14 +98,15 @@ exchanged v u w list d found won (Err x) drawn row sees event told is = subst (�
 pub claims_alike : (list d : ℕ) (p q : Parts) → p ≡ q → with_claim list d p ≡ with_claim list d q
 claims_alike list d p q same = ap (with_claim list d) same
 
-pub popped_later : {a : Costs} (v t w : View) (list d : ℕ) → v.stopped ≡ None → parts t ≡ parts v → KeepsOtherLooks list v t → ViewRow a v t → HasPopped list d t w → HasPopped list d v w
-popped_later v t w list d ran same others row popped = record {
+pub popped_later : {a : Costs} (v t w : View) (list d : ℕ) → v.stopped ≡ None → parts t ≡ parts v → t.wins ≡ v.wins → KeepsOtherLooks list v t → ViewRow a v t → HasPopped list d t w → HasPopped list d v w
+popped_later v t w list d ran same wins others row popped = record {
   ran = ran;
   going = popped.going;
   room = let r = popped.room in let d = row.passes.more.draws in let k = ap (λ (s : Setup). s.budget) row.passes.setup in omega arith;
   more = let m = popped.more in let d = row.passes.more.draws in omega arith;
   parts_are = popped.parts_are ∙ ap (with_claim list d) same;
   durable = popped.durable;
+  wins = popped.wins ∙ ap (λ n. n + 1) wins;
   others = others_then list v t w others popped.others;
 }
 
@@ -147,7 +148,7 @@ tries_stop list v t w step trying stop = elim trying.fresh [
 ]
 
 pub tries_done : (v t w : View) (list : ℕ) (pop : PopAnswer) → Trying list v t → Pops list pop t w → Pops list pop v w
-tries_done v t w list (Got d) trying popped = popped_later v t w list d (trying.both popped.ran) trying.parts_are trying.others trying.row popped
+tries_done v t w list (Got d) trying popped = popped_later v t w list d (trying.both popped.ran) trying.parts_are trying.wins trying.others trying.row popped
 tries_done v t w list (Empty head) trying empty = record { ran = trying.both empty.ran; going = empty.going; parts_are = empty.parts_are ∙ trying.parts_are; wins = empty.wins ∙ trying.wins; taken = empty.taken ∙ trying.taken; cuts = empty.cuts ∙ trying.cuts; is_seen = empty.is_seen; none = empty.none; look = empty.look; others = others_then list v t w trying.others empty.others; later = let x = trying.row.passes.next in let y = empty.later in omega arith }
 
 pub tries_row : (list : ℕ) (v t w : View) → Trying list v t → ViewRow (record one_win { draws = 3 }) t w → ViewRow (record one_win { draws = 3 }) v w

@@ -71,6 +71,7 @@ pub record HasPopped (list d : ℕ) (v w : View) : Type 0 where
   pub more : v.draws < w.draws
   pub parts_are : parts w ≡ with_claim list d (parts v)
   pub durable : d < w.floor
+  pub wins : w.wins ≡ v.wins + 1
   pub others : KeepsOtherLooks list v w
 
 -- another seat was faster

@@ -42,6 +42,7 @@ returns-then-branch-clause-done g c =
     c.in_ok-head.ensures.seen c.in_ok-look_link.ensures.seen c.head_first-first.ensures c.if-first-eq0.false in
     popped_later c.args.seat.now.view c.look_link.new.seat.view c.pop_seen.new.seat.view c.args.list d
     c.in_ok-head.ensures.seen.goes_on.ran (c.in_ok-look_link.ensures.seen.goes_on.parts_are ∙ c.in_ok-head.ensures.seen.goes_on.parts_are)
+    (c.in_ok-look_link.ensures.seen.goes_on.wins ∙ c.in_ok-head.ensures.seen.goes_on.wins)
     (others_then c.args.list c.args.seat.now.view c.look_list.new.seat.view c.look_link.new.seat.view c.in_ok-head.ensures.seen.others (c.in_ok-look_link.ensures.seen.others c.args.list))
     (row_then c.args.seat.now c.look_list.new.seat c.look_link.new.seat c.look_list.ensures.row c.look_link.ensures.row).view
     (subst (λ won. Exchanges c.args.list d won c.look_link.new.seat.view c.pop_seen.new.seat.view) c.if-branch.true (c.in_ok-pop_seen.ensures.done c.args.list d sees))
