@@ -41,6 +41,7 @@ pub record HasMarked (n used : ℕ) (v w : View) : Type 0 where
   pub room : used + n ≤ v.setup.capacity
   pub blank : AreBlankFrom used n w
   pub look : w.used_look ≡ v.used_look
+  pub wins : w.wins ≡ v.wins + 1
   pub heads : w.head_looks ≡ v.head_looks
   pub later : next_of v ≤ next_of w
 
@@ -68,6 +69,7 @@ pub record HasKept (used : ℕ) (v w : View) : Type 0 where
   pub durable : used ≤ w.floor
   pub blank : (d n : ℕ) → ((e : ℕ) → d ≤ e → e < d + n → 0 < times_raw e v) → AreBlankFrom d n v → AreBlankFrom d n w
   pub look : w.used_look ≡ v.used_look
+  pub wins : w.wins ≡ v.wins
   pub heads : w.head_looks ≡ v.head_looks
   pub later : next_of v ≤ next_of w
 
@@ -80,6 +82,7 @@ pub record HasTakenFresh (n d : ℕ) (v w : View) : Type 0 where
   pub room : d + n ≤ v.setup.capacity
   pub seen : w.used_look.word ≡ d
   pub made : IsMade (next_of v) (next_of w) v.taken v.taken w.used_look
+  pub wins : w.wins ≡ v.wins + 1
   pub heads : w.head_looks ≡ v.head_looks
 
 -- the mark, as read at the last step, left no room for n more; nothing was won
