@@ -60,6 +60,7 @@ filled_alloc v t w class b none filled allocated = record {
 pub order_held : (class : ℕ) (v w : SeatView) → HoldingRow one_draw v w → IsFilledInOrder class v.view w.view
 order_held class v w row = let taken = row.passes.most.taken in let more = row.passes.more.taken in let cuts = row.passes.most.cuts in record {
   cut = λ rose. absurd (omega (arith, cuts, rose));
+  claimed = λ rose. absurd (omega (arith, cuts, rose));
   uncut = λ same. omega (arith, taken, more);
   fresh = λ rose. absurd (omega (arith, taken, rose));
 }
@@ -83,6 +84,8 @@ seen_still list v t w same next seen = record {
 pub order_still : (class : ℕ) (v : View) (t w : SeatView) → IsFilledInOrder class v t.view → SameLooks t.view w.view → HoldingRow one_draw t w → IsFilledInOrder class v w.view
 order_still class v t w order same row = let taken = row.passes.most.taken in let more = row.passes.more.taken in let cuts = row.passes.most.cuts in let more_cuts = row.passes.more.cuts in record {
   cut = λ rose. seen_still class v t.view w.view same row.passes.next (order.cut (omega (arith, cuts, rose)));
+  claimed = λ rose. let won = order.claimed (omega (arith, cuts, rose)) in let e = ap (λ (l : LastLook). l.wins) (looks_still class t.view w.view same) in
+      let least = row.passes.more.wins in let most = row.passes.most.wins in let moved = row.passes.most.moves in omega (arith, won, e, least, most, moved);
   uncut = λ uncut. let before = order.uncut (omega (arith, cuts, more_cuts, uncut)) in omega (arith, taken, more, before);
   fresh = λ rose. let none = order.fresh (omega (arith, taken, rose)) in record {
     of_class = seen_still class v t.view w.view same row.passes.next none.of_class;

@@ -290,6 +290,7 @@ nothing_left v t w class class_head free_head used is none nothing = record {
 pub order_uncut : {a : Costs} (class : ℕ) (v w : View) → a.cuts ≡ 0 → a.taken ≡ 0 → ViewRow a v w → IsFilledInOrder class v w
 order_uncut class v w none_cut none_taken row = let taken = row.passes.most.taken in let more = row.passes.more.taken in let cuts = row.passes.most.cuts in record {
   cut = λ rose. absurd (omega (arith, cuts, rose, none_cut));
+  claimed = λ rose. absurd (omega (arith, cuts, rose, none_cut));
   uncut = λ same. omega (arith, taken, more, none_taken);
   fresh = λ rose. absurd (omega (arith, taken, rose, none_taken));
 }
@@ -297,6 +298,7 @@ order_uncut class v w none_cut none_taken row = let taken = row.passes.most.take
 pub order_full : (class : ℕ) (looks : Looks) (v w : View) → IsFull class looks v w → IsFilledInOrder class v w
 order_full class looks v w full = let taken = full.taken in let cuts = full.cuts in record {
   cut = λ rose. absurd (omega (arith, cuts, rose));
+  claimed = λ rose. absurd (omega (arith, cuts, rose));
   uncut = λ same. taken;
   fresh = λ rose. absurd (omega (arith, taken, rose));
 }
@@ -309,8 +311,11 @@ module _ {a : Costs} {n : ℕ} (class head : ℕ) (v t x w : View) (none : IsNon
   kept : (list : ℕ) → head_look w list ≡ head_look x list
   kept list = ap (λ l. get_or l list w.used_look) same.heads ∙ ap (λ u. get_or x.head_looks list u) same.used
 
+  class_kept : IsClass class → KeepsClassLooks t x → head_look w class ≡ head_look t class
+  class_kept is others = kept class ∙ others class (let last = is.last in omega (arith, last)) (λ zero_class. let some = is.some in omega (arith, some, zero_class))
+
   abbrev class_empty : IsClass class → KeepsClassLooks t x → HasSeenEmpty class v w
-  class_empty is others = seen_empty class head v t w (head_look t class) (kept class ∙ others class (let last = is.last in omega (arith, last)) (λ zero_class. let some = is.some in omega (arith, some, zero_class))) none.look none.none t_taken none.since
+  class_empty is others = seen_empty class head v t w (head_look t class) (class_kept is others) none.look none.none t_taken none.since
       (let l = none.last in let p = row.passes.next in let q = found.passes.next in omega (arith, l, p, q))
 
   abbrev free_empty : HasSeenEmpty 0 t x → HasSeenEmpty 0 v w
@@ -326,9 +331,10 @@ module _ {a : Costs} {n : ℕ} (class head : ℕ) (v t x w : View) (none : IsNon
     empty = ap head_first (ap (λ (l : LastLook). l.word) (kept 0)) ∙ free.empty;
   }
 
-  pub order_cut : IsClass class → (t.taken < x.taken → HasSeenEmpty 0 t x) → KeepsClassLooks t x → v.cuts < w.cuts → IsFilledInOrder class v w
-  order_cut is seen others more = record {
+  pub order_cut : IsClass class → x.wins ≡ t.wins + 1 → (t.taken < x.taken → HasSeenEmpty 0 t x) → KeepsClassLooks t x → v.cuts < w.cuts → IsFilledInOrder class v w
+  order_cut is won seen others more = record {
     cut = λ _. class_empty is others;
+    claimed = λ _. let e = ap (λ (l : LastLook). l.wins) (class_kept is others) in let k = none.look.wins in let least = row.passes.more.wins in let most = row.passes.most.wins in let moved = row.passes.most.moves in omega (arith, won, e, k, least, most, moved);
     uncut = λ uncut. absurd (omega (arith, uncut, more));
     fresh = λ rose. let free = seen (let most = row.passes.most.taken in let b = t_taken in omega (arith, most, b, rose)) in record {
       of_class = class_empty is others;

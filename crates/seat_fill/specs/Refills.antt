@@ -83,9 +83,10 @@ pub record HasSeenNone (class : ℕ) (v w : View) : Type 0 where
   pub free : HasSeenEmpty 0 v w
   pub order : of_class.made.ticket < free.made.ticket
 
--- a superblock is cut only where the list of the class had none; one that was never taken is taken to be cut alone, and only where neither list had one
+-- a superblock is cut only where the list of the class had none, and since then one exchange was won, by which it was claimed; one that was never taken is taken to be cut alone, and only where neither list had one
 pub record IsFilledInOrder (class : ℕ) (v w : View) : Type 0 where
   pub cut : v.cuts < w.cuts → HasSeenEmpty class v w
+  pub claimed : v.cuts < w.cuts → w.wins ≡ (head_look w class).wins + 1
   pub uncut : w.cuts ≡ v.cuts → w.taken ≡ v.taken
   pub fresh : v.taken < w.taken → HasSeenNone class v w
 
@@ -94,6 +95,7 @@ pub record HasFound (d : ℕ) (v w : View) : Type 0 where
   pub going : w.stopped ≡ None
   pub parts_are : parts w ≡ with_claim 0 d (parts v)
   pub durable : d < w.floor
+  pub wins : w.wins ≡ v.wins + 1
 
 -- the list of the free ones was empty and the mark past, as the last looks at them say; nothing was won
 pub record IsNothingFree (free_head used : ℕ) (v w : View) : Type 0 where

@@ -52,7 +52,7 @@ returns-in-Filled-clause-order g c = let v = c.args.seat.now.view in let w = c.f
 pub returns-in_ok-cut-in-Got-clause-order : goal.returns-in_ok-cut-in-Got-clause-order
 returns-in_ok-cut-in-Got-clause-order g c = let v = c.args.seat.now.view in let t = c.fill_from_class.new.seat.view in let x = c.find_superblock.new.seat.view in let w = c.cut.new.seat.view in
     let none : IsNoneOfClass c.args.class.number c.in-Empty.head v t = subst (λ from. FillsFrom c.args.class.number from v t) c.in-Empty.is c.in_ok-fill_from_class.ensures.done in
-    order_cut c.args.class.number c.in-Empty.head v t x w none c.in_ok-cut-in-Got.ensures.cut.looks c.cut.ensures.row.view c.find_superblock.ensures.row.view c.args.class.is c.in_ok-d.ensures.fresh c.in_ok-d.ensures.others
+    order_cut c.args.class.number c.in-Empty.head v t x w none c.in_ok-cut-in-Got.ensures.cut.looks c.cut.ensures.row.view c.find_superblock.ensures.row.view c.args.class.is (subst (λ found. Finds found t x) c.in-Got.is c.in_ok-d.ensures.done).wins c.in_ok-d.ensures.fresh c.in_ok-d.ensures.others
     (let a = none.row.passes.more.cuts in let b = c.find_superblock.ensures.row.view.passes.more.cuts in let now = c.in_ok-cut-in-Got.ensures.counted in omega (arith, a, b, now))
 
 pub returns-in-Nothing-clause-order : goal.returns-in-Nothing-clause-order
