@@ -1,0 +1,124 @@
+//! Seats with the blocks that they were given.
+
+ghost use Rattle.std.specs.Prelude.{◌≡◌, ◌++◌, ◌∷◌, [], OnOk, false};
+ghost use Rattle.cache_scenes.specs.Holding.{Holds, IsNoneOf};
+
+use heap_seat::{AllocFault, HeapSeat};
+use line_memory::Stopped;
+use std::alloc::AllocError;
+use super_block::Block;
+
+/// Why a seat goes no further in a scene.
+#[derive(Clone, Copy, PartialEq, Eq, Debug)]
+pub enum Halt {
+    /// Its request was not granted.
+    Refused(AllocFault),
+    /// It has stopped.
+    Stopped(Stopped),
+    /// It has no such block.
+    NoBlock,
+    /// It was given a block twice.
+    Twice,
+    /// Memory ran out.
+    NoMemory,
+}
+
+impl From<Stopped> for Halt {
+    fn from(stopped: Stopped) -> Halt {
+        Halt::Stopped(stopped)
+    }
+}
+
+impl From<AllocError> for Halt {
+    fn from(_error: AllocError) -> Halt {
+        Halt::NoMemory
+    }
+}
+
+/// Adds a block.
+fn push_block(given: &mut Vec<Block>, b: Block) -> Result<(), AllocError>
+    ensures { OnOk result (given.new.items ≡ given.old.items ++ b ∷ []) }
+{
+    Ok(given.push(b)?)
+}
+
+/// Asks for so many bytes, and keeps the block if it is given.
+pub fn take<H: HeapSeat>(
+    seat: &mut H,
+    given: &mut Vec<Block>,
+    bytes: u64,
+) -> Result<Result<Block, AllocFault>, Halt>
+    requires { Holds (H.view seat.old).held given.old.items }
+    ensures holds { OnOk result (Holds (H.view seat.new).held given.new.items) }
+    ensures kept { H.keeps seat.old seat.new }
+{
+    let answer = seat.alloc(bytes);
+    if let Ok(b) = answer {
+        push_block(given, b)?;
+    }
+    Ok(answer)
+}
+
+/// Asks so often for so many bytes, which are given each time.
+pub fn take_all<H: HeapSeat>(
+    seat: &mut H,
+    given: &mut Vec<Block>,
+    bytes: u64,
+    count: u64,
+) -> Result<(), Halt>
+    requires { Holds (H.view seat.old).held given.old.items }
+    ensures holds { OnOk result (Holds (H.view seat.new).held given.new.items) }
+    ensures kept { H.keeps seat.old seat.new }
+{
+    for _nth in 0..count {
+        if let Err(fault) = take(seat, given, bytes)? {
+            return Err(Halt::Refused(fault));
+        }
+    }
+    Ok(())
+}
+
+/// Whether the block is one of these.
+fn is_among(b: Block, given: &[Block]) -> bool
+    ensures { result ≡ false → IsNoneOf b given.now }
+{
+    given.contains(&b)
+}
+
+/// Frees one of the blocks that were given, which is given no more.
+pub fn give_back<H: HeapSeat>(
+    seat: &mut H,
+    given: &mut Vec<Block>,
+    index: usize,
+) -> Result<(), Halt>
+    requires { Holds (H.view seat.old).held given.old.items }
+    ensures holds { OnOk result (Holds (H.view seat.new).held given.new.items) }
+    ensures kept { H.keeps seat.old seat.new }
+{
+    if index >= given.len() {
+        return Err(Halt::NoBlock);
+    }
+    let b = given.swap_remove(index);
+    if is_among(b, given) {
+        return Err(Halt::Twice);
+    }
+    seat.free(b)?;
+    Ok(())
+}
+
+/// Frees so many of the blocks, the last ones first.
+pub fn give_back_last<H: HeapSeat>(
+    seat: &mut H,
+    given: &mut Vec<Block>,
+    count: u64,
+) -> Result<(), Halt>
+    requires { Holds (H.view seat.old).held given.old.items }
+    ensures holds { OnOk result (Holds (H.view seat.new).held given.new.items) }
+    ensures kept { H.keeps seat.old seat.new }
+{
+    for _nth in 0..count {
+        let last = given.len().saturating_sub(1);
+        give_back(seat, given, last)?;
+    }
+    Ok(())
+}

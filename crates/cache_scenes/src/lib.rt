@@ -1,0 +1,20 @@
+//! Tests of a seat that allocates by caches: what it gives and refuses, beside another seat of the
+//! same heap, and what is left where it stops.
+#![tactic(auto)]
+
+#[cfg(test)]
+mod classes;
+#[cfg(test)]
+mod fixtures;
+#[cfg(test)]
+mod holders;
+#[cfg(test)]
+mod neighbours;
+#[cfg(test)]
+mod publishing;
+#[cfg(test)]
+mod scripts;
+#[cfg(test)]
+mod stopping;
+#[cfg(test)]
+mod walking;
