@@ -1,5 +1,5 @@
 //! Tests of calls over seats that other tests do not reach: the list of free superblocks, the flush
-//! of a cache, a seat that allocates by caches, and marks by number.
+//! of a cache, and marks by number.
 #![tactic(auto)]
 
 #[cfg(test)]
