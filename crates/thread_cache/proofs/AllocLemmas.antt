@@ -24,7 +24,7 @@ use Rattle.seat_rows.specs.Idle.{HasShortCaches, IsIdle}
 use Rattle.seat_rows.specs.Rows.{HoldingRow, IsHeldBoth, Parts, Passes, Row, RowBut, Stops, head_look, next_of, parts}
 use Rattle.seat_rows.specs.Words.{IsDurableAt, IsHeldWord, KeepsWord as KeepsRowWord}
 use Rattle.seat_rows.proofs.RowLemmas.{not_both}
-use Rattle.seat_fill.specs.Refills.{IsFull, IsLook}
+use Rattle.seat_fill.specs.Refills.{IsFilledInOrder, IsFull, IsLook}
 use Rattle.seat_calls.specs.Large.{HasAllocatedLarge, HasNoRoom}
 use Rattle.seat_calls.specs.Requests.{Answers, IsGranted, IsRefused, by_class, by_span, light_request, request_costs}
 use Rattle.seat_calls.specs.Small.{HasAllocated, IfGoing}
@@ -200,15 +200,20 @@ module _ (bytes : ℕ) (s : CacheState) (x y : SeatView) (n : CallCounts) (step 
       let passes : Passes (light_request bytes moves) s.view y.view = at_state (λ v. Passes (light_request bytes moves) v y.view) s x step.was (light (cuts ∙ ap (λ (v : View). v.cuts) (sym step.was.view))).passes in
       let d = passes.most.draws in let l = passes.more.losses in omega arith
 
-  pub alloc_room : (moves : ℕ) (result : Result Block AllocFault) → Answers bytes result x.view y.view → IfGoing result (y.view.cuts ≡ x.view.cuts → HoldingRow (light_request bytes moves) x y) → OnOk result (IsServed bytes s.view y.view)
-  alloc_room moves (Ok b) answers light = record { light = light_by light; large = by_kind (answers_state (Ok b) answers) } where
+  pub alloc_room : (moves : ℕ) (result : Result Block AllocFault) → Answers bytes result x.view y.view → IfGoing result (y.view.cuts ≡ x.view.cuts → HoldingRow (light_request bytes moves) x y)
+      → IfGoing result ((class : ℕ) → IsLeastClassFor bytes class → IsFilledInOrder class x.view y.view) → OnOk result (IsServed bytes s.view y.view)
+  alloc_room moves (Ok b) answers light order = record {
+    light = light_by light;
+    order = λ class least. at_state (λ v. IsFilledInOrder class v y.view) s x step.was (order class least);
+    large = by_kind (answers_state (Ok b) answers);
+  } where
     by_kind : IsGranted bytes b s.view y.view → largest_small < bytes → HasSeenRoom bytes s.view y.view
     by_kind (by_class class least allocated) large = absurd (let small = least_small bytes class least in omega arith)
     by_kind (by_span is allocated) large = record {
       made = allocated.made;
       room = let seen = allocated.seen in let room = allocated.room in let capacity = ap (λ (p : Parts). p.setup.capacity) allocated.parts_are in omega arith;
     }
-  alloc_room moves (Err fault) answers light = tt
+  alloc_room moves (Err fault) answers light order = tt
 
   pub alloc_none : (moves : ℕ) (result : Result Block AllocFault) → Answers bytes result x.view y.view → IfGoing result (y.view.cuts ≡ x.view.cuts → HoldingRow (light_request bytes moves) x y)
       → IfErr result (λ fault. (looks : Looks) → fault ≡ Full looks → IsTurnedAway bytes looks s.view y.view)

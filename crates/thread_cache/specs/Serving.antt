@@ -4,7 +4,7 @@ use Rattle.heap_model.specs.Sizes.{IsLeastClassFor, largest_small, span_of}
 use Rattle.heap_seat.specs.declared.fault.Looks.{Looks}
 use Rattle.core_model.specs.View.{View, of_class}
 use Rattle.seat_calls.specs.Large.{HasNoRoom}
-use Rattle.seat_fill.specs.Refills.{IsFull}
+use Rattle.seat_fill.specs.Refills.{IsFilledInOrder, IsFull}
 use Rattle.seat_rows.specs.Rows.{IsMade, next_of, parts}
 
 -- a call that cuts, gives and takes nothing, and holds or frees no large block, draws 64 tickets at most, and 16 for each lost exchange and each superblock that it moves
@@ -17,9 +17,10 @@ pub record HasSeenRoom (bytes : ℕ) (v w : View) : Type 0 where
   pub made : IsMade (next_of v) (next_of w) v.taken v.taken w.used_look
   pub room : w.used_look.word + span_of bytes ≤ w.setup.capacity
 
--- a granted request
+-- a granted request; one of a class filled its cache in order
 pub record IsServed (bytes : ℕ) (v w : View) : Type 0 where
   pub light : IsLight v w
+  pub order : (class : ℕ) → IsLeastClassFor bytes class → IsFilledInOrder class v w
   pub large : largest_small < bytes → HasSeenRoom bytes v w
 
 -- a refused request: of a class, whose cache is empty, it found both lists empty and the mark past, in this order, and won no exchange from the first of these looks on; one that is too large for a class found the mark past, and won none at all; the seat has what it had, and cut nothing
