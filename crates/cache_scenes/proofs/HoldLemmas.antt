@@ -1,5 +1,5 @@
 -- What the seats of the tests are at first, and what each call leaves of what they hold.
-use Rattle.std.proofs.Common.{◌≡◌, ◌<◌, ℕ, zero, suc, List, [], ◌∷◌, ◌++◌, Contains, length, get_or, replicate, inl, inr, ap, sym, subst, ◌∙◌, arith}
+use Rattle.std.proofs.Common.{◌≡◌, ◌<◌, ◌≤◌, ℕ, zero, suc, List, [], ◌∷◌, ◌++◌, Contains, length, get_or, replicate, inl, inr, ap, sym, subst, ◌∙◌, arith}
 use Rattle.std.specs.List.{swap_remove}
 use Rattle.std.specs.List.Sorted.{IsPermutation}
 use Rattle.std.proofs.lemmas.List.Elements.{Contains-append_left, Contains-append_right}
@@ -29,12 +29,12 @@ holds_less given left b i v w frees none less at is holds = record {
   moves : IsPermutation given (b ∷ left)
   moves = subst (λ l. IsPermutation given (b ∷ l)) (sym is) (IsPermutation-swap_remove given i b less at)
 
--- the owners of all are the first seat
-pub all_first : (owner n : ℕ) → Contains (replicate n 0) owner → owner < 2
-all_first owner zero has = absurd (in_none owner has)
-all_first owner (suc n) has = elim (head_or_rest 0 owner (replicate n 0) has) [
-  | inl same ↦ omega (arith, same)
-  | inr later ↦ all_first owner n later
+-- the owners of all are the first seat, of so many
+pub all_first : (owner n seats : ℕ) → 1 ≤ seats → Contains (replicate n 0) owner → owner < seats
+all_first owner zero seats some has = absurd (in_none owner has)
+all_first owner (suc n) seats some has = elim (head_or_rest 0 owner (replicate n 0) has) [
+  | inl same ↦ omega (arith, same, some)
+  | inr later ↦ all_first owner n seats some later
 ]
 
 -- the last of all seats, and the last but one

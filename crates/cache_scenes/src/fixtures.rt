@@ -26,7 +26,7 @@ pub fn recovery(alloc: Global, image: &[u64]) -> Result<Recovered, RecoverFault>
 
 /// What recovery makes of an empty image of so many superblocks.
 #[tactic(auto, unfolding(heap_model::specs::Geometry::largest_capacity))]
-fn recovered(alloc: Global, capacity: u64) -> Result<Ready, Fail>
+pub fn recovered(alloc: Global, capacity: u64) -> Result<Ready, Fail>
     requires some { 1 ≤ capacity }
     requires small { capacity ≤ 32 }
 {

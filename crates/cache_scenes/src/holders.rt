@@ -19,6 +19,8 @@ pub enum Halt {
     NoBlock,
     /// It was given a block twice.
     Twice,
+    /// A word of its block has another value than it stored there.
+    Overwritten,
     /// Memory ran out.
     NoMemory,
 }

@@ -5,6 +5,8 @@
 #[cfg(test)]
 mod classes;
 #[cfg(test)]
+mod dice;
+#[cfg(test)]
 mod fixtures;
 #[cfg(test)]
 mod holders;
@@ -16,5 +18,7 @@ mod publishing;
 mod scripts;
 #[cfg(test)]
 mod stopping;
+#[cfg(test)]
+mod threading;
 #[cfg(test)]
 mod walking;

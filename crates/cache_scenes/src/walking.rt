@@ -1,17 +1,15 @@
 //! A walk of two seats by turns, with blocks of random classes.
 
-ghost use Rattle.std.specs.Prelude.{◌<◌, OnOk};
+ghost use Rattle.std.specs.Prelude.{OnOk};
 ghost use Rattle.seat_view.specs.CacheState.{heap_view};
 ghost use Rattle.cache_scenes.specs.Holding.{Holds};
 
+use crate::dice::Dice;
 use crate::fixtures::{MANY, pair};
 use crate::holders::{give_back, give_back_last, take};
 use crate::scripts::{Holder, holder_of, play};
 use heap_seat::HeapSeat;
 use line_memory::ConstantChance;
-use rand_core::Rng;
-use rand_pcg::Lcg64Xsh32;
-use size_table::{LAST_CLASS, size_of};
 use std::alloc::Global;
 use std::test::Fail;
 use super_block::Block;
@@ -20,37 +18,8 @@ use thread_cache::CacheSeat;
 /// How many steps the walk has.
 const STEPS: u64 = 3_000;
 
-/// The least class that is drawn: superblocks of smaller ones have many blocks.
-const LEAST_CLASS: u8 = 12;
-
-/// How many classes there are from that one on.
-const CLASSES: u64 = (LAST_CLASS - LEAST_CLASS) as u64 + 1;
-
 /// The most blocks that a seat holds.
 const MOST: u64 = 8;
-
-/// A source of numbers.
-#[derive(Drop)]
-struct Dice {
-    generator: Lcg64Xsh32,
-}
-
-impl Dice {
-    /// The numbers that follow from the seed.
-    fn new(seed: u64) -> Dice {
-        Dice {
-            generator: Lcg64Xsh32::new(seed, 0),
-        }
-    }
-
-    /// A number below a bound.
-    fn below(&mut self, bound: u64) -> u64
-        requires { 0 < bound }
-        ensures { result < bound }
-    {
-        self.generator.next_u64() % bound
-    }
-}
 
 /// Whether no word is of both blocks.
 fn are_apart(a: Block, b: Block) -> bool {
@@ -59,7 +28,7 @@ fn are_apart(a: Block, b: Block) -> bool {
 }
 
 /// Whether the block is apart from each of these.
-fn is_apart(b: Block, others: &[Block]) -> bool {
+pub fn is_apart(b: Block, others: &[Block]) -> bool {
     for other in others {
         if !are_apart(b, *other) {
             return false;
@@ -91,8 +60,7 @@ fn step<H: HeapSeat>(
     if drawn < given.len() {
         give_back(seat, given, drawn)?;
     } else {
-        let class = LEAST_CLASS + dice.below(CLASSES) as u8;
-        let _answer = take(seat, given, size_of(class))?;
+        let _answer = take(seat, given, dice.size())?;
     }
     Ok(last_is_apart(given, others))
 }
