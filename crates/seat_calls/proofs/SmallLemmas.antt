@@ -30,7 +30,9 @@ use Rattle.heap_rule.proofs.SettleLemmas.{own_index}
 use Rattle.heap_rule.proofs.StoredLemmas.{of_none}
 use Rattle.heap_rule.proofs.ViewLemmas.{block_once, block_range}
 use Rattle.heap_table.specs.Plays.{HasSoundState, IsEvent}
-use Rattle.seat_flush.specs.Flushes.{HasFlushed, flush_costs, with_cache}
+use Rattle.seat_flush.specs.Flushes.{HasFlushed, cache_costs, cache_runs, with_cache}
+use Rattle.seat_flush.specs.Runs.{runs_of}
+use Rattle.seat_flush.proofs.RunLemmas.{runs_few}
 use Rattle.seat_lists.proofs.PopLemmas.{drawn_as, still_owns}
 use Rattle.seat_rows.specs.Costs.{Costs, IsWithin, no_costs, one_draw}
 use Rattle.seat_rows.specs.Draws.{Settles}
@@ -237,17 +239,22 @@ module _ (v t : View) (has : HasSoundState v) (class block : ℕ) (is : IsClass 
     kept = λ less. refl;
     flushed = λ more. absurd (let m = one_more in omega (arith, few, more));
     gave = λ more. absurd (let m = one_more in omega (arith, few, more));
+    gives = λ more. absurd (let m = one_more in omega (arith, few, more));
     short = let m = one_more in omega (arith, few);
     parts_are = cached.parts_are;
   }
 
-  pub freed_flushed : (w : View) → v.gives ≤ t.gives → blocks_of class ≤ length (of_class t.caches class) → HasFlushed class t w → HasFreed block class v w
-  freed_flushed w before many flushed = record {
+  same_runs : cache_runs t class ≡ runs_of v.setup.capacity (block ∷ of_class v.caches class)
+  same_runs = ap (λ (p : Parts). runs_of p.setup.capacity (of_class t.caches class)) cached.parts_are ∙ ap (runs_of v.setup.capacity) cache_is
+
+  pub freed_flushed : (w : View) → v.gives ≤ t.gives → t.gives ≤ v.gives + 0 → blocks_of class ≤ length (of_class t.caches class) → HasFlushed class t w → HasFreed block class v w
+  freed_flushed w before none many flushed = record {
     going = flushed.going;
     cache = [];
     kept = λ less. absurd (let m = one_more in omega (arith, many, less));
     flushed = λ more. refl;
     gave = λ more. let four = four_blocks class is in let now = flushed.gave (omega (arith, many)) in omega (arith, before, now);
+    gives = λ more. let now = flushed.gives in let r = same_runs in omega (arith, before, none, now);
     short = let four = four_blocks class is in omega arith;
     parts_are = flushed.parts_are ∙ ap (with_cache class []) cached.parts_are
         ∙ ap (λ l. record (with_freed class block [] (parts v)) { caches = l }) (set-set v.caches class (block ∷ of_class v.caches class) []);
@@ -263,12 +270,12 @@ freed_behind v w x class block may row = record {
 }
 
 -- a free, and the flush behind it
-pub flushed_row : (v t w : SeatView) (has : HasSoundState v.view) (class block n : ℕ) (is : IsClass class) (held : 0 < times block (of_class v.view.small class)) → MayHaveFreed block class v.view t.view → n ≤ blocks_of class
-    → RowBut (IsHeldOutside v.view (block_of class block)) (record no_costs { draws = 2 }) v t → Row (flush_costs n) t w → RowBut (IsHeldOutside v.view (block_of class block)) (free_costs (blocks_of class)) v w
-flushed_row v t w has class block n is held may few row flush =
+pub flushed_row : (v t w : SeatView) (has : HasSoundState v.view) (class block : ℕ) (is : IsClass class) (held : 0 < times block (of_class v.view.small class)) → MayHaveFreed block class v.view t.view → length (of_class t.view.caches class) ≤ blocks_of class
+    → RowBut (IsHeldOutside v.view (block_of class block)) (record no_costs { draws = 2 }) v t → Row (cache_costs t.view class) t w → RowBut (IsHeldOutside v.view (block_of class block)) (free_costs (blocks_of class)) v w
+flushed_row v t w has class block is held may few row flush = let runs = runs_few t.view.setup.capacity (of_class t.view.caches class) in
     but_fewer Kept (free_costs (blocks_of class)) v w (λ k kept. kept)
     (record { draws = omega (arith, few); wins = omega (arith, few); gives = omega (arith, few); cuts = omega arith; taken = omega arith; moves = omega (arith, few) })
-    (but_then v t w row (but_fewer Kept (flush_costs n) t w
+    (but_then v t w row (but_fewer Kept (cache_costs t.view class) t w
     (λ k kept. held_outside v.view class block (class_below v.view has class is) held t.view row.passes.setup row.passes.roots may k kept) within_itself (row_but t w flush))) where
       Kept : ℕ → Type 0
       Kept = IsHeldOutside v.view (block_of class block)

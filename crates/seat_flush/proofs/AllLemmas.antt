@@ -12,9 +12,11 @@ use Rattle.heap_rule.proofs.ViewLemmas.{block_class}
 use Rattle.heap_table.specs.Plays.{HasSoundState}
 use Rattle.seat_rows.specs.Rows.{Parts, Stops, ViewRow, parts}
 use Rattle.seat_rows.proofs.RowLemmas.{stops_later, view_row_none, view_row_then, view_row_within}
-use Rattle.seat_flush.specs.All.{HasFlushedAll, cached}
-use Rattle.seat_flush.specs.Flushes.{HasFlushed, flush_costs}
+use Rattle.seat_flush.specs.All.{HasFlushedAll, all_costs, cached, cached_runs}
+use Rattle.seat_flush.specs.Flushes.{HasFlushed, cache_costs, cache_runs, flush_costs}
+use Rattle.seat_flush.specs.Runs.{runs_of}
 use Rattle.seat_flush.proofs.LiftLemmas.{cache_set}
+use Rattle.seat_flush.proofs.RunLemmas.{runs_few}
 
 -- there is no block of class 0, which is none
 pub first_none : (v : View) → HasSoundState v → length (of_class v.caches 0) ≡ 0
@@ -38,7 +40,10 @@ pub record FlushedBelow (number : ℕ) (v t : View) : Type 0 where
   pub more : 1 ≤ flushed → v.draws < t.draws
   pub gave : 1 ≤ flushed → v.gives < t.gives
   pub few : flushed + cached t ≡ cached v
-  pub row : ViewRow (flush_costs flushed) v t
+  pub given : ℕ
+  pub runs : given + cached_runs t ≡ cached_runs v
+  pub gives : t.gives ≡ v.gives + given
+  pub row : ViewRow (flush_costs flushed given) v t
 
 pub all_begins : (v : View) → v.stopped ≡ None → FlushedBelow 1 v v
 all_begins v going = record {
@@ -50,6 +55,9 @@ all_begins v going = record {
   more = λ some. absurd (omega arith);
   gave = λ some. absurd (omega arith);
   few = omega arith;
+  given = 0;
+  runs = omega arith;
+  gives = omega arith;
   row = view_row_none v;
 }
 
@@ -61,14 +69,17 @@ module _ (v t : View) (has : HasSoundState t) (number : ℕ) (is : IsClass numbe
   without_one : total length (set t.caches number []) + length (of_class t.caches number) ≡ cached t
   without_one = let sum = total_set length t.caches number (of_class t.caches number) [] below (get_or_default t.caches number (of_class t.caches number) [] below) in omega arith
 
-  pub all_most : (w : View) → ViewRow (flush_costs (length (of_class t.caches number))) t w → ViewRow (flush_costs (cached v)) v w
-  all_most w row = let f = so_far.few in let one = without_one in
-      view_row_within (flush_costs (cached v)) v w (record { draws = omega arith; wins = omega arith; gives = omega arith; cuts = omega arith; taken = omega arith; moves = omega arith }) (view_row_then v t w so_far.row row)
+  less_one : total (runs_of t.setup.capacity) (set t.caches number []) + cache_runs t number ≡ cached_runs t
+  less_one = let sum = total_set (runs_of t.setup.capacity) t.caches number (of_class t.caches number) [] below (get_or_default t.caches number (of_class t.caches number) [] below) in omega arith
+
+  pub all_most : (w : View) → ViewRow (cache_costs t number) t w → ViewRow (all_costs v) v w
+  all_most w row = let f = so_far.few in let one = without_one in let r = so_far.runs in let less = less_one in
+      view_row_within (all_costs v) v w (record { draws = omega arith; wins = omega arith; gives = omega arith; cuts = omega arith; taken = omega arith; moves = omega arith }) (view_row_then v t w so_far.row row)
 
   pub all_stops : (w : View) (step : ℕ) → Stops step t w → Stops step v w
   all_stops w step stop = stops_later v t w step so_far.ran so_far.going so_far.row stop
 
-  pub all_on : (w : View) → HasFlushed number t w → ViewRow (flush_costs (length (of_class t.caches number))) t w → FlushedBelow (number + 1) v w
+  pub all_on : (w : View) → HasFlushed number t w → ViewRow (cache_costs t number) t w → FlushedBelow (number + 1) v w
   all_on w done row =
       let caches : w.caches ≡ set t.caches number [] = ap (λ (p : Parts). p.caches) done.parts_are in record {
         ran = so_far.ran;
@@ -88,8 +99,16 @@ module _ (v t : View) (has : HasSoundState t) (number : ℕ) (is : IsClass numbe
           | inr none ↦ let past = so_far.row.passes.more.gives in let now = done.gave (omega arith) in omega arith
         ];
         few = let one = without_one in let f = so_far.few in let e = ap (λ l. total length l) caches in omega arith;
-        row = view_row_within (flush_costs (so_far.flushed + length (of_class t.caches number))) v w (record { draws = omega arith; wins = omega arith; gives = omega arith; cuts = omega arith; taken = omega arith; moves = omega arith }) (view_row_then v t w so_far.row row);
+        given = so_far.given + cache_runs t number;
+        runs = let less = less_one in let r = so_far.runs in let e = ap (λ (p : Parts). total (runs_of p.setup.capacity) p.caches) done.parts_are in omega arith;
+        gives = let before = so_far.gives in let now = done.gives in omega arith;
+        row = view_row_within (flush_costs (so_far.flushed + length (of_class t.caches number)) (so_far.given + cache_runs t number)) v w (record { draws = omega arith; wins = omega arith; gives = omega arith; cuts = omega arith; taken = omega arith; moves = omega arith }) (view_row_then v t w so_far.row row);
       }
+
+-- there are no more runs than blocks
+pub all_runs_few : (c : ℕ) (xs : List (List ℕ)) → total (runs_of c) xs ≤ total length xs
+all_runs_few c [] = omega arith
+all_runs_few c (x ∷ xs) = let few = runs_few c x in let rest = all_runs_few c xs in omega arith
 
 -- a list of lists that are all empty has no member
 none_cached : (xs : List (List ℕ)) → ((i : ℕ) → i < length xs → length (get_or xs i []) ≡ 0) → total length xs ≡ 0
@@ -110,10 +129,11 @@ all_done v t number has past so_far =
       going = so_far.going;
       more = λ some. so_far.more (let f = so_far.few in omega arith);
       gave = λ some. so_far.gave (let f = so_far.few in omega arith);
+      gives = let left = all_runs_few t.setup.capacity t.caches in let r = so_far.runs in let e = so_far.gives in omega arith;
       parts_are = so_far.parts_are;
       empty = empty;
     }
 
-pub all_row : (v t : View) (number : ℕ) → FlushedBelow number v t → ViewRow (flush_costs (cached v)) v t
-all_row v t number so_far = let f = so_far.few in
-    view_row_within (flush_costs (cached v)) v t (record { draws = omega arith; wins = omega arith; gives = omega arith; cuts = omega arith; taken = omega arith; moves = omega arith }) so_far.row
+pub all_row : (v t : View) (number : ℕ) → FlushedBelow number v t → ViewRow (all_costs v) v t
+all_row v t number so_far = let f = so_far.few in let r = so_far.runs in
+    view_row_within (all_costs v) v t (record { draws = omega arith; wins = omega arith; gives = omega arith; cuts = omega arith; taken = omega arith; moves = omega arith }) so_far.row

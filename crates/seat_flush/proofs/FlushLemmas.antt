@@ -13,11 +13,13 @@ use Rattle.heap_table.specs.Plays.{HasSoundState}
 use Rattle.heap_rule.specs.Shown.{CanList, as_free, by_look, of_its_class}
 use Rattle.seat_lists.specs.Pushes.{HasPushed, IsClaimOf}
 use Rattle.seat_lists.proofs.AnchorLemmas.{claim_added, claim_free, claim_of_class, claim_pushed, raw_none}
-use Rattle.seat_flush.specs.Flushes.{HasFlushed, HasFlushedPrefix, HasListed, HasListedBy, flush_costs, with_cache}
+use Rattle.seat_flush.specs.Flushes.{HasFlushed, HasFlushedPrefix, HasListed, HasListedBy, cache_costs, cache_runs, flush_costs, with_cache}
 use Rattle.seat_lists.specs.Anchors.{HasSeenAnchor, anchor_seen}
 use Rattle.seat_flush.specs.Gives.{HasGiven, IsBatchOf, given_parts}
 use Rattle.seat_flush.specs.Lifts.{HasLiftedPrefix}
+use Rattle.seat_flush.specs.Runs.{runs_of}
 use Rattle.seat_flush.proofs.LiftLemmas.{cache_set, lifting_batch}
+use Rattle.seat_flush.proofs.RunLemmas.{first_run}
 use Rattle.seat_rows.specs.Costs.{Costs, IsWithin, no_costs}
 use Rattle.seat_rows.specs.Rows.{Parts, Stops, ViewRow, parts}
 use Rattle.seat_rows.proofs.RowLemmas.{stops_later, view_row_none, view_row_then, view_row_within}
@@ -101,9 +103,12 @@ module _ (v t x : View) (has : HasSoundState v) (class d last : ℕ) (is : IsCla
   few : length lifted ≤ length (of_class v.caches class)
   few = let all = ap length prefix.lifting.both in let sum = length-append lifted rest in omega arith
 
-  pub prefix_row : {a : Costs} (w : View) → IsWithin a (record no_costs { draws = 7; wins = 2; gives = 1; moves = 1 }) → ViewRow a t w → ViewRow (flush_costs (length (of_class v.caches class))) v w
-  prefix_row w less row = let f = few in let s = prefix.lifting.some in
-      view_row_within (flush_costs (length (of_class v.caches class))) v w (record { draws = let l = less.draws in omega arith; wins = let l = less.wins in omega arith; gives = let l = less.gives in omega arith; cuts = let l = less.cuts in omega arith; taken = let l = less.taken in omega arith; moves = let l = less.moves in omega arith }) (view_row_then v t w prefix.lifting.row row)
+  one_run : cache_runs v class ≡ 1 + runs_of v.setup.capacity rest
+  one_run = ap (runs_of v.setup.capacity) prefix.lifting.both ∙ first_run v.setup.capacity d lifted rest prefix.lifting.some prefix.lifting.together prefix.longest
+
+  pub prefix_row : {a : Costs} (w : View) → IsWithin a (record no_costs { draws = 7; wins = 2; gives = 1; moves = 1 }) → ViewRow a t w → ViewRow (cache_costs v class) v w
+  prefix_row w less row = let f = few in let r = one_run in
+      view_row_within (cache_costs v class) v w (record { draws = let l = less.draws in omega arith; wins = let l = less.wins in omega arith; gives = let l = less.gives in omega arith; cuts = let l = less.cuts in omega arith; taken = let l = less.taken in omega arith; moves = let l = less.moves in omega arith }) (view_row_then v t w prefix.lifting.row row)
 
   pub prefix_done : {a : Costs} (w : View) → IsWithin a (record no_costs { draws = 7; wins = 2; gives = 1; moves = 1 }) → ViewRow a t w → w.stopped ≡ None → t.gives < w.gives → parts w ≡ with_cache class rest (parts v) → HasFlushedPrefix class v w
   prefix_done w less row going gave same = record {
@@ -111,13 +116,14 @@ module _ (v t x : View) (has : HasSoundState v) (class d last : ℕ) (is : IsCla
     going = going;
     room = prefix.lifting.room;
     more = let d = row.passes.more.draws in let m = prefix.lifting.more in omega arith;
-    gave = let g = prefix.lifting.row.passes.more.gives in omega arith;
+    gives = let least = prefix.lifting.row.passes.more.gives in let none = prefix.lifting.row.passes.most.gives in let l = less.gives in let most = row.passes.most.gives in omega arith;
     flushed = lifted;
     rest = rest;
     both = prefix.lifting.both;
     some = prefix.lifting.some;
+    runs = one_run;
     parts_are = same;
-    row = let s = prefix.lifting.some in view_row_within (flush_costs (length lifted)) v w (record { draws = let l = less.draws in omega arith; wins = let l = less.wins in omega arith; gives = let l = less.gives in omega arith; cuts = let l = less.cuts in omega arith; taken = let l = less.taken in omega arith; moves = let l = less.moves in omega arith }) (view_row_then v t w prefix.lifting.row row);
+    row = view_row_within (flush_costs (length lifted) 1) v w (record { draws = let l = less.draws in omega arith; wins = let l = less.wins in omega arith; gives = let l = less.gives in omega arith; cuts = let l = less.cuts in omega arith; taken = let l = less.taken in omega arith; moves = let l = less.moves in omega arith }) (view_row_then v t w prefix.lifting.row row);
   }
 
 -- how far a flush has come
@@ -128,9 +134,12 @@ pub record Flushing (class : ℕ) (v t : View) : Type 0 where
   pub rest : List ℕ
   pub both : of_class v.caches class ≡ flushed ++ rest
   pub more : 1 ≤ length flushed → v.draws < t.draws
-  pub gave : 1 ≤ length flushed → v.gives < t.gives
+  pub given : ℕ
+  pub some : 1 ≤ length flushed → 1 ≤ given
+  pub runs : cache_runs v class ≡ given + runs_of v.setup.capacity rest
+  pub gives : t.gives ≡ v.gives + given
   pub parts_are : parts t ≡ with_cache class rest (parts v)
-  pub row : ViewRow (flush_costs (length flushed)) v t
+  pub row : ViewRow (flush_costs (length flushed) given) v t
 
 set_own : (lists : List (List ℕ)) (class : ℕ) → set lists class (of_class lists class) ≡ lists
 set_own [] class = refl
@@ -149,7 +158,10 @@ flushing_begins v class going = record {
   rest = of_class v.caches class;
   both = refl;
   more = λ some. absurd (omega arith);
-  gave = λ some. absurd (omega arith);
+  given = 0;
+  some = λ some. absurd (omega arith);
+  runs = omega arith;
+  gives = omega arith;
   parts_are = ap (λ l. record (parts v) { caches = l }) (sym (set_own v.caches class));
   row = view_row_none v;
 }
@@ -164,21 +176,26 @@ module _ (v t : View) (has : HasSoundState v) (class : ℕ) (is : IsClass class)
   few_left : length flushing.flushed + length (of_class t.caches class) ≡ length (of_class v.caches class)
   few_left = let all = ap length flushing.both in let sum = length-append flushing.flushed flushing.rest in let r = ap length flushing_cache in omega arith
 
-  pub flushing_row : ViewRow (flush_costs (length (of_class v.caches class))) v t
-  flushing_row = let f = few_left in view_row_within (flush_costs (length (of_class v.caches class))) v t (record { draws = omega arith; wins = omega arith; gives = omega arith; cuts = omega arith; taken = omega arith; moves = omega arith }) flushing.row
+  runs_left : flushing.given + cache_runs t class ≡ cache_runs v class
+  runs_left = let same = ap (λ (p : Parts). runs_of p.setup.capacity (of_class t.caches class)) flushing.parts_are in let r = ap (runs_of v.setup.capacity) flushing_cache in let all = flushing.runs in omega arith
 
-  pub flushing_most : (w : View) → ViewRow (flush_costs (length (of_class t.caches class))) t w
-      → ViewRow (flush_costs (length (of_class v.caches class))) v w
-  flushing_most w row = let f = few_left in view_row_within (flush_costs (length (of_class v.caches class))) v w (record { draws = omega arith; wins = omega arith; gives = omega arith; cuts = omega arith; taken = omega arith; moves = omega arith }) (view_row_then v t w flushing.row row)
+  pub flushing_row : ViewRow (cache_costs v class) v t
+  flushing_row = let f = few_left in let r = runs_left in view_row_within (cache_costs v class) v t (record { draws = omega arith; wins = omega arith; gives = omega arith; cuts = omega arith; taken = omega arith; moves = omega arith }) flushing.row
+
+  pub flushing_most : (w : View) → ViewRow (cache_costs t class) t w → ViewRow (cache_costs v class) v w
+  flushing_most w row = let f = few_left in let r = runs_left in view_row_within (cache_costs v class) v w (record { draws = omega arith; wins = omega arith; gives = omega arith; cuts = omega arith; taken = omega arith; moves = omega arith }) (view_row_then v t w flushing.row row)
 
   pub flushing_stops : (w : View) (step : ℕ) → Stops step t w → Stops step v w
   flushing_stops w step stop = stops_later v t w step flushing.ran flushing.going flushing.row stop
 
   pub flushing_done : length (of_class t.caches class) ≡ 0 → HasFlushed class v t
-  flushing_done none = record { going = flushing.going; more = λ some. flushing.more (let f = few_left in omega arith); gave = λ some. flushing.gave (let f = few_left in omega arith); parts_are = flushing.parts_are ∙ ap (λ bs. with_cache class bs (parts v)) (empty flushing.rest (let r = ap length flushing_cache in omega arith)) } where
+  flushing_done none = record { going = flushing.going; more = λ some. flushing.more (let f = few_left in omega arith); gave = λ some. let g = flushing.some (let f = few_left in omega arith) in let e = flushing.gives in omega arith; gives = let no_runs = ap (runs_of v.setup.capacity) no_rest in let all = flushing.runs in let e = flushing.gives in omega arith; parts_are = flushing.parts_are ∙ ap (λ bs. with_cache class bs (parts v)) no_rest } where
     empty : (bs : List ℕ) → length bs ≡ 0 → bs ≡ []
     empty [] e = refl
     empty (b ∷ bs) e = absurd (omega arith)
+
+    no_rest : flushing.rest ≡ []
+    no_rest = empty flushing.rest (let r = ap length flushing_cache in omega arith)
 
   pub flushing_on : (w : View) → HasFlushedPrefix class t w → Flushing class v w
   flushing_on w prefix = record {
@@ -187,11 +204,14 @@ module _ (v t : View) (has : HasSoundState v) (class : ℕ) (is : IsClass class)
     flushed = flushing.flushed ++ prefix.flushed;
     rest = prefix.rest;
     more = λ some. let before = flushing.row.passes.more.draws in let now = prefix.more in omega arith;
-    gave = λ some. let before = flushing.row.passes.more.gives in let now = prefix.gave in omega arith;
+    given = flushing.given + 1;
+    some = λ some. omega arith;
+    runs = let left = runs_left in let e = prefix.runs in let same = ap (λ (p : Parts). runs_of p.setup.capacity prefix.rest) flushing.parts_are in omega arith;
+    gives = let before = flushing.gives in let now = prefix.gives in omega arith;
     both = flushing.both ∙ ap (λ bs. flushing.flushed ++ bs) (sym flushing_cache ∙ prefix.both) ∙ sym (append_three flushing.flushed prefix.flushed prefix.rest);
     parts_are = prefix.parts_are ∙ ap (with_cache class prefix.rest) flushing.parts_are ∙ ap (λ l. record (parts v) { caches = l }) (set-set v.caches class flushing.rest prefix.rest);
     row = let many = length-append flushing.flushed prefix.flushed in
-        view_row_within (flush_costs (length (flushing.flushed ++ prefix.flushed))) v w (record { draws = omega arith; wins = omega arith; gives = omega arith; cuts = omega arith; taken = omega arith; moves = omega arith }) (view_row_then v t w flushing.row prefix.row);
+        view_row_within (flush_costs (length (flushing.flushed ++ prefix.flushed)) (flushing.given + 1)) v w (record { draws = omega arith; wins = omega arith; gives = omega arith; cuts = omega arith; taken = omega arith; moves = omega arith }) (view_row_then v t w flushing.row prefix.row);
   }
 
 pub flushing_less : (class : ℕ) (t w : View) → HasFlushedPrefix class t w → w.setup.budget - w.draws < t.setup.budget - t.draws

@@ -1,3 +1,4 @@
+pub mod RunLemmas
 pub mod LiftLemmas
 pub mod GiveLemmas
 pub mod FlushLemmas

@@ -1,8 +1,9 @@
 -- A block that goes from a cache into the batch.
-use Rattle.std.proofs.Common.{◌≡◌, ◌≢◌, ◌<◌, ◌≤◌, ℕ, ◌+◌, ◌-◌, ◌/◌, true, set, length, List, [], ◌∷◌, ◌++◌, None, Some, refl, ap, sym, subst, ◌∙◌, length-append, arith}
+use Rattle.std.proofs.Common.{◌≡◌, ◌≢◌, ◌<◌, ◌≤◌, ℕ, ◌+◌, ◌-◌, ◌/◌, true, set, length, List, [], ◌∷◌, ◌++◌, All, None, Some, refl, ap, sym, subst, ◌∙◌, length-append, arith}
 use Rattle.std.specs.Bool.{⊤}
 use Rattle.std.specs.Prelude.{Result, Ok, Err, OnOk, IfErr}
 use Rattle.std.proofs.lemmas.List.{get_or-set_same, set-set}
+use Rattle.std.proofs.lemmas.List.Elements.{All-cons, All-nil, All-push}
 use Rattle.heap_model.specs.Counting.{times}
 use Rattle.heap_model.specs.Chains.{Walks}
 use Rattle.heap_model.specs.Geometry.{start_word}
@@ -199,6 +200,7 @@ lifting_one v w class first some none is lifted row = record {
   parts_are = lifted.parts_are
       ∙ ap (λ (x : Batch). record (parts v) { caches = set v.caches class (rest_of (of_class v.caches class)); batch = record { descriptor = superblock_at v.setup.capacity first; class = class; blocks = x.blocks ++ first ∷ []; linked = true } }) none;
   some = omega arith;
+  together = All-cons (λ b. superblock_at v.setup.capacity b ≡ superblock_at v.setup.capacity first) first [] refl (All-nil (λ b. superblock_at v.setup.capacity b ≡ superblock_at v.setup.capacity first));
   last_is = refl;
   link = lifted.link;
   row = row;
@@ -256,6 +258,7 @@ module _ (v : View) (has : HasSoundState v) (class : ℕ) (is : IsClass class) w
             ∙ ap (λ bs. record (parts v) { caches = bs; batch = record { descriptor = superblock_at v.setup.capacity next; class = class; blocks = lifting.lifted ++ next ∷ []; linked = true } }) (set-set v.caches class lifting.rest (rest_of lifting.rest))
             ∙ ap (λ n. record (parts v) { caches = set v.caches class (rest_of lifting.rest); batch = record { descriptor = n; class = class; blocks = lifting.lifted ++ next ∷ []; linked = true } }) (ap (superblock_at v.setup.capacity) next_is ∙ at);
         some = omega (arith, many);
+        together = All-push (λ b. superblock_at v.setup.capacity b ≡ d) lifting.lifted next lifting.together (ap (superblock_at v.setup.capacity) next_is ∙ at);
         last_is = last_added lifting.lifted next;
         link = subst (λ bs. 1 ≤ length (rest_of bs) → Shows w (data_cell next) (first_of (rest_of bs))) lifting_cache lifted.link;
         row = let m = many in view_row_within (lift_costs (length (lifting.lifted ++ next ∷ []))) v w (record { draws = omega arith; wins = omega arith; gives = omega arith; cuts = omega arith; taken = omega arith; moves = omega arith }) (view_row_then v t w lifting.row row);

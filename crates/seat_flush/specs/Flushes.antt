@@ -6,6 +6,7 @@ use Rattle.core_model.specs.View.{View, of_class}
 use Rattle.seat_lists.specs.Anchors.{HasSeenAnchor}
 use Rattle.seat_rows.specs.Costs.{Costs, no_costs}
 use Rattle.seat_rows.specs.Rows.{Parts, ViewRow, parts}
+use Rattle.seat_flush.specs.Runs.{runs_of}
 
 -- it is claimed no more: by its anchor as it was seen, it was moved to the list of the free ones, or nothing was
 pub record HasListedBy (d anchor : ℕ) (v w : View) : Type 0 where
@@ -29,27 +30,37 @@ pub record HasListed (d : ℕ) (v w : View) : Type 0 where
 abbrev pub with_cache : ℕ → List ℕ → Parts → Parts
 with_cache class blocks p = record p { caches = set p.caches class blocks }
 
--- of so many blocks: for each 9 draws, 2 exchanges that are won, a give, and a superblock that may be moved
-abbrev pub flush_costs : ℕ → Costs
-flush_costs n = record no_costs { draws = 9 * n; wins = 2 * n; gives = n; moves = n }
+-- of so many blocks in so many runs: for each block 2 draws, and for each run 7 draws, 2 exchanges that are won, a give, and a superblock that may be moved
+abbrev pub flush_costs : ℕ → ℕ → Costs
+flush_costs blocks runs = record no_costs { draws = 2 * blocks + 7 * runs; wins = 2 * runs; gives = runs; moves = runs }
 
--- the first blocks of the cache are with their superblock again
+-- how many runs the cache of a class is
+abbrev pub cache_runs : View → ℕ → ℕ
+cache_runs v class = runs_of v.setup.capacity (of_class v.caches class)
+
+-- of the whole cache
+abbrev pub cache_costs : View → ℕ → Costs
+cache_costs v class = flush_costs (length (of_class v.caches class)) (cache_runs v class)
+
+-- the first run of the cache is with its superblock again, in one batch
 pub record HasFlushedPrefix (class : ℕ) (v w : View) : Type 0 where
   pub ran : v.stopped ≡ None
   pub going : w.stopped ≡ None
   pub room : v.draws < v.setup.budget
   pub more : v.draws < w.draws
-  pub gave : v.gives < w.gives
+  pub gives : w.gives ≡ v.gives + 1
   pub flushed : List ℕ
   pub rest : List ℕ
   pub both : of_class v.caches class ≡ flushed ++ rest
   pub some : 1 ≤ length flushed
+  pub runs : cache_runs v class ≡ 1 + runs_of v.setup.capacity rest
   pub parts_are : parts w ≡ with_cache class rest (parts v)
-  pub row : ViewRow (flush_costs (length flushed)) v w
+  pub row : ViewRow (flush_costs (length flushed) 1) v w
 
--- all are
+-- all are, in one batch for each run
 pub record HasFlushed (class : ℕ) (v w : View) : Type 0 where
   pub going : w.stopped ≡ None
   pub more : 1 ≤ length (of_class v.caches class) → v.draws < w.draws
   pub gave : 1 ≤ length (of_class v.caches class) → v.gives < w.gives
+  pub gives : w.gives ≡ v.gives + cache_runs v class
   pub parts_are : parts w ≡ with_cache class [] (parts v)

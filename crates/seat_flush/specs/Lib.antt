@@ -1,4 +1,6 @@
+pub mod Runs
 pub mod Lifts
 pub mod Gives
 pub mod Flushes
 pub mod All
+pub mod Examples

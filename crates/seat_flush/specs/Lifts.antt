@@ -1,5 +1,5 @@
 -- What a block that goes into the batch leaves of a seat.
-use Rattle.std.specs.Prelude.{◌≡◌, ◌<◌, ◌≤◌, ℕ, true, None, [], ◌∷◌, ◌++◌, ◌*◌, ◌≢◌, List, length, set}
+use Rattle.std.specs.Prelude.{◌≡◌, ◌<◌, ◌≤◌, ℕ, true, None, [], ◌∷◌, ◌++◌, ◌*◌, ◌≢◌, List, length, set, All}
 use Rattle.core_model.specs.Cells.{data_cell, superblock_at}
 use Rattle.core_model.specs.Effects.{first_of, last_of, rest_of}
 use Rattle.core_model.specs.View.{View, of_class}
@@ -33,7 +33,7 @@ with_batch class d lifted rest p = record p {
 abbrev pub lift_costs : ℕ → Costs
 lift_costs n = record no_costs { draws = 2 * n }
 
--- the first blocks of the cache, which lie in superblock d, are the batch, and the last of them leads to the next one
+-- the first blocks of the cache, which all lie in superblock d, are the batch, and the last of them leads to the next one
 pub record IsLifting (class d last : ℕ) (v w : View) : Type 0 where
   pub ran : v.stopped ≡ None
   pub going : w.stopped ≡ None
@@ -44,6 +44,7 @@ pub record IsLifting (class d last : ℕ) (v w : View) : Type 0 where
   pub both : of_class v.caches class ≡ lifted ++ rest
   pub parts_are : parts w ≡ with_batch class d lifted rest (parts v)
   pub some : 1 ≤ length lifted
+  pub together : All (λ block. superblock_at v.setup.capacity block ≡ d) lifted
   pub last_is : last_of lifted ≡ last
   pub link : 1 ≤ length rest → Shows w (data_cell last) (first_of rest)
   pub row : ViewRow (lift_costs (length lifted)) v w

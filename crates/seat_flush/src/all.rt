@@ -4,8 +4,7 @@ ghost use Rattle.heap_rule.specs.Seated.{IsSeatOf};
 ghost use Rattle.std.specs.Prelude.{◌≡◌, None, OnOk, IfErr};
 ghost use Rattle.core_model.specs.View.{no_batch};
 ghost use Rattle.seat_rows.specs.Rows.{Row, Stops};
-ghost use Rattle.seat_flush.specs.All.{HasFlushedAll, cached};
-ghost use Rattle.seat_flush.specs.Flushes.{flush_costs};
+ghost use Rattle.seat_flush.specs.All.{HasFlushedAll, all_costs};
 
 use crate::flushes::flush;
 use heap_rule::{Seat, Shared};
@@ -20,7 +19,7 @@ pub fn flush_all<C: Chance>(seat: &mut Seat, shared: &Shared, chance: &mut C) ->
     requires no_batch { seat.old.view.batch ≡ no_batch }
     ensures flushed { OnOk result (HasFlushedAll seat.old.view seat.new.view) }
     ensures stopped { IfErr result (λ e. Stops e.step seat.old.view seat.new.view) }
-    ensures row { Row (flush_costs (cached seat.old.view)) seat.old seat.new }
+    ensures row { Row (all_costs seat.old.view) seat.old seat.new }
     ensures seat { IsSeatOf shared.now seat.new }
 {
     for number in 1..=LAST_CLASS {

@@ -1,14 +1,14 @@
 //! A cache is flushed.
 
 ghost use Rattle.heap_rule.specs.Seated.{IsSeatOf};
-ghost use Rattle.std.specs.Prelude.{◌≡◌, ◌≢◌, ◌<◌, ◌≤◌, ◌*◌, None, length, OnOk, IfErr};
+ghost use Rattle.std.specs.Prelude.{◌≡◌, ◌≢◌, ◌<◌, ◌≤◌, None, length, OnOk, IfErr};
 ghost use Rattle.core_model.specs.View.{no_batch, of_class};
 ghost use Rattle.heap_model.specs.Words.{anchor_state, partial_state};
 ghost use Rattle.seat_rows.specs.Costs.{one_push};
 ghost use Rattle.seat_rows.specs.Rows.{Row, Stops};
 ghost use Rattle.seat_lists.specs.Anchors.{anchor_seen};
 ghost use Rattle.seat_lists.specs.Pushes.{IsClaimOf};
-ghost use Rattle.seat_flush.specs.Flushes.{HasFlushed, HasFlushedPrefix, HasListed, HasListedBy, flush_costs};
+ghost use Rattle.seat_flush.specs.Flushes.{HasFlushed, HasFlushedPrefix, HasListed, HasListedBy, cache_costs};
 
 use crate::gives::give;
 use crate::lifts::lift_prefix;
@@ -92,8 +92,7 @@ fn flush_prefix<C: Chance>(
     ensures flushed { OnOk result (HasFlushedPrefix class.number
         seat.old.view seat.new.view) }
     ensures stopped { IfErr result (λ e. Stops e.step seat.old.view seat.new.view) }
-    ensures row { Row (flush_costs (length (of_class seat.old.view.caches class.number)))
-        seat.old seat.new }
+    ensures row { Row (cache_costs seat.old.view class.number) seat.old seat.new }
     ensures seat { IsSeatOf shared.now seat.new }
 {
     seat.has_a_sound_state();
@@ -116,8 +115,7 @@ pub fn flush<C: Chance>(
     requires no_batch { seat.old.view.batch ≡ no_batch }
     ensures flushed { OnOk result (HasFlushed class.number seat.old.view seat.new.view) }
     ensures stopped { IfErr result (λ e. Stops e.step seat.old.view seat.new.view) }
-    ensures row { Row (flush_costs (length (of_class seat.old.view.caches class.number)))
-        seat.old seat.new }
+    ensures row { Row (cache_costs seat.old.view class.number) seat.old seat.new }
     ensures seat { IsSeatOf shared.now seat.new }
 {
     seat.has_a_sound_state();

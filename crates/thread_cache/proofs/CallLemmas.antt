@@ -135,6 +135,7 @@ module _ (s : CacheState) (x y : SeatView) (n : CallCounts) (step : SmallStep s 
   small_keeps = record {
     setup = passes.setup;
     roots = passes.roots;
+    floor = passes.floor;
     none_falls = passes.more;
     small_rise = let e = step.small in omega arith;
     large_rise = let e = step.large in omega arith;

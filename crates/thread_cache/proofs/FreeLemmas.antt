@@ -26,7 +26,7 @@ use Rattle.seat_view.specs.CacheState.{CacheState, CallCounts, IsBetweenCalls, c
 use Rattle.seat_view.specs.Changes.{GivesBlock, GivesSpan, Loses}
 use Rattle.seat_view.proofs.ChangedBlocks.{class_in, gives_by, gives_span_by, held_same}
 use Rattle.seat_view.proofs.HeldLemmas.{held_is, own_held, word_law}
-use Rattle.thread_cache.specs.Serving.{IsLight}
+use Rattle.thread_cache.specs.Serving.{IsLight, IsPutBack}
 use Rattle.thread_cache.proofs.AllocLemmas.{pending_of, same_between, short_but}
 use Rattle.thread_cache.proofs.CallLemmas.{at_state, runs_law}
 use Rattle.thread_cache.proofs.LargeLemmas.{IsFew, LargeStep}
@@ -97,12 +97,16 @@ module _ (b : Block) (s : CacheState) (x y : SeatView) (n : CallCounts) (step : 
     refusals = same;
   }
 
-  pub free_light : (result : Result ⊤ Stopped) → OnOk result (y.view.gives ≡ x.view.gives → y.view.large ≡ x.view.large → RowBut (IsHeldOutside x.view b) light_free_costs x y) → OnOk result (IsLight s.view y.view)
+  free_light : (result : Result ⊤ Stopped) → OnOk result (y.view.gives ≡ x.view.gives → y.view.large ≡ x.view.large → RowBut (IsHeldOutside x.view b) light_free_costs x y) → OnOk result (IsLight s.view y.view)
   free_light (Ok r) light = λ cuts gives taken large.
       let few : Passes light_free_costs s.view y.view = at_state (λ v. Passes light_free_costs v y.view) s x step.was
       (light (gives ∙ ap (λ (v : View). v.gives) (sym step.was.view)) (large ∙ ap (λ (v : View). v.large) (sym step.was.view))).passes in
       let d = few.most.draws in let l = few.more.losses in omega arith
   free_light (Err e) light = tt
+
+  pub free_put : (result : Result ⊤ Stopped) → OnOk result (IsGivenBack b x.view y.view) → OnOk result (y.view.gives ≡ x.view.gives → y.view.large ≡ x.view.large → RowBut (IsHeldOutside x.view b) light_free_costs x y) → OnOk result (IsPutBack b s.view y.view)
+  free_put (Ok r) given light = record { light = free_light (Ok r) light; given = at_state (λ v. IsGivenBack b v y.view) s x step.was given }
+  free_put (Err e) given light = tt
 
 pub free_few : IsFew most_free_costs
 free_few = record { draws = omega arith; wins = omega arith; gives = omega arith; cuts = omega arith }

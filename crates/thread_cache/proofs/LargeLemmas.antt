@@ -67,6 +67,7 @@ module _ {a : Costs} (s : CacheState) (x y : SeatView) (n : CallCounts) (step : 
   large_keeps few = record {
     setup = passes.setup;
     roots = passes.roots;
+    floor = passes.floor;
     none_falls = passes.more;
     small_rise = let e = step.small in omega arith;
     large_rise = let e = step.large in omega arith;

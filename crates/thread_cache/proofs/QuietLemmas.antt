@@ -10,9 +10,8 @@ use Rattle.core_model.specs.View.{View, of_class}
 use Rattle.core_model.proofs.OwnerLemmas.{in_lists_total}
 use Rattle.heap_table.specs.Plays.{HasSoundState}
 use Rattle.heap_rule.specs.Seated.{SeatView}
-use Rattle.seat_flush.specs.All.{HasFlushedAll, cached}
-use Rattle.seat_flush.specs.Flushes.{flush_costs}
-use Rattle.seat_flush.proofs.AllLemmas.{first_none}
+use Rattle.seat_flush.specs.All.{HasFlushedAll, all_costs, cached}
+use Rattle.seat_flush.proofs.AllLemmas.{all_runs_few, first_none}
 use Rattle.seat_rows.specs.Idle.{HasShortCaches, IsIdle}
 use Rattle.seat_rows.specs.Rows.{Parts, Passes, Stops, next_of}
 use Rattle.seat_rows.proofs.RowLemmas.{not_both}
@@ -48,8 +47,8 @@ cached_few v has short =
     ]) in
     let sum = ap (sum_from most_short 0) long in let most = all_short in omega arith
 
-pub quiet_few : (v : View) → HasSoundState v → HasShortCaches v → IsFew (flush_costs (cached v))
-quiet_few v has short = let few = cached_few v has short in record { draws = omega arith; wins = omega arith; gives = omega arith; cuts = omega arith }
+pub quiet_few : (v : View) → HasSoundState v → HasShortCaches v → IsFew (all_costs v)
+quiet_few v has short = let few = cached_few v has short in let runs = all_runs_few v.setup.capacity v.caches in record { draws = omega arith; wins = omega arith; gives = omega arith; cuts = omega arith }
 
 -- the seat is idle then, and has no block cached
 pub quiet_between : (v w : View) (result : Result ⊤ Stopped) → IsIdle v → OnOk result (HasFlushedAll v w) → IfErr result (λ e. Stops e.step v w) → IsBetweenCalls w
@@ -65,7 +64,7 @@ quiet_between v w (Ok a) idle done stop going = (
 )
 quiet_between v w (Err e) idle done stop going = not_both stop.at going
 
-pub quiet_later : (v w : View) (result : Result ⊤ Stopped) → v.stopped ≡ None → 1 ≤ cached v → Passes (flush_costs (cached v)) v w → OnOk result (HasFlushedAll v w) → IfErr result (λ e. Stops e.step v w) → next_of v < next_of w
+pub quiet_later : (v w : View) (result : Result ⊤ Stopped) → v.stopped ≡ None → 1 ≤ cached v → Passes (all_costs v) v w → OnOk result (HasFlushedAll v w) → IfErr result (λ e. Stops e.step v w) → next_of v < next_of w
 quiet_later v w (Ok a) ran some passes done stop = draws_later v w passes (done.more some)
 quiet_later v w (Err e) ran some passes done stop = stop_later v w e.step ran stop
 

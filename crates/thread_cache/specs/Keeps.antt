@@ -15,10 +15,11 @@ most_wins = 2 ^ 15
 abbrev pub most_gives : ℕ
 most_gives = 2 ^ 14
 
--- between two views of a seat, with so many small and large calls by then: the setup and the owned roots stay, no count falls, and each call costs at most so much: a small one a ticket, any other the most, and one superblock that it cuts; with 16 tickets for each lost exchange and each move, and 2 wins for each move
+-- between two views of a seat, with so many small and large calls by then: the setup and the owned roots stay, no count falls and what is known of the durable mark does not, and each call costs at most so much: a small one a ticket, any other the most, and one superblock that it cuts; with 16 tickets for each lost exchange and each move, and 2 wins for each move
 pub record KeepsCosts (v : View) (small large : ℕ) (w : View) (smalls larges : ℕ) : Type 0 where
   pub setup : w.setup ≡ v.setup
   pub roots : w.roots ≡ v.roots
+  pub floor : v.floor ≤ w.floor
   pub none_falls : NoneFalls v w
   pub small_rise : small ≤ smalls
   pub large_rise : large ≤ larges

@@ -9,6 +9,7 @@ costs_none : (s : CacheState) → KeepsCosts s.view s.small_calls s.large_calls 
 costs_none s = record {
   setup = refl;
   roots = refl;
+  floor = omega arith;
   none_falls = record { draws = omega arith; wins = omega arith; losses = omega arith; gives = omega arith; moves = omega arith; cuts = omega arith; taken = omega arith };
   small_rise = omega arith;
   large_rise = omega arith;
@@ -23,6 +24,7 @@ costs_row : (s t u : CacheState) → KeepsCosts s.view s.small_calls s.large_cal
 costs_row s t u p q = record {
   setup = q.setup ∙ p.setup;
   roots = q.roots ∙ p.roots;
+  floor = let x = p.floor in let y = q.floor in omega arith;
   none_falls = let a = p.none_falls in let b = q.none_falls in record {
     draws = let x = a.draws in let y = b.draws in omega arith;
     wins = let x = a.wins in let y = b.wins in omega arith;

@@ -1,9 +1,11 @@
 -- What a granted and a refused request, and a freed block, leave of a seat that allocates by caches.
 use Rattle.std.specs.Prelude.{◌≡◌, ◌<◌, ◌≤◌, ℕ, ◌+◌, ◌*◌, []}
+use Rattle.heap_model.specs.declared.block.Block.{Block}
 use Rattle.heap_model.specs.Sizes.{IsLeastClassFor, largest_small, span_of}
 use Rattle.heap_seat.specs.declared.fault.Looks.{Looks}
 use Rattle.core_model.specs.View.{View, of_class}
 use Rattle.seat_calls.specs.Large.{HasNoRoom}
+use Rattle.seat_calls.specs.Requests.{IsGivenBack}
 use Rattle.seat_fill.specs.Refills.{IsFilledInOrder, IsFull}
 use Rattle.seat_rows.specs.Rows.{IsMade, next_of, parts}
 
@@ -30,3 +32,8 @@ pub record IsTurnedAway (bytes : ℕ) (looks : Looks) (v w : View) : Type 0 wher
   pub cuts : w.cuts ≡ v.cuts
   pub for_class : (class : ℕ) → IsLeastClassFor bytes class → IsFull class looks v w × (of_class v.caches class ≡ [])
   pub for_span : largest_small < bytes → HasNoRoom (span_of bytes) looks v w
+
+-- a freed block: one of a class went before those of its cache, which was flushed where it then had as many as a superblock, in one batch for each run; of a large one no superblock is claimed
+pub record IsPutBack (b : Block) (v w : View) : Type 0 where
+  pub light : IsLight v w
+  pub given : IsGivenBack b v w

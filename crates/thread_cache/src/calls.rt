@@ -27,7 +27,7 @@ impl<'a, C: Chance> HeapSeat for CacheSeat<'a, C> {
     ghost use Rattle.seat_view.specs.CacheState.{heap_view};
     ghost use Rattle.seat_view.proofs.HeldLemmas.{may_be_law, mixed_law, named_law, seat_law, stored_law};
     ghost use Rattle.thread_cache.specs.Keeps.{KeepsHeap};
-    ghost use Rattle.thread_cache.specs.Serving.{IsLight, IsServed, IsTurnedAway};
+    ghost use Rattle.thread_cache.specs.Serving.{IsPutBack, IsServed, IsTurnedAway};
     ghost use Rattle.thread_cache.specs.Laws.{keeps_none_law, keeps_row_law};
 
     ghost view = { heap_view };
@@ -38,7 +38,7 @@ impl<'a, C: Chance> HeapSeat for CacheSeat<'a, C> {
 
     ghost has_none = { λ s t bytes looks. IsTurnedAway bytes looks s.view t.view };
 
-    ghost gives_back = { λ s t _. IsLight s.view t.view };
+    ghost gives_back = { λ s t b. IsPutBack b s.view t.view };
 
     ghost keeps = { KeepsHeap };
 

@@ -9,8 +9,7 @@ impl<'a, C: Chance> CacheSeat<'a, C> {
     ghost use Rattle.std.specs.Prelude.{◌≡◌, ◌≤◌, ℕ, None, Some, false, IsTrue, OnOk, IfErr};
     ghost use Rattle.heap_seat.specs.Tickets.{Stops};
     ghost use Rattle.heap_seat.specs.Words.{IsOwn, KeepsOwn, KeepsPending};
-    ghost use Rattle.seat_flush.specs.All.{cached};
-    ghost use Rattle.seat_flush.specs.Flushes.{flush_costs};
+    ghost use Rattle.seat_flush.specs.All.{all_costs, cached};
     ghost use Rattle.seat_rows.specs.Rows.{Passes};
     ghost use Rattle.seat_view.specs.CacheState.{heap_view};
     ghost use Rattle.thread_cache.specs.Keeps.{KeepsHeap};
@@ -35,13 +34,14 @@ impl<'a, C: Chance> CacheSeat<'a, C> {
     /// no superblock, and draws nothing where no cache has a block.
     pub fn quiet(&mut self) -> Result<(), Stopped>
         ensures quiet { OnOk result (HasEmptyCaches self.new) }
+        ensures runs { OnOk result (self.new.view.stopped ≡ None) }
         ensures stopped { IfErr result (λ e. Stops e.step (heap_view self.old) (heap_view self.new)) }
         ensures unchanged { KeepsOwn (heap_view self.old) (heap_view self.new) }
         ensures pending { (word : ℕ)
             → IsOwn (heap_view self.old).held self.old.view.roots word
             → KeepsPending (heap_view self.old) (heap_view self.new) word }
         ensures counted { IsQuietCall self.old self.new }
-        ensures costs { Passes (flush_costs (cached self.old.view)) self.old.view self.new.view }
+        ensures costs { Passes (all_costs self.old.view) self.old.view self.new.view }
         ensures light { OnOk result (self.new.view.gives ≡ self.old.view.gives
             → self.new ≡ self.old) }
         ensures idle { (ticket : ℕ) → self.old.view.stopped ≡ Some ticket

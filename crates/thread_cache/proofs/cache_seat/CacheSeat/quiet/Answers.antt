@@ -1,8 +1,6 @@
 use Rattle.std.proofs.Common.{◌+◌, ap, refl, arith, ◌∙◌, sym, subst}
 use Rattle.core_model.specs.View.{View}
-use Rattle.core_model.specs.View.{View}
-use Rattle.seat_flush.specs.All.{cached}
-use Rattle.seat_flush.specs.Flushes.{flush_costs}
+use Rattle.seat_flush.specs.All.{all_costs, cached}
 use Rattle.seat_rows.specs.Rows.{Passes}
 use Rattle.seat_view.specs.CacheState.{CacheState}
 use Rattle.thread_cache.specs.Quiet.{as_large, had_stopped}
@@ -49,7 +47,7 @@ returns-clause-counted g c = as_large (let some = ap (λ (s : CacheState). cache
     (record { count = ap (λ (s : CacheState). s.refusals) c.self.view_is; bytes = ap (λ (s : CacheState). s.refused_bytes) c.self.view_is; looks = ap (λ (s : CacheState). s.refused_looks) c.self.view_is })
 
 pub returns-clause-costs : goal.returns-clause-costs
-returns-clause-costs g c = subst (λ (v : View). Passes (flush_costs (cached v)) v c.flush_all-answer.new.seat.view) (ap (λ (s : CacheState). s.view) c.self.view_is) c.flush_all-answer.ensures.row.view.passes
+returns-clause-costs g c = subst (λ (v : View). Passes (all_costs v) v c.flush_all-answer.new.seat.view) (ap (λ (s : CacheState). s.view) c.self.view_is) c.flush_all-answer.ensures.row.view.passes
 
 pub returns-in_err-check_running-clause-counted : goal.returns-in_err-check_running-clause-counted
 returns-in_err-check_running-clause-counted g c = had_stopped c.in_err-check_running.field-0.0.step c.in_err-check_running.ensures.stopped.stopped refl
