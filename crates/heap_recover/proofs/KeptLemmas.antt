@@ -75,20 +75,24 @@ reached_marked image kinds links pairs are b reached = record { kind = reached.k
 pub marked_blocks : (image : Image) (kinds : ℕ → ℕ) (links : Links) (pairs : List (Block × ℕ)) → AreReached image kinds links pairs → KeepsBlocks (layout_of image) (IsMarked pairs)
 marked_blocks image kinds links pairs are = record { each = λ b marked. reached_block image kinds links b marked.kind ((are.each b marked.kind).0 marked.pair) }
 
--- the heap that is made where the marked blocks are kept is that where the reached ones are
-pub made_of_reached : (words : List ℕ) (kinds : ℕ → ℕ) (links : Links) (pairs : List (Block × ℕ)) (answer : Recovered) → AreReached (slice_index words) kinds links pairs
-    → IsMadeOf words (IsMarked pairs) answer → IsMadeOf words (IsReached (slice_index words) kinds links) answer
-made_of_reached words kinds links pairs answer are made =
+-- the heap that is made where some blocks are kept is that where others are that are the same
+pub made_with : (words : List ℕ) (kept other : Block → Type 0) (answer : Recovered) → ((b : Block) → kept b → other b) → ((b : Block) → other b → kept b)
+    → IsMadeOf words kept answer → IsMadeOf words other answer
+made_with words kept other answer to from made =
     let image = slice_index words in
     let l = layout_of image in
-    let reached = IsReached image kinds links in
-    let to = marked_reached image kinds links pairs are in
-    let from = reached_marked image kinds links pairs are in
     record {
-      held = ascending_same (λ (b : Block). b.first_word) (IsMarked pairs) reached answer.heap.held to from made.held;
-      free = ascending_same (λ d. d) (IsFreeSuperblock l (IsMarked pairs)) (IsFreeSuperblock l reached) answer.free.items
-          (free_with l (IsMarked pairs) reached to from) (free_with l reached (IsMarked pairs) from to) made.free;
+      held = ascending_same (λ (b : Block). b.first_word) kept other answer.heap.held to from made.held;
+      free = ascending_same (λ d. d) (IsFreeSuperblock l kept) (IsFreeSuperblock l other) answer.free.items
+          (free_with l kept other to from) (free_with l other kept from to) made.free;
       was = made.was;
       long = made.long;
-      recovered = recovered_with image (slice_index answer.heap.words) (IsMarked pairs) reached to from made.recovered;
+      recovered = recovered_with image (slice_index answer.heap.words) kept other to from made.recovered;
     }
+
+-- so is the one where the marked blocks are kept, and that where the reached ones are
+pub made_of_reached : (words : List ℕ) (kinds : ℕ → ℕ) (links : Links) (pairs : List (Block × ℕ)) (answer : Recovered) → AreReached (slice_index words) kinds links pairs
+    → IsMadeOf words (IsMarked pairs) answer → IsMadeOf words (IsReached (slice_index words) kinds links) answer
+made_of_reached words kinds links pairs answer are =
+    made_with words (IsMarked pairs) (IsReached (slice_index words) kinds links) answer
+    (marked_reached (slice_index words) kinds links pairs are) (reached_marked (slice_index words) kinds links pairs are)

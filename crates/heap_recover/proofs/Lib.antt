@@ -9,6 +9,8 @@ pub mod RoleLemmas
 pub mod RebuildLemmas
 pub mod KeptLemmas
 pub mod UnchangedLemmas
+pub mod LeavesLemmas
+pub mod OutcomeLemmas
 mod CurrentLemmas
 mod InPlaceLemmas
 pub mod AlikeLemmas

@@ -208,29 +208,34 @@ module _ (l : Layout) (kept : Block → Type 0) (blocks : KeepsBlocks l kept) wh
     pub large_unkept : (block : Block) → block.first_word ≡ start_word l.capacity d → block.words ≡ superblock_words * count → (kept block → ⊥) → (b : Block) → IsKeptIn l.capacity kept d b → ⊥
     large_unkept block first words unkept b is_b = unkept (subst kept (same_fields b block ((large_begun b is_b).0 ∙ sym first) ((large_begun b is_b).1 ∙ sym words)) is_b.is_kept)
 
+    -- one that is kept goes on through its superblocks
+    module _ (end : ℕ) (old : GoOnTo l kept d end) (block : Block) (first : block.first_word ≡ start_word l.capacity d) (words : block.words ≡ superblock_words * count) (is_kept : kept block) where
+      large_here : IsKeptIn l.capacity kept d block
+      large_here = record { is_kept = is_kept; from = omega arith; until = omega arith }
+
+      large_holds : (e : ℕ) → d ≤ e → e < d + count → HoldsKept l kept e
+      large_holds e low high = record { block = block; is_kept = is_kept; part = record { begins = omega arith; ends = omega arith } }
+
+      pub large_goes_on : GoOnTo l kept (d + 1) (d + count)
+      large_goes_on = record {
+        inside = λ e low high. record { holds = large_holds e (omega arith) high; no_info = (large_begun block large_here).2 e (omega arith) high };
+        ends = λ b e kept_b before low past. elim (cases_lt b.first_word (start_word l.capacity d)) as (λ _. b.first_word + b.words ≤ start_word l.capacity e) [
+          | inl lower ↦ old.ends b e kept_b lower (omega arith) (let past_end = ends_here d end old (omega arith) in omega arith)
+          | inr in_d ↦ let begun = large_begun b (record { is_kept = kept_b; from = in_d; until = before }) in omega (arith, begun.0, begun.1)
+        ];
+      }
+
     -- the survey of one that begins a kept large block
     pub large_survey : (end : ℕ) → GoOnTo l kept d end → (block : Block) → block.first_word ≡ start_word l.capacity d → block.words ≡ superblock_words * count → kept block
         → (survey : Survey) → survey.role ≡ Large → survey.held.items ≡ block ∷ [] → survey.spares.items ≡ [] → survey.end ≡ d + count → IsSurvey l kept d survey
     large_survey end old block first words is_kept survey role held spares ends = record {
       role = subst (λ r. IsRole l kept d r survey.spares.items) (sym role) (subst (λ xs. IsRole l kept d Large xs) (sym spares)
-          (is_large (record { taken = taken; holds = holds d (omega arith) (omega arith); no_class = λ is. let last = is.last in omega arith })));
+          (is_large (record { taken = taken; holds = large_holds end old block first words is_kept d (omega arith) (omega arith); no_class = λ is. let last = is.last in omega arith })));
       in_order = subst (λ xs. AreAscending (λ (b : Block). b.first_word) (IsKeptIn l.capacity kept d) xs) (sym held)
           (ascending_push (λ (b : Block). b.first_word) (λ _. ⊥) (IsKeptIn l.capacity kept d) [] block
           (ascending_none (λ (b : Block). b.first_word) (λ _. ⊥) (λ x none. none)) (λ y none. absurd none) (λ y none. absurd none)
-          here (λ b is_b. inr (same b is_b)));
-      goes_on = subst (λ e. GoOnTo l kept (d + 1) e) (sym ends) (record {
-        inside = λ e low high. record { holds = holds e (omega arith) high; no_info = (large_begun block here).2 e (omega arith) high };
-        ends = λ b e kept_b before low past. elim (cases_lt b.first_word (start_word l.capacity d)) as (λ _. b.first_word + b.words ≤ start_word l.capacity e) [
-          | inl lower ↦ old.ends b e kept_b lower (omega arith) (let past_end = ends_here d end old (omega arith) in omega arith)
-          | inr in_d ↦ let begun = large_begun b (record { is_kept = kept_b; from = in_d; until = before }) in omega (arith, begun.0, begun.1)
-        ];
-      });
+          (large_here end old block first words is_kept) (λ b is_b. inr (same b is_b)));
+      goes_on = subst (λ e. GoOnTo l kept (d + 1) e) (sym ends) (large_goes_on end old block first words is_kept);
     } where
-      here : IsKeptIn l.capacity kept d block
-      here = record { is_kept = is_kept; from = omega arith; until = omega arith }
-
       same : (b : Block) → IsKeptIn l.capacity kept d b → b ≡ block
       same b is_b = same_fields b block ((large_begun b is_b).0 ∙ sym first) ((large_begun b is_b).1 ∙ sym words)
-
-      holds : (e : ℕ) → d ≤ e → e < d + count → HoldsKept l kept e
-      holds e low high = record { block = block; is_kept = is_kept; part = record { begins = omega arith; ends = omega arith } }

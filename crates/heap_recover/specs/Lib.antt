@@ -4,3 +4,5 @@ pub mod Rebuilt
 pub mod Fault
 pub mod Answer
 pub mod InPlace
+pub mod Superblock
+pub mod SuperblockExamples

@@ -1,6 +1,6 @@
 //! What follows from the words that recovery leaves, and of recovery begun again, as functions with
 //! nothing to run.
-ghost use Rattle.std.specs.Prelude.{◌≡◌, ◌<◌, ℕ, List, Option};
+ghost use Rattle.std.specs.Prelude.{◌≡◌, ◌<◌, ℕ, List, Option, length, slice_index};
 ghost use Rattle.heap_model.specs.declared.block.Block.{Block};
 ghost use Rattle.heap_model.specs.Geometry.{roots, root_word, kind_word};
 ghost use Rattle.heap_model.specs.Header.{capacity_of};
@@ -10,6 +10,7 @@ ghost use Rattle.heap_model.specs.Reach.{Links, IsReached, IsReachedIn};
 ghost use Rattle.heap_model.specs.Recovered.{IsFreeSuperblock, AreAscending};
 ghost use Rattle.heap_model.specs.Recovery.{IsRecovered};
 ghost use Rattle.heap_recover.specs.InPlace.{RecoversAlike};
+ghost use Rattle.heap_recover.specs.Superblock.{LeavesSuperblock};
 
 /// Recovery changes no word of a reached block, no root, and no kind of a root.
 pub fn reached_words_are_unchanged()
@@ -37,4 +38,22 @@ pub fn recovery_begun_again_gives_the_same()
         → AreAscending (λ d. d) (IsFreeSuperblock (layout_of image) (IsReachedIn image links)) free
         → AreAscending (λ d. d) (IsFreeSuperblock (layout_of other) (IsReachedIn other links)) again
         → again ≡ free }
+{}
+
+/// Recovery leaves each superblock as if there were no other: which of its words change, and to
+/// what, follows from the image and from which blocks are kept.
+pub fn each_superblock_is_left_by_itself()
+    ensures { (old new : Image) (links : Links) → IsRecovered old new (IsReachedIn old links)
+        → (d : ℕ) → LeavesSuperblock old new (IsReachedIn old links) d }
+{}
+
+/// Recovery has one outcome: the image and the blocks that its roots reach say what each word of
+/// the heap is, in whatever way it was made.
+pub fn recovery_has_one_outcome()
+    ensures { (old new other : List ℕ) (links : Links) (held : List Block)
+        → length other ≡ length new
+        → AreAscending (λ (b : Block). b.first_word) (IsReachedIn (slice_index old) links) held
+        → IsRecovered (slice_index old) (slice_index new) (IsReachedIn (slice_index old) links)
+        → IsRecovered (slice_index old) (slice_index other) (IsReachedIn (slice_index old) links)
+        → other ≡ new }
 {}

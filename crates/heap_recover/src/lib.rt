@@ -13,9 +13,19 @@ mod recovery;
 mod roles;
 mod superblocks;
 mod surveys;
+mod taken;
 
 pub use answer::{Recovered, Was};
 pub use fault::RecoverFault;
 pub use in_place::rebuild;
-pub use laws::{reached_words_are_unchanged, recovery_begun_again_gives_the_same};
-pub use recovery::{recover, recover_owned};
+pub use laws::{
+    each_superblock_is_left_by_itself, reached_words_are_unchanged,
+    recovery_begun_again_gives_the_same, recovery_has_one_outcome,
+};
+pub use recovery::{
+    current_copy, keep_marked, recover, recover_by, recover_owned, recover_owned_by,
+};
+pub use roles::Role;
+pub use superblocks::rebuild_superblock;
+pub use surveys::{Survey, survey_superblock};
+pub use taken::{Found, InOrder, TakenPass};

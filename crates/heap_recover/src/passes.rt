@@ -12,21 +12,19 @@ use crate::lists::link_lists;
 use crate::roles::Role;
 use crate::superblocks::rebuild_superblock;
 use crate::surveys::survey_superblock;
+use crate::taken::{Found, TakenPass};
 use filter_trace::Marks;
 use std::alloc::{AllocError, Global};
-use super_block::{Block, CAPACITY_WORD, DIRTY, Geometry, STATE_WORD, USED_WORD};
-
-/// What recovery finds in the superblocks of an image.
-#[derive(Drop)]
-pub struct Found {
-    /// The kept blocks, in order.
-    pub held: Vec<Block>,
-    /// The role of each superblock that has been taken.
-    pub roles: Vec<Role>,
-}
+use super_block::{CAPACITY_WORD, DIRTY, Geometry, STATE_WORD, USED_WORD};
 
 /// Makes the words of an image those of a heap at rest that keeps the marked blocks.
-pub fn rebuild(alloc: Global, words: &mut [u64], marks: &Marks) -> Result<Found, AllocError>
+pub fn rebuild<P: TakenPass>(
+    alloc: Global,
+    words: &mut [u64],
+    marks: &Marks,
+    pass: &P,
+) -> Result<Found, AllocError>
+    requires ready { P.ready pass.now }
     requires formed { IsWellFormed (8 * length words.old) (slice_index words.old) }
     requires keeps { KeepsBlocks (layout_of (slice_index words.old)) (IsMarked marks.now.pairs) }
     requires described { Describes marks.now.directory (layout_of (slice_index words.old)) }
@@ -35,7 +33,7 @@ pub fn rebuild(alloc: Global, words: &mut [u64], marks: &Marks) -> Result<Found,
 {
     let geometry = Geometry::new(words[CAPACITY_WORD as usize]);
     let used = words[USED_WORD as usize];
-    let found = rebuild_taken(alloc, words, &geometry, used, marks)?;
+    let found = pass.rebuild_taken(alloc, words, &geometry, used, marks)?;
     clear_rest(words, &geometry, used);
     link_lists(alloc, words, &geometry, &found.roles)?;
     words[STATE_WORD as usize] = DIRTY;
@@ -44,7 +42,7 @@ pub fn rebuild(alloc: Global, words: &mut [u64], marks: &Marks) -> Result<Found,
 
 /// Rebuilds the superblocks of an image that have been taken, each in its role. What a superblock
 /// was before is read before it is written.
-fn rebuild_taken(
+pub fn rebuild_taken(
     alloc: Global,
     words: &mut [u64],
     geometry: &Geometry,

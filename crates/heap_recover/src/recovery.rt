@@ -18,6 +18,7 @@ use crate::answer::{Recovered, Was};
 use crate::fault::RecoverFault;
 use crate::lists::members;
 use crate::passes::rebuild;
+use crate::taken::{InOrder, TakenPass};
 use filter_trace::{Filter, Marks, trace};
 use region_header::{current, migrate, read_header};
 use std::alloc::{AllocError, Global};
@@ -70,10 +71,7 @@ pub fn recover<F: Filter>(
         → header_fault (Some F.KINDS) (8 * length words.now) (slice_index words.now) ≡ Some cause
         → result ≡ Err (RecoverFault.Header cause) }
 {
-    // A bad header is told before there is memory for a copy.
-    let header = read_header(words, Some(F::KINDS))?;
-    let current = current_copy(alloc, words, header.version, kinds)?;
-    recover_current(alloc, current, header.clean, filter)
+    recover_by(alloc, words, kinds, filter, &InOrder)
 }
 
 /// The same in the room of the image, which is gone where it is refused.
@@ -109,13 +107,102 @@ pub fn recover_owned<F: Filter>(
         ≡ Some cause
         → result ≡ Err (RecoverFault.Header cause) }
 {
+    recover_owned_by(alloc, words, kinds, filter, &InOrder)
+}
+
+/// The same, with this pass over the superblocks that have been taken.
+pub fn recover_by<F: Filter, P: TakenPass>(
+    alloc: Global,
+    words: &[u64],
+    kinds: &[u32],
+    filter: &F,
+    pass: &P,
+) -> Result<Recovered, RecoverFault>
+    requires ready { P.ready pass.now }
+    requires roots { length kinds.now ≡ roots }
+    requires kinds { All (λ kind. kind < F.KINDS) kinds.now }
+
+    // the answer
+    ensures held { IfOk result (λ answer. AreAscending (λ (b : Block). b.first_word)
+        (IsReachedIn (slice_index (current_words words.now kinds.now)) (F.links_of filter.now))
+        answer.heap.held) }
+    ensures free { IfOk result (λ answer. AreAscending (λ d. d)
+        (IsFreeSuperblock (layout_of (slice_index (current_words words.now kinds.now)))
+        (IsReachedIn (slice_index (current_words words.now kinds.now)) (F.links_of filter.now)))
+        answer.free.items) }
+    ensures was { IfOk result (λ answer.
+        (answer.was ≡ Was.Clean) ↔ (state_of (slice_index words.now) ≡ clean)) }
+    ensures long { IfOk result (λ answer.
+        length answer.heap.words ≡ length (current_words words.now kinds.now)) }
+    ensures words { IfOk result (λ answer.
+        IsRecovered (slice_index (current_words words.now kinds.now))
+        (slice_index answer.heap.words)
+        (IsReachedIn (slice_index (current_words words.now kinds.now)) (F.links_of filter.now))) }
+    ensures kinds { IfOk result (λ answer.
+        HasKindsBelow (Some F.KINDS) (slice_index answer.heap.words)) }
+
+    // when it comes, and what comes else
+    ensures good { OnOk result
+        (HasGoodHeader (Some F.KINDS) (8 * length words.now) (slice_index words.now)) }
+    ensures formed { OnOk result (IsWellFormed (8 * length (current_words words.now kinds.now))
+        (slice_index (current_words words.now kinds.now))) }
+    ensures none { OnOk result ((at : ℕ)
+        → IsOutsideIn (slice_index (current_words words.now kinds.now))
+        (F.links_of filter.now) at → ⊥) }
+    ensures cause { IfErr result (TellsFault (Some F.KINDS) words.now
+        (current_words words.now kinds.now) (F.links_of filter.now)) }
+    ensures header { (cause : BadHeader)
+        → header_fault (Some F.KINDS) (8 * length words.now) (slice_index words.now) ≡ Some cause
+        → result ≡ Err (RecoverFault.Header cause) }
+{
+    // A bad header is told before there is memory for a copy.
+    let header = read_header(words, Some(F::KINDS))?;
+    let current = current_copy(alloc, words, header.version, kinds)?;
+    recover_current(alloc, current, header.clean, filter, pass)
+}
+
+/// The same, with this pass over the superblocks that have been taken.
+pub fn recover_owned_by<F: Filter, P: TakenPass>(
+    alloc: Global,
+    words: Vec<u64>,
+    kinds: &[u32],
+    filter: &F,
+    pass: &P,
+) -> Result<Recovered, RecoverFault>
+    requires ready { P.ready pass.now }
+    requires roots { length kinds.now ≡ roots }
+    requires kinds { All (λ kind. kind < F.KINDS) kinds.now }
+
+    // the answer
+    ensures ok { IfOk result (IsMadeOf (current_words words.items kinds.now)
+        (IsReachedIn (slice_index (current_words words.items kinds.now)) (F.links_of filter.now))) }
+    ensures was { IfOk result (λ answer.
+        (answer.was ≡ Was.Clean) ↔ (state_of (slice_index words.items) ≡ clean)) }
+    ensures kinds { IfOk result (λ answer.
+        HasKindsBelow (Some F.KINDS) (slice_index answer.heap.words)) }
+
+    // when it comes, and what comes else
+    ensures good { OnOk result
+        (HasGoodHeader (Some F.KINDS) (8 * length words.items) (slice_index words.items)) }
+    ensures formed { OnOk result (IsWellFormed (8 * length (current_words words.items kinds.now))
+        (slice_index (current_words words.items kinds.now))) }
+    ensures none { OnOk result ((at : ℕ)
+        → IsOutsideIn (slice_index (current_words words.items kinds.now))
+        (F.links_of filter.now) at → ⊥) }
+    ensures cause { IfErr result (TellsFault (Some F.KINDS) words.items
+        (current_words words.items kinds.now) (F.links_of filter.now)) }
+    ensures header { (cause : BadHeader)
+        → header_fault (Some F.KINDS) (8 * length words.items) (slice_index words.items)
+        ≡ Some cause
+        → result ≡ Err (RecoverFault.Header cause) }
+{
     let header = read_header(&words, Some(F::KINDS))?;
     let current = current(words, kinds)?;
-    recover_current(alloc, current, header.clean, filter)
+    recover_current(alloc, current, header.clean, filter, pass)
 }
 
 /// A copy of the words of an image with a good header, in this version.
-fn current_copy(
+pub fn current_copy(
     alloc: Global,
     words: &[u64],
     version: u64,
@@ -134,12 +221,14 @@ fn current_copy(
 }
 
 /// Recovers an image of this version with a good header.
-fn recover_current<F: Filter>(
+fn recover_current<F: Filter, P: TakenPass>(
     alloc: Global,
     words: Vec<u64>,
     closed: bool,
     filter: &F,
+    pass: &P,
 ) -> Result<Recovered, RecoverFault>
+    requires ready { P.ready pass.now }
     requires formed { IsWellFormed (8 * length words.items) (slice_index words.items) }
     requires below { HasKindsBelow (Some F.KINDS) (slice_index words.items) }
     requires few { F.KINDS < 2 ^ 32 }
@@ -155,24 +244,26 @@ fn recover_current<F: Filter>(
 {
     let stored = root_table::kinds(&words);
     let marks = trace(alloc, &words, &stored, filter)?;
-    let recovered = keep_marked(alloc, words, &marks, closed)?;
+    let recovered = keep_marked(alloc, words, &marks, closed, pass)?;
     Ok(recovered)
 }
 
 /// The heap that is left of the words where the marked blocks are kept.
-fn keep_marked(
+pub fn keep_marked<P: TakenPass>(
     alloc: Global,
     mut words: Vec<u64>,
     marks: &Marks,
     closed: bool,
+    pass: &P,
 ) -> Result<Recovered, AllocError>
+    requires ready { P.ready pass.now }
     requires formed { IsWellFormed (8 * length words.items) (slice_index words.items) }
     requires closed { IsTrue closed ↔ (state_of (slice_index words.items) ≡ clean) }
     requires keeps { KeepsBlocks (layout_of (slice_index words.items)) (IsMarked marks.now.pairs) }
     requires described { Describes marks.now.directory (layout_of (slice_index words.items)) }
     ensures ok { IfOk result (IsMadeOf words.items (IsMarked marks.now.pairs)) }
 {
-    let found = rebuild(alloc, &mut words, marks)?;
+    let found = rebuild(alloc, &mut words, marks, pass)?;
     let free = members(alloc, &found.roles, 0)?;
     Ok(Recovered {
         heap: Ready::new(words, found.held),

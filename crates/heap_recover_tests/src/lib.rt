@@ -15,6 +15,8 @@ mod asserts;
 #[cfg(test)]
 mod images;
 #[cfg(test)]
+mod in_pieces;
+#[cfg(test)]
 mod pairs;
 #[cfg(test)]
 mod rest_check;

@@ -9,14 +9,14 @@ use Rattle.heap_recover.proofs.RebuildLemmas.{rebuild}
 use Rattle.heap_recover.proofs.passes.rebuild.Goals as goal
 
 pub clear_rest-requires-clause-capacity : goal.clear_rest-requires-clause-capacity
-clear_rest-requires-clause-capacity c =
+clear_rest-requires-clause-capacity g c =
     let old = slice_index c.args.words.now in
     let found = c.in_ok-found.found in
     done_capacity old (slice_index c.rebuild_taken.new.words) (IsMarked c.args.marks.now.pairs) (used_of old) found.held.items found.roles.items c.requires.formed.used c.in_ok-found.ensures.ok
     ∙ sym c.new-geometry.ensures
 
 pub returns : goal.returns
-returns c =
+returns g c =
     let old = slice_index c.args.words.now in
     let found = c.in_ok-found.found in
     let done = slice_index c.rebuild_taken.new.words in

@@ -15,14 +15,14 @@ use Rattle.heap_recover.proofs.KeptLemmas.{written_back}
 use Rattle.heap_recover.proofs.recovery.keep_marked.Goals as goal
 
 pub members-requires : goal.members-requires
-members-requires c =
+members-requires g c =
     let long = c.in_ok-found.ensures.ok.long ∙ ap (λ (l : List ℕ). used_of (slice_index l)) c.deref_mut.ensures.value in
     let used = c.requires.formed.used in
     let small = c.requires.formed.small in
     omega (arith, largest_capacity_fits, ap length c.deref.ensures.value)
 
 pub new-requires : goal.new-requires
-new-requires c =
+new-requires g c =
     let words = c.rebuild.new.words in
     let rebuilt = subst (λ (l : List ℕ). IsRebuild (slice_index l) (slice_index words) (IsMarked c.args.marks.now.pairs)
     c.in_ok-found.found.held.items c.in_ok-found.found.roles.items) c.deref_mut.ensures.value c.in_ok-found.ensures.ok in
@@ -35,7 +35,7 @@ new-requires c =
     c.requires.keeps.each rebuilt.in_order rebuilt.recovered)
 
 pub returns : goal.returns
-returns c =
+returns g c =
     let old = slice_index c.args.words.items in
     let words = c.rebuild.new.words in
     let rebuilt = subst (λ (l : List ℕ). IsRebuild (slice_index l) (slice_index words) (IsMarked c.args.marks.now.pairs)

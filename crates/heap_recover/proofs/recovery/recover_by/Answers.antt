@@ -2,7 +2,7 @@ use Rattle.std.proofs.Common.{◌*◌, ℕ, Some, length, slice_index, List, sub
 use Rattle.std.proofs.lemmas.Grind.{common_steps}
 use Rattle.heap_model.specs.Header.{IsWellFormed, HasGoodHeader, HasKindsBelow}
 use Rattle.region_header.proofs.MigrationLemmas.{current_formed, current_below}
-use Rattle.heap_recover.proofs.recovery.recover.Goals as goal
+use Rattle.heap_recover.proofs.recovery.recover_by.Goals as goal
 
 pub recover_current-requires-clause-formed : goal.recover_current-requires-clause-formed
 recover_current-requires-clause-formed g c = subst (λ (l : List ℕ). IsWellFormed (8 * length l) (slice_index l)) (sym c.in_ok-current.ensures.ok)
