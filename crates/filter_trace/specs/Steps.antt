@@ -2,9 +2,11 @@
 use Rattle.std.specs.Prelude.{ℕ, ◌+◌, ◌*◌, ◌≡◌, List, slice_index, slice_index_or, length, true, false}
 use Rattle.heap_model.specs.declared.block.Block.{Block}
 use Rattle.heap_model.specs.Geometry.{roots}
+use Rattle.heap_model.specs.Image.{Image}
 use Rattle.heap_model.specs.Header.{IsWellFormed}
 use Rattle.heap_model.specs.Blocks.{layout_of}
 use Rattle.heap_model.specs.Reach.{Links, words_in}
+use Rattle.super_block.specs.Division.{Divisions, Describes}
 use Rattle.filter_trace.specs.declared.pairs.PairSet.{PairSet}
 use Rattle.filter_trace.specs.Pairs.{Inserts, AreMarked}
 use Rattle.filter_trace.specs.Trace.{Follows, FollowsRoots, FollowsLinks, AreFoundPairs}
@@ -24,6 +26,14 @@ Adds b kind old new = Inserts old.kinds b kind old.pairs.items new.pairs.items o
 -- the pairs are of blocks of the image, and the marks tell them
 abbrev pub IsSetOf : List ℕ → PairSet → Type 0
 IsSetOf words set = AreMarked (layout_of (slice_index words)) set.kinds set.pairs.items set.marks
+
+-- there is an image whose blocks the directory has, and of which the pairs are, marked
+pub record AreOfImage (directory : Divisions) (set : PairSet) : Type 0 where
+  pub image : Image
+  pub words : ℕ
+  pub formed : IsWellFormed (8 * words) image
+  pub described : Describes directory (layout_of image)
+  pub marked : AreMarked (layout_of image) set.kinds set.pairs.items set.marks
 
 -- following the word at the index leaves this
 abbrev pub FollowsWord : List ℕ → ℕ → ℕ → PairSet → PairSet → Type 0

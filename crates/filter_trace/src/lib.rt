@@ -11,6 +11,6 @@ mod worklist;
 pub use fault::TraceFault;
 pub use filter::Filter;
 pub use marks::Marks;
-pub use pairs::mark_at;
+pub use pairs::{PairSet, mark_at};
 pub use scan::{Scan, Target};
 pub use worklist::trace;

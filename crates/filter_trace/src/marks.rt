@@ -4,6 +4,7 @@ ghost use Rattle.heap_model.specs.declared.block.Block.{Block};
 ghost use Rattle.heap_model.specs.Blocks.{Layout, IsBlock};
 ghost use Rattle.super_block.specs.Division.{Describes};
 ghost use Rattle.filter_trace.specs.Reached.{IsReachedAt};
+ghost use Rattle.filter_trace.specs.Steps.{AreOfImage};
 
 use crate::pairs::PairSet;
 use heap_model::Block;
@@ -30,6 +31,15 @@ impl Model for Marks {
 }
 
 impl Marks {
+    /// What a trace has reached whose pairs are these.
+    pub fn of(directory: Directory, found: PairSet) -> Marks
+        requires { AreOfImage directory found }
+        ensures directory { result.directory ≡ directory }
+        ensures pairs { result.pairs ≡ found.pairs.items }
+    {
+        Marks { directory, found }
+    }
+
     /// Whether the block has been reached as one of the kind. Also a block that the image does not
     /// have may be asked for.
     pub fn has(&self, block: Block, kind: u32) -> bool

@@ -65,7 +65,7 @@ impl Scan<'_> {
     }
 
     /// Adds what the word at the index leads to, as one of the kind.
-    fn follow(&self, at: usize, kind: u32, found: &mut PairSet) -> Result<(), TraceFault>
+    pub fn follow(&self, at: usize, kind: u32, found: &mut PairSet) -> Result<(), TraceFault>
         requires at { at < length self.now.words.now }
         requires described { Describes self.now.directory.now
             (layout_of (slice_index self.now.words.now)) }

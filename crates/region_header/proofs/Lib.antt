@@ -1,7 +1,7 @@
 mod FormatLemmas
 pub mod KindLemmas
 pub mod MigrationLemmas
-mod ReachedLemmas
+pub mod ReachedLemmas
 pub mod SameHeader
 mod StoredLemmas
 pub mod WordBytes

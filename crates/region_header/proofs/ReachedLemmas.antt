@@ -13,7 +13,7 @@ use Rattle.region_header.specs.Migration.{current_words, HasSameHeap}
 use Rattle.region_header.proofs.MigrationLemmas.{current_same, current_kinds}
 
 -- the same heap, seen from the other image
-other_way : (image other : Image) → HasSameHeap image other → HasSameHeap other image
+pub other_way : (image other : Image) → HasSameHeap image other → HasSameHeap other image
 other_way image other same = record {
   capacity_is = sym same.capacity_is;
   state_is = sym same.state_is;
@@ -32,7 +32,7 @@ module _ (image other : Image) (same : HasSameHeap image other) (few : used_of i
       let used = same.used_is in
       as_large n some (same_info d taken ∙ info) (omega arith) (λ i low high. same_info i (omega arith) ∙ zeros i low high)
 
-  same_block : (b : Block) → IsBlock (layout_of image) b → IsBlock (layout_of other) b
+  pub same_block : (b : Block) → IsBlock (layout_of image) b → IsBlock (layout_of other) b
   same_block b is = record {
     superblock = is.superblock;
     index = is.index;
@@ -48,7 +48,7 @@ module _ (image other : Image) (same : HasSameHeap image other) (few : used_of i
   }
 
   -- the words of a block are the same
-  same_part : (b : Block) → IsBlock (layout_of image) b → (word : ℕ) → b.first_word ≤ word → word < b.first_word + b.words → other word ≡ image word
+  pub same_part : (b : Block) → IsBlock (layout_of image) b → (word : ℕ) → b.first_word ≤ word → word < b.first_word + b.words → other word ≡ image word
   same_part b is word low high =
       let lies = block_inside (layout_of image) b is in
       same.words_are word (λ e. omega (arith, e, lies.0)) (omega (arith, lies.1))

@@ -1,0 +1,6 @@
+//! An image recovered with no filter at all, and what is told of it.
+#![tactic(auto)]
+
+mod telling;
+
+pub use telling::conservative_text;

@@ -1,0 +1,4 @@
+pub mod StepLemmas
+pub mod WorkLemmas
+pub mod RecoveryLemmas
+pub mod LawLemmas
