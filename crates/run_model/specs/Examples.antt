@@ -1,0 +1,119 @@
+-- Worked examples by computation: what is a worker's of a trace and of its replies, what traces need, bounds of steps, runs that answer a first part, and what workers took.
+use Rattle.std.specs.Prelude.{◌≡◌, List, [], ◌∷◌, map, sum_by, None, Some, refl}
+use Rattle.heap_model.specs.Sizes.{span_of}
+use Rattle.dict_model.specs.Nodes.{node_bytes}
+use Rattle.dict_model.specs.Requests.{Request, put, get, del, done, full, none, found}
+use Rattle.run_model.specs.Needs.{superblocks_needed, shards_put_into, step_bound}
+use Rattle.run_model.specs.Runs.{answered, unanswered, of_shard, AnswersInOrder, span_taken, first_span, worker_answered, worker_unanswered, worker_span, spans_beside}
+use Rattle.run_model.specs.Workers.{Replies, root_owner, worker_requests, worker_replies, worker_numbers}
+
+-- a put, a get, a del and a get of one key
+abbrev pub four : List Request
+four = put 5 (97 ∷ 98 ∷ []) ∷ get 5 ∷ del 5 ∷ get 5 ∷ []
+
+-- keys 5 and 13 are of shard 5, keys 6 and 14 of shard 6
+abbrev pub mixed : List Request
+mixed = put 5 (97 ∷ 98 ∷ []) ∷ get 6 ∷ put 14 [] ∷ del 13 ∷ []
+
+-- of two workers the second has shard 5, and the first has shard 6
+second_of_two : worker_requests 2 1 mixed ≡ put 5 (97 ∷ 98 ∷ []) ∷ del 13 ∷ []
+second_of_two = refl
+
+first_of_two : worker_requests 2 0 mixed ≡ get 6 ∷ put 14 [] ∷ []
+first_of_two = refl
+
+-- of eight each has the shard of its number
+of_eight : map (λ worker. worker_requests 8 worker mixed) (0 ∷ 5 ∷ 6 ∷ []) ≡ [] ∷ (put 5 (97 ∷ 98 ∷ []) ∷ del 13 ∷ []) ∷ (get 6 ∷ put 14 [] ∷ []) ∷ []
+of_eight = refl
+
+-- one alone has all
+of_one : worker_requests 1 0 mixed ≡ mixed
+of_one = refl
+
+eight_numbers : worker_numbers 8 ≡ 0 ∷ 1 ∷ 2 ∷ 3 ∷ 4 ∷ 5 ∷ 6 ∷ 7 ∷ []
+eight_numbers = refl
+
+-- a root that is no shard's is the first worker's
+owners : root_owner 2 5 ∷ root_owner 2 6 ∷ root_owner 2 9 ∷ root_owner 8 7 ∷ root_owner 8 9 ∷ [] ≡ 1 ∷ 0 ∷ 0 ∷ 7 ∷ 0 ∷ []
+owners = refl
+
+-- one superblock for the node and one for the table; of the mixed trace two nodes and two tables, whoever works it off
+needed : superblocks_needed four ∷ superblocks_needed mixed ∷ superblocks_needed (get 5 ∷ del 5 ∷ []) ∷ [] ≡ 2 ∷ 4 ∷ 0 ∷ []
+needed = refl
+
+-- keys 5 and 13 share a table
+two_shards : shards_put_into (put 5 [] ∷ put 13 [] ∷ put 6 [] ∷ get 7 ∷ []) ≡ 2
+two_shards = refl
+
+-- the tables of two workers are those of the trace
+shards_of_two : map (λ worker. shards_put_into (worker_requests 2 worker mixed)) (0 ∷ 1 ∷ []) ≡ 1 ∷ 1 ∷ []
+shards_of_two = refl
+
+-- the node of the longest value takes three superblocks, that of 65,513 bytes two, and one byte less fits one
+spans : span_of (node_bytes 131072) ∷ span_of (node_bytes 65513) ∷ span_of (node_bytes 65512) ∷ [] ≡ 3 ∷ 2 ∷ 1 ∷ []
+spans = refl
+
+-- no request, and one on an empty image; two workers and eight
+bounds : step_bound 0 0 1 ∷ step_bound 1 0 1 ∷ step_bound 4 1 2 ∷ step_bound 1 5 8 ∷ [] ≡ 2097152 ∷ 5308424 ∷ 33816736 ∷ 159449136 ∷ []
+bounds = refl
+
+-- two of four requests are answered
+abbrev pub two_answered : Replies
+two_answered = Some done ∷ Some (found (97 ∷ 98 ∷ [])) ∷ None ∷ None ∷ []
+
+answers : answered four two_answered ≡ (put 5 (97 ∷ 98 ∷ []), done) ∷ (get 5, found (97 ∷ 98 ∷ [])) ∷ []
+answers = refl
+
+rest : unanswered four two_answered ≡ del 5 ∷ get 5 ∷ []
+rest = refl
+
+first_part : AnswersInOrder four two_answered
+first_part = record { first = refl; then_none = refl }
+
+-- no reply comes behind one that is missing
+not_behind : AnswersInOrder four (Some done ∷ None ∷ Some done ∷ None ∷ []) → ⊥
+not_behind is = let e = is.then_none in absurd (cc)
+
+-- nor is one too many or one too few
+not_more : AnswersInOrder (get 5 ∷ []) (Some none ∷ Some none ∷ []) → ⊥
+not_more is = let e = is.then_none in absurd (cc)
+
+not_fewer : AnswersInOrder (get 5 ∷ []) [] → ⊥
+not_fewer is = let e = is.then_none in absurd (cc)
+
+-- of the mixed trace a put is unanswered, and the del behind it is answered
+abbrev pub one_missing : Replies
+one_missing = Some done ∷ Some none ∷ None ∷ Some done ∷ []
+
+-- so the second of two workers has answered all, and the first has one left
+all_of_second : worker_replies 2 1 mixed one_missing ≡ Some done ∷ Some done ∷ []
+all_of_second = refl
+
+some_of_first : worker_replies 2 0 mixed one_missing ≡ Some none ∷ None ∷ []
+some_of_first = refl
+
+answered_by_first : worker_answered 2 0 mixed one_missing ≡ (get 6, none) ∷ []
+answered_by_first = refl
+
+left_to_each : map (λ worker. worker_unanswered 2 worker mixed one_missing) (0 ∷ 1 ∷ []) ≡ (put 14 [] ∷ []) ∷ [] ∷ []
+left_to_each = refl
+
+-- the requests to shard 5 of a mixed trace
+one_shard : of_shard 5 ((put 5 [], done) ∷ (get 6, none) ∷ (del 13, none) ∷ []) ≡ (put 5 [], done) ∷ (del 13, none) ∷ []
+one_shard = refl
+
+-- what the puts before took: those that were done, and no others
+taken : sum_by span_taken ((put 5 [], done) ∷ (put 6 [], full) ∷ (get 5, found []) ∷ (put 13 [], done) ∷ []) ≡ 2
+taken = refl
+
+-- the first of those that are left may have taken some
+taken_by_first : first_span (put 14 [] ∷ put 6 [] ∷ []) ∷ first_span (get 6 ∷ put 6 [] ∷ []) ∷ first_span [] ∷ [] ≡ 1 ∷ 0 ∷ 0 ∷ []
+taken_by_first = refl
+
+-- each of two workers took one superblock for a node at most, of eight the two that have requests
+taken_by_each : worker_span 2 0 mixed one_missing ∷ worker_span 2 1 mixed one_missing ∷ worker_span 8 0 mixed one_missing ∷ worker_span 8 6 mixed one_missing ∷ [] ≡ 1 ∷ 1 ∷ 0 ∷ 1 ∷ []
+taken_by_each = refl
+
+-- beside one alone none is taken, beside one of two what the other took, and beside one of eight that has no request all
+taken_beside : spans_beside 1 0 mixed one_missing ∷ spans_beside 2 0 mixed one_missing ∷ spans_beside 8 3 mixed one_missing ∷ spans_beside 8 5 mixed one_missing ∷ [] ≡ 0 ∷ 1 ∷ 2 ∷ 1 ∷ []
+taken_beside = refl

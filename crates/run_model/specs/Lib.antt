@@ -1,0 +1,9 @@
+pub mod Examples
+pub mod Needs
+pub mod Opened
+pub mod Progress
+pub mod Runs
+pub mod Spending
+pub mod Stands
+pub mod Workers
+pub mod Working

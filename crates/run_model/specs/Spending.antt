@@ -1,0 +1,46 @@
+-- What requests take of an open heap: superblocks for nodes and tables, and calls.
+use Rattle.std.specs.Prelude.{◌≡◌, ℕ, ◌+◌, ◌*◌, ◌<◌, ◌≤◌, List, ◌∷◌, ◌++◌, sum_by}
+use Rattle.heap_seat.specs.View.{View}
+use Rattle.heap_seat.specs.Looks.{KnowsNoLess}
+use Rattle.heap_seat.specs.Rows.{IsRow}
+use Rattle.dict_model.specs.Requests.{Request, put, get, del, Reply, full}
+use Rattle.dict_seat.specs.Puts.{WasNull, RootIsSet}
+use Rattle.run_model.specs.Needs.{node_span, shards_put_into}
+use Rattle.run_model.specs.Workers.{shard_asked}
+use Rattle.run_model.specs.Runs.{span_taken, first_span}
+
+abbrev pub IsPut : Request → Type 0
+IsPut (put key value) = Unit {0}
+IsPut (get key) = ⊥
+IsPut (del key) = ⊥
+
+-- an answered request took superblocks for its put's node at most, and one for a table where its shard had none and has one now
+pub data TakesFew (request : Request) (reply : Reply) (v w : View) : Type 0 where
+  for_node : w.taken ≤ v.taken + span_taken (request, reply) → TakesFew request reply v w
+  with_table : IsPut request → WasNull v (shard_asked request) → RootIsSet w (shard_asked request)
+      → w.taken ≤ v.taken + span_taken (request, reply) + 1 → TakesFew request reply v w
+
+-- when the mark of taken superblocks was last read too few were left for the request's node, and none was taken since
+pub record HadNoRoom (request : Request) (w : View) : Type 0 where
+  pub past : w.capacity < w.used_look.seen + node_span request
+  pub now : w.used_look.taken ≡ w.taken
+
+-- and since the first view the puts before it, and the tables of the trace, took no more than this
+pub record IsFullBehind (requests : List Request) (before : List (Request × Reply)) (request : Request) (v w : View) : Type 0 where
+  pub room : HadNoRoom request w
+  pub taken : w.taken ≤ v.taken + sum_by span_taken before + shards_put_into requests
+
+-- each put that was told that there is no room was so at a moment of the heap from the one state to the other, and nothing was forgotten of the mark since
+pub record AreFullRightly {S : Type 0} (view : S → View) (keeps : S → S → Type 0) (requests : List Request) (rs : List (Request × Reply))
+    (s s' : S) : Type 0 where
+  pub each : (before later : List (Request × Reply)) (key : ℕ) (value : List ℕ) → rs ≡ before ++ (put key value, full) ∷ later
+      → (t : S) × keeps s t × keeps t s' × KnowsNoLess (view t) (view s') × IsFullBehind requests before (put key value) (view s) (view t)
+
+-- since the first view no more superblocks were taken than for the nodes of the puts that were done, for the first of the requests that are left, and for the tables of all of them
+pub record HasTakenFew (requests : List Request) (rs : List (Request × Reply)) (left : List Request) (v w : View) : Type 0 where
+  pub taken : w.taken ≤ v.taken + (sum_by span_taken rs + first_span left) + shards_put_into requests
+
+-- so many requests make three large calls each at most, and so many small ones
+pub record MakeFew (requests small : ℕ) (v w : View) : Type 0 where
+  pub most : ℕ
+  pub row : IsRow (requests * small) (3 * requests) most v w

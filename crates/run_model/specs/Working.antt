@@ -1,0 +1,86 @@
+-- How far a run has come in its trace, where it was stopped, and the room that there is for the values that it reads.
+use Rattle.std.specs.Prelude.{◌≡◌, ℕ, ◌+◌, ◌*◌, ◌<◌, ◌≤◌, Bool, true, List, [], ◌∷◌, ◌++◌, length, map, Option, Some, Contains}
+use Rattle.heap_model.specs.Image.{Image}
+use Rattle.heap_seat.specs.View.{View}
+use Rattle.heap_seat.specs.Rows.{IsRow}
+use Rattle.heap_seat.specs.Sound.{IsSeat}
+use Rattle.dict_model.specs.Links.{shards}
+use Rattle.dict_model.specs.Nodes.{largest_value, shard_of}
+use Rattle.dict_model.specs.Requests.{Request, put, get, del, Reply, full}
+use Rattle.dict_model.specs.Shards.{Map, MapOf}
+use Rattle.dict_seat.specs.Maps.{GivesMap}
+use Rattle.dict_seat.specs.Walks.{ListsKeys}
+use Rattle.run_model.specs.Workers.{Replies, shard_asked}
+use Rattle.run_model.specs.Progress.{Answers, MayAnswer, HasAnswered}
+use Rattle.run_model.specs.Spending.{TakesFew, HadNoRoom}
+
+-- these requests are left, and the others have these replies
+pub record HasWorked (image : Image) (requests left : List Request) (replies : Replies) (v : View) : Type 0 where
+  pub rs : List (Request × Reply)
+  pub requests_are : requests ≡ map (λ r. r.0) rs ++ left
+  pub replies_are : replies ≡ map (λ r. Some r.1) rs
+  pub answered : HasAnswered image rs v
+
+-- it was stopped in this request
+pub record HasStopped (image : Image) (requests : List Request) (replies : Replies) (w : View) : Type 0 where
+  pub request : Request
+  pub others : List Request
+  pub before : View
+  pub seat : IsSeat before
+  pub worked : HasWorked image requests (request ∷ others) replies before
+  pub may : MayAnswer request before w
+
+-- how it has ended: all requests were worked off, or it was stopped in one
+pub data HasEnded (image : Image) (requests : List Request) (replies : Replies) (stopped : Bool) (v : View) : Type 0 where
+  at_end : HasWorked image requests [] replies v → HasEnded image requests replies stopped v
+  in_one : stopped ≡ true → HasStopped image requests replies v → HasEnded image requests replies stopped v
+
+-- no value that the key has in the image, or that the trace puts, is longer than this, and this is no more than the longest that there may be
+pub record IsRoomFor (image : Image) (requests : List Request) (key room : ℕ) : Type 0 where
+  pub short : room ≤ largest_value
+  pub of_image : (shard : ℕ) (map : Map) (value : List ℕ) → shard < shards → MapOf image shard map → map key ≡ Some value
+      → length value ≤ room
+  pub of_trace : (value : List ℕ) → Contains requests (put key value) → length value ≤ room
+
+-- there is room for each get's value
+abbrev pub HasRoom : Image → List Request → Request → ℕ → Type 0
+HasRoom image requests (get key) room = IsRoomFor image requests key room
+HasRoom image requests (put key value) room = Unit {0}
+HasRoom image requests (del key) room = Unit {0}
+
+abbrev pub HaveRoom : Image → List Request → List Request → List (List ℕ) → Type 0
+HaveRoom image requests [] rooms = Unit {0}
+HaveRoom image requests (q ∷ qs) [] = ⊥
+HaveRoom image requests (q ∷ qs) (room ∷ rooms) = HasRoom image requests q (length room) × HaveRoom image requests qs rooms
+
+-- a get's value fits, as the seat has it
+abbrev pub Fits : View → Request → ℕ → Type 0
+Fits v (get key) room =
+    (room ≤ largest_value) × ((map : Map) (value : List ℕ) → GivesMap v (shard_of key) map → map key ≡ Some value → length value ≤ room)
+Fits v (put key value) room = Unit {0}
+Fits v (del key) room = Unit {0}
+
+-- the request has this reply, which is right; it took few superblocks, and was told full only where there were too few
+pub record Replied (request : Request) (told : Option Reply) (v w : View) : Type 0 where
+  pub reply : Reply
+  pub told_is : told ≡ Some reply
+  pub answers : Answers request reply v w
+  pub takes : TakesFew request reply v w
+  pub room : reply ≡ full → HadNoRoom request w
+
+-- a request makes few calls: three large ones at most, and so many small ones, four for each key of its shard
+pub record MakesCalls (request : Request) (v w : View) : Type 0 where
+  pub most : ℕ
+  pub row : (keys : List ℕ) → ListsKeys v (shard_asked request) keys → IsRow (33280 + 4 * length keys) 3 most v w
+
+-- a request went from one state of a seat to the next: its reply is right, and what every call keeps was kept; one that was told full had a request for a block refused
+pub record TakesRequest {S : Type 0} (view : S → View) (keeps : S → S → Type 0) (request : Request) (reply : Reply) (s t : S) : Type 0 where
+  pub answers : Answers request reply (view s) (view t)
+  pub may : MayAnswer request (view s) (view t)
+  pub keeps_it : keeps s t
+  pub refused : reply ≡ full → (view t).refusals ≡ (view s).refusals + 1
+
+-- and so request by request
+abbrev pub TakesRequests : {S : Type 0} → (S → View) → (S → S → Type 0) → List (Request × Reply) → S → S → Type 0
+TakesRequests view keeps [] s t = t ≡ s
+TakesRequests {S} view keeps (r ∷ rs) s t = (u : S) × TakesRequest view keeps r.0 r.1 s u × TakesRequests view keeps rs u t
