@@ -23,6 +23,7 @@ pub mod ReadLemmas
 pub mod RequestLemmas
 pub mod SearchLemmas
 pub mod SeatsLemmas
+pub mod ShardReachLemmas
 pub mod TableLemmas
 pub mod TrailLemmas
 pub mod UnreachedLemmas

@@ -123,13 +123,13 @@ impl Shard {
             → ReachesAllHeld (H.view seat.new)) }
         ensures exact_full { IfErr result (λ fault. (looks : Looks) → fault ≡ Full looks
             → ReachesAllHeld (H.view seat.old) → ReachesAllHeld (H.view seat.new)) }
-        ensures taken { OnOk result (PutTakes (node_bytes (length value.now)) (shard_of key)
-            (H.view seat.old) (H.view seat.new)) }
         ensures cause { IfErr result (λ fault. PutAnswers (node_bytes (length value.now))
             (shard_of key) fault (H.view seat.old) (H.view seat.new)) }
 
         // At every exit.
         ensures crash { MayChange (shard_of key) (λ map. with_key map key value.now)
+            (H.view seat.old) (H.view seat.new) }
+        ensures taken { PutTakes (node_bytes (length value.now)) (shard_of key)
             (H.view seat.old) (H.view seat.new) }
         ensures calls { MakesFew (value_words (length value.now))
             (span_of (node_bytes (length value.now)) + span_of table_bytes) (shard_of key)

@@ -12,4 +12,4 @@ pub use dict_seat::{PutFault, Shard};
 pub use fault::MapFault;
 pub use filter::{DictFilter, NODE, OTHER, TABLE, root_kinds};
 pub use laws::recovery_keeps_each_shard;
-pub use read::{maps_of, read_map, read_maps};
+pub use read::{maps_of, origins_of, read_map, read_maps};

@@ -94,7 +94,7 @@ pub fn maps_of(alloc: Global, heap: &Ready) -> Result<Vec<BTreeMap<u64, Bytes>>,
 }
 
 /// Which roots reach each block of an image, by the kinds that it stores for them.
-fn origins_of(alloc: Global, scan: &Scan) -> Result<Origins, AllocError>
+pub fn origins_of(alloc: Global, scan: &Scan) -> Result<Origins, AllocError>
     requires formed { IsWellFormed (8 * length scan.now.words.now)
         (slice_index scan.now.words.now) }
     requires described { Describes scan.now.directory.now

@@ -159,15 +159,7 @@ returns-in-Found-clause-cause g c =
     (still_owned v u (shard_of c.args.key) keeps c.requires.shard.owned) searches.ends.come.root fails) c.put_over.ensures.cause
 
 pub returns-in-Found-clause-taken : goal.returns-in-Found-clause-taken
-returns-in-Found-clause-taken g c =
-    let view = g.H.HeapSeat.view in
-    let v = view c.args.seat.now in
-    let u = view c.search.new.seat in
-    let keeps = c.search.ensures.quiet.quiet.unchanged in
-    let grown = grown_keeps v u keeps in
-    let seat = g.met.H.HeapSeat.seat c.search.new.seat in
-    let w = view c.put_over.new.seat in
-    on_ok_weaker c.put_over.result (λ done. for_node (let a = c.search.ensures.quiet.quiet.calls.few in let b = c.put_over.ensures.calls.few in omega arith)) c.put_over.ensures.ok
+returns-in-Found-clause-taken g c = for_node (let a = c.search.ensures.quiet.quiet.calls.few in let b = c.put_over.ensures.calls.few in omega arith)
 
 pub returns-in-Found-clause-crash : goal.returns-in-Found-clause-crash
 returns-in-Found-clause-crash g c =
@@ -208,15 +200,7 @@ returns-in-Missing-clause-cause g c =
     (still_owned v u (shard_of c.args.key) keeps c.requires.shard.owned) searches.ends.0.root fails) c.put_first.ensures.cause
 
 pub returns-in-Missing-clause-taken : goal.returns-in-Missing-clause-taken
-returns-in-Missing-clause-taken g c =
-    let view = g.H.HeapSeat.view in
-    let v = view c.args.seat.now in
-    let u = view c.search.new.seat in
-    let keeps = c.search.ensures.quiet.quiet.unchanged in
-    let grown = grown_keeps v u keeps in
-    let seat = g.met.H.HeapSeat.seat c.search.new.seat in
-    let w = view c.put_first.new.seat in
-    on_ok_weaker c.put_first.result (λ done. for_node (let a = c.search.ensures.quiet.quiet.calls.few in let b = c.put_first.ensures.calls.few in omega arith)) c.put_first.ensures.ok
+returns-in-Missing-clause-taken g c = for_node (let a = c.search.ensures.quiet.quiet.calls.few in let b = c.put_first.ensures.calls.few in omega arith)
 
 pub returns-in-Missing-clause-crash : goal.returns-in-Missing-clause-crash
 returns-in-Missing-clause-crash g c =
@@ -364,15 +348,9 @@ returns-in_ok-table-in-NoTable-clause-taken g c =
     let u = view c.search.new.seat in
     let keeps = c.search.ensures.quiet.quiet.unchanged in
     let grown = grown_keeps v u keeps in
-    let seat = g.met.H.HeapSeat.seat c.search.new.seat in
     let searches = subst (λ (e : SearchEnd). Searches c.args.key e v u) c.in-NoTable.is c.in_ok-place.ensures.ok in
-    let y = view c.make_table.new.seat in
-    let w = view c.put_first-in-NoTable.new.seat in
-    let makes = c.in_ok-table-in-NoTable.ensures.ok in
-    let table = c.in_ok-table-in-NoTable.table in
-    on_ok_weaker c.put_first-in-NoTable.result
-    (λ done. for_both (was_null v u (shard_of c.args.key) c.requires.shard.owned grown searches.ends.root)
-    (let a = c.search.ensures.quiet.quiet.calls.few in let b = c.make_table.ensures.calls.few in let d = c.put_first-in-NoTable.ensures.calls.few in omega arith)) c.put_first-in-NoTable.ensures.ok
+    for_both (was_null v u (shard_of c.args.key) c.requires.shard.owned grown searches.ends.root)
+    (let a = c.search.ensures.quiet.quiet.calls.few in let b = c.make_table.ensures.calls.few in let d = c.put_first-in-NoTable.ensures.calls.few in omega arith)
 
 pub returns-in_ok-table-in-NoTable-clause-crash : goal.returns-in_ok-table-in-NoTable-clause-crash
 returns-in_ok-table-in-NoTable-clause-crash g c =
@@ -418,3 +396,17 @@ returns-in-Found-clause-calls g c =
     let more = most + span_of table_bytes in
     few_calls (2 * n + 13) 2 more n (shard_of c.args.key) (view c.args.seat.now) u w (omega arith) (omega arith) c.search.ensures.quiet
     (row_more (2 * n + 13) 2 most (2 * n + 13) 2 more u w (omega arith) (omega arith) (omega arith) c.put_over.ensures.calls)
+
+pub returns-in_err-table-in-NoTable-clause-taken : goal.returns-in_err-table-in-NoTable-clause-taken
+returns-in_err-table-in-NoTable-clause-taken g c =
+    let view = g.H.HeapSeat.view in
+    let v = view c.args.seat.now in
+    let u = view c.search.new.seat in
+    let keeps = c.search.ensures.quiet.quiet.unchanged in
+    let grown = grown_keeps v u keeps in
+    let searches = subst (λ (e : SearchEnd). Searches c.args.key e v u) c.in-NoTable.is c.in_ok-place.ensures.ok in
+    for_both (was_null v u (shard_of c.args.key) c.requires.shard.owned grown searches.ends.root)
+    (let a = c.search.ensures.quiet.quiet.calls.few in let b = c.make_table.ensures.calls.few in omega arith)
+
+pub returns-in_err-place-clause-taken : goal.returns-in_err-place-clause-taken
+returns-in_err-place-clause-taken g c = for_node (let a = c.search.ensures.quiet.quiet.calls.few in omega arith)
