@@ -1,0 +1,195 @@
+-- How many superblocks requests take, and how many tables they make: each shard that is put into gets one at most.
+use Rattle.std.proofs.Common.{◌≡◌, ◌≢◌, ℕ, ◌+◌, ◌*◌, ◌≤◌, inl, inr, List, [], ◌∷◌, ◌++◌, sum_by, Option, None, Some, Bool, true, false, not, nat_eq, cond, Contains, refl, subst, sym, ap, ◌∙◌, arith}
+use Rattle.std.specs.Prelude.{count_by, ◌&&◌}
+use Rattle.std.proofs.lemmas.Bool.{cases_eq, and_parts, and_from, and_right, eq-eqb, ne_eqb, or_left, or_right}
+use Rattle.std.proofs.lemmas.List.Sums.{sum_by-cons, sum_by-append}
+use Rattle.heap_model.specs.Geometry.{root_word}
+use Rattle.heap_model.specs.Image.{words_from}
+use Rattle.heap_model.proofs.MemberLemmas.{in_none, in_head, in_rest, head_or_rest}
+use Rattle.heap_model.proofs.ReachLemmas.{not_null}
+use Rattle.heap_seat.specs.View.{View}
+use Rattle.heap_seat.specs.Words.{MayBe}
+use Rattle.dict_model.specs.Links.{shards}
+use Rattle.dict_model.specs.Requests.{Request, put, get, del, Reply}
+use Rattle.dict_model.specs.Shards.{Map, is_empty, has_table}
+use Rattle.dict_seat.specs.Maps.{IsMapIn, GivesMap}
+use Rattle.dict_seat.specs.Puts.{RootIsSet}
+use Rattle.run_model.specs.Needs.{is_to, put_into, shards_put_into}
+use Rattle.run_model.specs.Progress.{MayAnswer}
+use Rattle.run_model.specs.Runs.{span_taken}
+use Rattle.run_model.specs.Spending.{IsPut, TakesFew, for_node as answered_node, with_table as answered_table, HasTakenFew}
+use Rattle.worker_run.specs.Taking.{MayTake, for_node, with_table}
+use Rattle.run_model.specs.Workers.{shard_asked}
+use Rattle.worker_run.proofs.ProgressLemmas.{small_shard}
+use Rattle.heap_model.proofs.ListLemmas.{in_numbers}
+
+-- where what passed still passes, no fewer do, and one more where one passes that did not
+one_count : (a b : Bool) → (a ≡ true → b ≡ true) → cond a 1 0 ≤ cond b 1 0
+one_count true true more = let all : 1 ≤ 1 = omega arith in all
+one_count true false more = let e : false ≡ true = more refl in absurd (cc)
+one_count false true more = let all : 0 ≤ 1 = omega arith in all
+one_count false false more = let all : 0 ≤ 0 = omega arith in all
+
+count_rises : (p q : ℕ → Bool) (xs : List ℕ) → ((x : ℕ) → Contains xs x → p x ≡ true → q x ≡ true) → count_by p xs ≤ count_by q xs
+count_rises p q [] more = let all : 0 ≤ 0 = omega arith in all
+count_rises p q (x ∷ xs) more =
+    let a = sum_by-cons (λ y. cond (p y) 1 0) x xs in
+    let b = sum_by-cons (λ y. cond (q y) 1 0) x xs in
+    let first = one_count (p x) (q x) (more x (in_head x xs)) in
+    let rest = count_rises p q xs (λ y h. more y (in_rest x y xs h)) in
+    omega arith
+
+count_gains : (p q : ℕ → Bool) (xs : List ℕ) (z : ℕ) → Contains xs z → p z ≡ false → q z ≡ true → ((x : ℕ) → Contains xs x → p x ≡ true → q x ≡ true)
+    → count_by p xs + 1 ≤ count_by q xs
+count_gains p q [] z h was now more = absurd (in_none z h)
+count_gains p q (x ∷ xs) z h was now more =
+    let a = sum_by-cons (λ y. cond (p y) 1 0) x xs in
+    let b = sum_by-cons (λ y. cond (q y) 1 0) x xs in
+    elim (head_or_rest x z xs h) as (λ _. count_by p (x ∷ xs) + 1 ≤ count_by q (x ∷ xs)) [
+      | inl same ↦
+          let first : cond (p x) 1 0 + 1 ≤ cond (q x) 1 0 =
+          subst (λ y. cond (p y) 1 0 + 1 ≤ cond (q y) 1 0) (sym same) (rw (was, now) (let all : 0 + 1 ≤ 1 = omega arith in all)) in
+          let rest = count_rises p q xs (λ y in_xs. more y (in_rest x y xs in_xs)) in
+          omega arith
+      | inr later ↦
+          let first = one_count (p x) (q x) (more x (in_head x xs)) in
+          let rest = count_gains p q xs z later was now (λ y in_xs. more y (in_rest x y xs in_xs)) in
+          omega arith
+    ]
+
+-- whether a word is known, and isn't null
+abbrev is_set : Option ℕ → Bool
+is_set None = false
+is_set (Some x) = not (nat_eq x 0)
+
+not_zero : (x : ℕ) → not (nat_eq x 0) ≡ true → x ≢ 0
+not_zero x is e = let same = eq-eqb x 0 e in let no : not true ≡ true = subst (λ b. not b ≡ true) same is in absurd (cc)
+
+zero_not : (x : ℕ) → x ≢ 0 → not (nat_eq x 0) ≡ true
+zero_not x some = ap not (ne_eqb x 0 some)
+
+set_value : (o : Option ℕ) → is_set o ≡ true → (x : ℕ) × (o ≡ Some x) × (x ≢ 0)
+set_value None is = absurd (cc)
+set_value (Some x) is = (x, refl, not_zero x is)
+
+value_set : (o : Option ℕ) (x : ℕ) → o ≡ Some x → x ≢ 0 → is_set o ≡ true
+value_set o x is some = subst (λ k. is_set k ≡ true) (sym is) (zero_not x some)
+
+null_unset : (o : Option ℕ) → ((x : ℕ) → o ≡ Some x → x ≡ 0) → is_set o ≡ false
+null_unset None null = refl
+null_unset (Some x) null = ap not (eq-eqb x 0 (null x refl))
+
+-- whether loads see that the shard's root isn't null
+abbrev pub sees_table : View → ℕ → Bool
+sees_table v shard = is_set (v.volatile (root_word shard))
+
+-- how many of the shards that are put into have a table, as loads see it
+abbrev pub tables_in : List Request → View → ℕ
+tables_in requests v = count_by (λ shard. put_into requests shard && sees_table v shard) (words_from (λ i. i) 0 shards)
+
+-- no more superblocks were taken than those of the nodes, and one for each such table
+abbrev pub HasTaken : List Request → List (Request × Reply) → View → View → Type 0
+HasTaken requests rs v w = w.taken ≤ v.taken + sum_by span_taken rs + tables_in requests w
+
+pub tables_few : (requests : List Request) (v : View) → tables_in requests v ≤ shards_put_into requests
+tables_few requests v =
+    count_rises (λ shard. put_into requests shard && sees_table v shard) (put_into requests) (words_from (λ i. i) 0 shards)
+    (λ x h both. (and_parts (put_into requests x) (sees_table v x) both).0)
+
+-- a shard keeps its table over a request
+pub table_kept : (v w : View) (request : Request) (shard : ℕ) → Contains v.roots shard → MayAnswer request v w
+    → sees_table v shard ≡ true → sees_table w shard ≡ true
+table_kept v w request shard owned may sees =
+    let was = set_value (v.volatile (root_word shard)) sees in
+    elim (cases_eq shard (shard_asked request)) as (λ _. sees_table w shard ≡ true) [
+      | inl same ↦
+          let now = may.table.root was.0 (subst (Contains v.roots) same owned) (subst (λ n. v.volatile (root_word n) ≡ Some was.0) same was.1) was.2 in
+          value_set (w.volatile (root_word shard)) was.0 (subst (λ n. w.volatile (root_word n) ≡ Some was.0) (sym same) now) was.2
+      | inr other ↦ value_set (w.volatile (root_word shard)) was.0 ((may.others.root_words shard owned other).volatile was.0 was.1) was.2
+    ]
+
+-- a shard is put into where one of the requests is such a put
+pub put_into_has : (requests : List Request) (request : Request) → IsPut request → Contains requests request → put_into requests (shard_asked request) ≡ true
+put_into_has [] request is h = absurd (in_none request h)
+put_into_has (put key value ∷ rest) request is h = elim (head_or_rest (put key value) request rest h) as (λ _. put_into (put key value ∷ rest) (shard_asked request) ≡ true) [
+  | inl same ↦ or_left (is_to (shard_asked request) (put key value)) (put_into rest (shard_asked request))
+      (eq-eqb (shard_asked (put key value)) (shard_asked request) (ap shard_asked same))
+  | inr later ↦ or_right (is_to (shard_asked request) (put key value)) (put_into rest (shard_asked request)) (put_into_has rest request is later)
+]
+put_into_has (get key ∷ rest) request is h = elim (head_or_rest (get key) request rest h) as (λ _. put_into (get key ∷ rest) (shard_asked request) ≡ true) [
+  | inl same ↦ absurd (subst IsPut (sym same) is)
+  | inr later ↦ put_into_has rest request is later
+]
+put_into_has (del key ∷ rest) request is h = elim (head_or_rest (del key) request rest h) as (λ _. put_into (del key ∷ rest) (shard_asked request) ≡ true) [
+  | inl same ↦ absurd (subst IsPut (sym same) is)
+  | inr later ↦ put_into_has rest request is later
+]
+
+-- one request more
+pub taken_next : (requests : List Request) (rs : List (Request × Reply)) (request : Request) (reply : Reply) (v u w : View) → Contains requests request
+    → ((shard : ℕ) → put_into requests shard ≡ true → Contains u.roots shard) → MayAnswer request u w → HasTaken requests rs v u → TakesFew request reply u w
+    → HasTaken requests (rs ++ ((request, reply) ∷ [])) v w
+taken_next requests rs request reply v u w h owns may was takes = by_case takes where
+  shown : View → ℕ → Bool
+  shown x shard = put_into requests shard && sees_table x shard
+
+  stays : (shard : ℕ) → Contains (words_from (λ i. i) 0 shards) shard → (put_into requests shard && sees_table u shard) ≡ true → (put_into requests shard && sees_table w shard) ≡ true
+  stays shard among both =
+      let parts = and_parts (put_into requests shard) (sees_table u shard) both in
+      and_from (put_into requests shard) (sees_table w shard) parts.0 (table_kept u w request shard (owns shard parts.0) may parts.1)
+
+  sums : sum_by span_taken (rs ++ ((request, reply) ∷ [])) ≡ sum_by span_taken rs + span_taken (request, reply)
+  sums = let both = sum_by-append span_taken rs ((request, reply) ∷ []) in let one = sum_by-cons span_taken (request, reply) [] in omega arith
+
+  by_case : TakesFew request reply u w → HasTaken requests (rs ++ ((request, reply) ∷ [])) v w
+  by_case (answered_node few) =
+      let more = count_rises (λ shard. put_into requests shard && sees_table u shard) (λ shard. put_into requests shard && sees_table w shard) (words_from (λ i. i) 0 shards) stays in
+      let all_sums = sums in omega arith
+  by_case (answered_table is null now few) =
+      let shard = shard_asked request in
+      let more = count_gains (λ shard. put_into requests shard && sees_table u shard) (λ shard. put_into requests shard && sees_table w shard) (words_from (λ i. i) 0 shards) shard
+      (in_numbers 0 shards shard (omega arith) (let small = small_shard request in omega arith))
+      (and_right (put_into requests shard) (sees_table u shard) (null_unset (u.volatile (root_word shard)) null))
+      (and_from (put_into requests shard) (sees_table w shard) (put_into_has requests request is h) (value_set (w.volatile (root_word shard)) now.value now.seen now.some)) stays in
+      let all_sums = sums in omega arith
+
+-- a request that may not have been answered
+pub taken_stopped : (requests : List Request) (rs : List (Request × Reply)) (request : Request) (others : List Request) (v u w : View) → Contains requests request → HasTaken requests rs v u → MayTake request u w
+    → HasTakenFew requests rs (request ∷ others) v w
+taken_stopped requests rs request others v u w h was (for_node few) = record { taken = let tables = tables_few requests u in omega arith }
+taken_stopped requests rs request others v u w h was (with_table is null few) = record {
+  taken = let shard = shard_asked request in
+      let tables = count_gains (λ shard. put_into requests shard && sees_table u shard) (put_into requests) (words_from (λ i. i) 0 shards) shard
+      (in_numbers 0 shards shard (omega arith) (let small = small_shard request in omega arith))
+      (and_right (put_into requests shard) (sees_table u shard) (null_unset (u.volatile (root_word shard)) null))
+      (put_into_has requests request is h)
+      (λ x among both. (and_parts (put_into requests x) (sees_table u x) both).0) in
+      omega arith;
+}
+
+-- where all were answered
+pub taken_ended : (requests : List Request) (rs : List (Request × Reply)) (v w : View) → HasTaken requests rs v w → HasTakenFew requests rs [] v w
+taken_ended requests rs v w was = record { taken = let tables = tables_few requests w in omega arith }
+
+-- a shard that has a key in every mixture has a table, as loads see it
+seen_or_null : Option ℕ → ℕ
+seen_or_null None = 0
+seen_or_null (Some x) = x
+
+may_seen : (known : Option ℕ) → MayBe known (seen_or_null known)
+unfolding seen_or_null
+may_seen None = tt
+may_seen (Some x) = refl
+
+some_seen : (known : Option ℕ) → seen_or_null known ≢ 0 → (x : ℕ) × (known ≡ Some x) × (x ≢ 0)
+unfolding seen_or_null
+some_seen None some = absurd (some refl)
+some_seen (Some x) some = (x, refl, some)
+
+pub key_has_table : (w : View) (shard : ℕ) (map : Map) (key : ℕ) (value : List ℕ) → GivesMap w shard map → map key ≡ Some value → RootIsSet w shard
+key_has_table w shard map key value gives is = by_map (gives.each (λ word. seen_or_null (w.volatile word)) (record { each = λ word own. inl (may_seen (w.volatile word)) })) where
+  by_map : IsMapIn w (λ word. seen_or_null (w.volatile word)) shard map → RootIsSet w shard
+  by_map (is_empty null none) = let e : None ≡ Some value = sym (none key) ∙ is in absurd (cc)
+  by_map (has_table table nodes there chains means) =
+      let some = some_seen (w.volatile (root_word shard)) (not_null (seen_or_null (w.volatile (root_word shard))) (8 * table.first_word) there.leads_there.1) in
+      record { value = some.0; seen = some.1; some = some.2 }

@@ -1,0 +1,52 @@
+use Rattle.std.proofs.Common.{◌+◌, length, subst, arith}
+use Rattle.heap_seat.specs.declared.fault.AllocFault.{AllocFault}
+use Rattle.heap_model.specs.Sizes.{span_of}
+use Rattle.dict_model.specs.Nodes.{shard_of, value_words, node_bytes, table_bytes}
+use Rattle.dict_model.specs.Requests.{put}
+use Rattle.dict_seat.specs.Puts.{PutAnswers}
+use Rattle.worker_run.proofs.AnsweringLemmas.{calls_few, put_spends, refused_once, replied_put, replied_full}
+use Rattle.worker_run.proofs.answer.put_reply.Goals as goal
+
+pub returns-in-Ok-clause-ok : goal.returns-in-Ok-clause-ok
+returns-in-Ok-clause-ok g c = replied_put c.args.key c.args.value.now (g.H.HeapSeat.view c.args.seat.now) (g.H.HeapSeat.view c.put.new.seat) c.requires.shard c.in-Ok.ensures.ok c.put.ensures.taken
+
+pub returns-in-Ok-clause-calls : goal.returns-in-Ok-clause-calls
+returns-in-Ok-clause-calls g c =
+    let short = c.requires.short in
+    calls_few (put c.args.key c.args.value.now) (value_words (length c.args.value.now)) (span_of (node_bytes (length c.args.value.now)) + span_of table_bytes)
+    (g.H.HeapSeat.view c.args.seat.now) (g.H.HeapSeat.view c.put.new.seat) (omega arith) c.put.ensures.calls
+
+pub returns-in-Err-Full-clause-ok : goal.returns-in-Err-Full-clause-ok
+returns-in-Err-Full-clause-ok g c =
+    let v = g.H.HeapSeat.view c.args.seat.now in
+    let w = g.H.HeapSeat.view c.put.new.seat in
+    let why = subst (λ (fault : AllocFault). PutAnswers (node_bytes (length c.args.value.now)) (shard_of c.args.key) fault v w) c.in-Err-Full.field-0-is c.in-Err-Full.ensures.cause in
+    replied_full c.args.key c.args.value.now _ v w why.0 why.1
+
+pub returns-in-Err-Full-clause-calls : goal.returns-in-Err-Full-clause-calls
+returns-in-Err-Full-clause-calls g c =
+    let short = c.requires.short in
+    calls_few (put c.args.key c.args.value.now) (value_words (length c.args.value.now)) (span_of (node_bytes (length c.args.value.now)) + span_of table_bytes)
+    (g.H.HeapSeat.view c.args.seat.now) (g.H.HeapSeat.view c.put.new.seat) (omega arith) c.put.ensures.calls
+
+pub returns-in-Err-Stopped-clause-calls : goal.returns-in-Err-Stopped-clause-calls
+returns-in-Err-Stopped-clause-calls g c =
+    let short = c.requires.short in
+    calls_few (put c.args.key c.args.value.now) (value_words (length c.args.value.now)) (span_of (node_bytes (length c.args.value.now)) + span_of table_bytes)
+    (g.H.HeapSeat.view c.args.seat.now) (g.H.HeapSeat.view c.put.new.seat) (omega arith) c.put.ensures.calls
+
+pub returns-in-Ok-clause-taken : goal.returns-in-Ok-clause-taken
+returns-in-Ok-clause-taken g c = put_spends c.args.key c.args.value.now (g.H.HeapSeat.view c.args.seat.now) (g.H.HeapSeat.view c.put.new.seat) c.put.ensures.taken
+
+pub returns-in-Err-Full-clause-taken : goal.returns-in-Err-Full-clause-taken
+returns-in-Err-Full-clause-taken g c = put_spends c.args.key c.args.value.now (g.H.HeapSeat.view c.args.seat.now) (g.H.HeapSeat.view c.put.new.seat) c.put.ensures.taken
+
+pub returns-in-Err-Stopped-clause-taken : goal.returns-in-Err-Stopped-clause-taken
+returns-in-Err-Stopped-clause-taken g c = put_spends c.args.key c.args.value.now (g.H.HeapSeat.view c.args.seat.now) (g.H.HeapSeat.view c.put.new.seat) c.put.ensures.taken
+
+pub returns-in-Err-Full-clause-refused : goal.returns-in-Err-Full-clause-refused
+returns-in-Err-Full-clause-refused g c = λ told.
+    let v = g.H.HeapSeat.view c.args.seat.now in
+    let w = g.H.HeapSeat.view c.put.new.seat in
+    let why = subst (λ (fault : AllocFault). PutAnswers (node_bytes (length c.args.value.now)) (shard_of c.args.key) fault v w) c.in-Err-Full.field-0-is c.in-Err-Full.ensures.cause in
+    refused_once (node_bytes (length c.args.value.now)) (shard_of c.args.key) _ v w why.0

@@ -1,0 +1,244 @@
+use Rattle.std.proofs.Common.{◌≡◌, ◌+◌, ◌*◌, List, [], ◌∷◌, length, Some, refl, subst, sym, ap, ◌∙◌, arith}
+use Rattle.std.proofs.lemmas.List.{nil_from_length, length-append}
+use Rattle.run_model.specs.Runs.{answered}
+use Rattle.run_model.specs.Spending.{AreFullRightly, HasTakenFew, MakeFew}
+use Rattle.run_model.specs.Workers.{worker_requests}
+use Rattle.run_model.specs.Working.{HasWorked, Fits, TakesRequests}
+use Rattle.worker_run.specs.Said.{Line, request_of, requests_of, replies_of}
+use Rattle.worker_run.proofs.MineLemmas.{is_next, mine_among, mine_next, owns_still, puts_owned, rooms_next, no_room_left}
+use Rattle.worker_run.proofs.SpendLemmas.{answered_none, answered_next, unanswered_now, worked_count, few_none, few_next, few_more, full_behind, knows_call, refused_none, refused_on, refused_next, takes_push}
+use Rattle.worker_run.proofs.TakenLemmas.{HasTaken, taken_next, taken_stopped, taken_ended}
+use Rattle.worker_run.proofs.WorkLemmas.{work_begins, room_fits, work_replied}
+use Rattle.worker_run.proofs.work.work_off.Goals as goal
+use Rattle.worker_run.proofs.work.work_off.Goals.{in-Some+then-has+in_default-pop_front, in_default}
+
+pub loop-request-init : goal.loop-request-init
+loop-request-init g c =
+    let v = g.H.HeapSeat.view c.args.seat.now in
+    let qs = worker_requests c.args.worker.workers c.args.worker.number (requests_of c.args.requests.now) in
+    let empty = c.requires.1.1.1.1.1.1.1.1.0 in
+    record {
+      worked = subst (λ rs. HasWorked g.image qs qs (replies_of rs) v) (sym empty) (work_begins g.image qs v c.requires.1.1.1.0);
+      rooms = c.requires.1.1.1.1.1.1.0;
+      reserved = let none = ap length empty in let most = c.requires.1.1.1.1.1.1.1.1.1 in omega arith;
+      shorter = omega arith;
+      same_room = refl;
+      taken = subst (λ rs. HasTaken qs (answered qs (replies_of rs)) v v) (sym empty) (subst (λ rs. HasTaken qs rs v v) (sym (answered_none qs)) (omega arith));
+      full = subst (λ rs. AreFullRightly g.H.HeapSeat.view g.H.HeapSeat.keeps qs (answered qs (replies_of rs)) c.args.seat.now c.args.seat.now) (sym empty)
+          (subst (λ rs. AreFullRightly g.H.HeapSeat.view g.H.HeapSeat.keeps qs rs c.args.seat.now c.args.seat.now) (sym (answered_none qs)) (refused_none g.H.HeapSeat.view g.H.HeapSeat.keeps qs c.args.seat.now c.args.seat.now));
+      calls = λ keys lists. subst (λ rs. MakeFew (length rs) (33280 + 4 * (length keys + length qs)) v v) (sym empty) (few_none (33280 + 4 * (length keys + length qs)) v);
+      steps = subst (λ rs. TakesRequests g.H.HeapSeat.view g.H.HeapSeat.keeps (answered qs (replies_of rs)) c.args.seat.now c.args.seat.now) (sym empty)
+          (subst (λ rs. TakesRequests g.H.HeapSeat.view g.H.HeapSeat.keeps rs c.args.seat.now c.args.seat.now) (sym (answered_none qs)) refl);
+      roots = refl;
+      going = λ none. none;
+      kept = g.met.H.HeapSeat.keeps_none c.args.seat.now;
+    }
+
+pub answer-answered-requires-clause-shard : goal.answer-answered-requires-clause-shard
+answer-answered-requires-clause-shard g c =
+    let image = g.image in
+    let v = g.H.HeapSeat.view c.loop-request.seat in
+    let lines = c.args.requests.now in
+    let workers = c.args.worker.workers in
+    let worker = c.args.worker.number in
+    let mine = worker_requests workers worker (requests_of lines) in
+    let q = request_of c.in-Some.request.now in
+    let rest = worker_requests workers worker (requests_of c.in-Some.rest.now) in
+    let told = c.loop-request.replies.items in
+    let owns = owns_still workers worker (g.H.HeapSeat.view c.args.seat.now) v c.loop-request.invariant.roots c.requires.1.1.1.1.0 in
+    let next = is_next workers worker c.loop-request.left.now c.in-Some.rest.now c.in-Some.request.now c.has.result c.in-Some.ensures.cases.0 c.has.ensures c.if-has.true image lines (replies_of told) v
+    c.requires.1.1.1.1.1.0 owns c.loop-request.invariant.worked in
+    next.shard
+
+pub answer-answered-requires-clause-short : goal.answer-answered-requires-clause-short
+answer-answered-requires-clause-short g c =
+    let image = g.image in
+    let v = g.H.HeapSeat.view c.loop-request.seat in
+    let lines = c.args.requests.now in
+    let workers = c.args.worker.workers in
+    let worker = c.args.worker.number in
+    let mine = worker_requests workers worker (requests_of lines) in
+    let q = request_of c.in-Some.request.now in
+    let rest = worker_requests workers worker (requests_of c.in-Some.rest.now) in
+    let told = c.loop-request.replies.items in
+    let owns = owns_still workers worker (g.H.HeapSeat.view c.args.seat.now) v c.loop-request.invariant.roots c.requires.1.1.1.1.0 in
+    let next = is_next workers worker c.loop-request.left.now c.in-Some.rest.now c.in-Some.request.now c.has.result c.in-Some.ensures.cases.0 c.has.ensures c.if-has.true image lines (replies_of told) v
+    c.requires.1.1.1.1.1.0 owns c.loop-request.invariant.worked in
+    c.requires.1.1.1.1.1.1.1.0.each q (mine_among workers worker (requests_of lines) q next.among)
+
+pub answer-answered-requires-clause-fits : goal.answer-answered-requires-clause-fits
+answer-answered-requires-clause-fits g c =
+    let image = g.image in
+    let v = g.H.HeapSeat.view c.loop-request.seat in
+    let lines = c.args.requests.now in
+    let workers = c.args.worker.workers in
+    let worker = c.args.worker.number in
+    let mine = worker_requests workers worker (requests_of lines) in
+    let q = request_of c.in-Some.request.now in
+    let rest = worker_requests workers worker (requests_of c.in-Some.rest.now) in
+    let told = c.loop-request.replies.items in
+    let owns = owns_still workers worker (g.H.HeapSeat.view c.args.seat.now) v c.loop-request.invariant.roots c.requires.1.1.1.1.0 in
+    let next = is_next workers worker c.loop-request.left.now c.in-Some.rest.now c.in-Some.request.now c.has.result c.in-Some.ensures.cases.0 c.has.ensures c.if-has.true image lines (replies_of told) v
+    c.requires.1.1.1.1.1.0 owns c.loop-request.invariant.worked in
+    let rooms = rooms_next workers worker c.loop-request.left.now c.in-Some.rest.now c.in-Some.request.now c.has.result c.in-Some.ensures.cases.0 c.has.ensures c.if-has.true image (requests_of lines)
+    c.loop-request.rooms.items c.pop_front.new.self.items c.in-Some-pop_front.room c.in-Some-pop_front.ensures.items c.loop-request.invariant.rooms in
+    subst (λ bytes. Fits v q (length bytes)) (sym c.into_vec.ensures)
+    (room_fits image (requests_of lines) mine c.requires.1.1.1.1.1.0 (mine_among workers worker (requests_of lines)) q (q ∷ rest) (replies_of told) v (length c.in-Some-pop_front.room) (g.met.H.HeapSeat.seat c.loop-request.seat) next.owned next.worked rooms.0)
+
+pub returns-in_default-answered-clause-stopped : goal.returns-in_default-answered-clause-stopped
+returns-in_default-answered-clause-stopped g c = λ stopped.
+    let image = g.image in
+    let v = g.H.HeapSeat.view c.loop-request.seat in
+    let lines = c.args.requests.now in
+    let workers = c.args.worker.workers in
+    let worker = c.args.worker.number in
+    let mine = worker_requests workers worker (requests_of lines) in
+    let q = request_of c.in-Some.request.now in
+    let rest = worker_requests workers worker (requests_of c.in-Some.rest.now) in
+    let told = c.loop-request.replies.items in
+    let owns = owns_still workers worker (g.H.HeapSeat.view c.args.seat.now) v c.loop-request.invariant.roots c.requires.1.1.1.1.0 in
+    let next = is_next workers worker c.loop-request.left.now c.in-Some.rest.now c.in-Some.request.now c.has.result c.in-Some.ensures.cases.0 c.has.ensures c.if-has.true image lines (replies_of told) v
+    c.requires.1.1.1.1.1.0 owns c.loop-request.invariant.worked in
+    record {
+      request = q;
+      others = rest;
+      before = v;
+      seat = g.met.H.HeapSeat.seat c.loop-request.seat;
+      worked = next.worked;
+      may = c.answer-answered.ensures.crash;
+    }
+
+pub returns-in_default-answered-clause-full : goal.returns-in_default-answered-clause-full
+returns-in_default-answered-clause-full g c =
+    let image = g.image in
+    let v = g.H.HeapSeat.view c.loop-request.seat in
+    let lines = c.args.requests.now in
+    let workers = c.args.worker.workers in
+    let worker = c.args.worker.number in
+    let mine = worker_requests workers worker (requests_of lines) in
+    let q = request_of c.in-Some.request.now in
+    let rest = worker_requests workers worker (requests_of c.in-Some.rest.now) in
+    let told = c.loop-request.replies.items in
+    let owns = owns_still workers worker (g.H.HeapSeat.view c.args.seat.now) v c.loop-request.invariant.roots c.requires.1.1.1.1.0 in
+    let next = is_next workers worker c.loop-request.left.now c.in-Some.rest.now c.in-Some.request.now c.has.result c.in-Some.ensures.cases.0 c.has.ensures c.if-has.true image lines (replies_of told) v
+    c.requires.1.1.1.1.1.0 owns c.loop-request.invariant.worked in
+    refused_on g.H.HeapSeat.view g.H.HeapSeat.keeps mine (answered mine (replies_of told)) c.args.seat.now c.loop-request.seat c.answer-answered.new.seat c.loop-request.invariant.full
+    (λ x keeps. g.met.H.HeapSeat.keeps_row x c.loop-request.seat c.answer-answered.new.seat keeps c.answer-answered.ensures.kept)
+    (knows_call q v (g.H.HeapSeat.view c.answer-answered.new.seat) next.shard c.answer-answered.ensures.calls)
+
+pub returns-in_default-answered-clause-taken : goal.returns-in_default-answered-clause-taken
+returns-in_default-answered-clause-taken g c =
+    let image = g.image in
+    let v = g.H.HeapSeat.view c.loop-request.seat in
+    let lines = c.args.requests.now in
+    let workers = c.args.worker.workers in
+    let worker = c.args.worker.number in
+    let mine = worker_requests workers worker (requests_of lines) in
+    let q = request_of c.in-Some.request.now in
+    let rest = worker_requests workers worker (requests_of c.in-Some.rest.now) in
+    let told = c.loop-request.replies.items in
+    let owns = owns_still workers worker (g.H.HeapSeat.view c.args.seat.now) v c.loop-request.invariant.roots c.requires.1.1.1.1.0 in
+    let next = is_next workers worker c.loop-request.left.now c.in-Some.rest.now c.in-Some.request.now c.has.result c.in-Some.ensures.cases.0 c.has.ensures c.if-has.true image lines (replies_of told) v
+    c.requires.1.1.1.1.1.0 owns c.loop-request.invariant.worked in
+    let start = g.H.HeapSeat.view c.args.seat.now in
+    let w = g.H.HeapSeat.view c.answer-answered.new.seat in
+    subst (λ qs. HasTakenFew mine (answered mine (replies_of told)) qs start w) (sym (unanswered_now image mine (q ∷ rest) (replies_of told) v next.worked))
+    (taken_stopped mine (answered mine (replies_of told)) q rest start v w next.among c.loop-request.invariant.taken c.answer-answered.ensures.taken)
+
+pub returns-in_default-answered-clause-calls : goal.returns-in_default-answered-clause-calls
+returns-in_default-answered-clause-calls g c = λ keys lists.
+    let image = g.image in
+    let v = g.H.HeapSeat.view c.loop-request.seat in
+    let lines = c.args.requests.now in
+    let workers = c.args.worker.workers in
+    let worker = c.args.worker.number in
+    let mine = worker_requests workers worker (requests_of lines) in
+    let q = request_of c.in-Some.request.now in
+    let rest = worker_requests workers worker (requests_of c.in-Some.rest.now) in
+    let told = c.loop-request.replies.items in
+    let owns = owns_still workers worker (g.H.HeapSeat.view c.args.seat.now) v c.loop-request.invariant.roots c.requires.1.1.1.1.0 in
+    let next = is_next workers worker c.loop-request.left.now c.in-Some.rest.now c.in-Some.request.now c.has.result c.in-Some.ensures.cases.0 c.has.ensures c.if-has.true image lines (replies_of told) v
+    c.requires.1.1.1.1.1.0 owns c.loop-request.invariant.worked in
+    let w = g.H.HeapSeat.view c.answer-answered.new.seat in
+    let start = g.H.HeapSeat.view c.args.seat.now in
+    let small = 33280 + 4 * (length keys + length mine) in
+    few_more (length told + 1) (length mine) small start w (let count = worked_count image mine (q ∷ rest) told v next.worked in omega arith)
+    (few_next (length told) small image mine rest q (replies_of told) start v w keys refl c.requires.1.1.1.1.1.0 next.owned next.worked lists c.answer-answered.ensures.calls (c.loop-request.invariant.calls keys lists))
+
+pub loop-request-preserved-in-Ok : goal.loop-request-preserved-in-Ok
+loop-request-preserved-in-Ok g c =
+    let image = g.image in
+    let v = g.H.HeapSeat.view c.loop-request.seat in
+    let lines = c.args.requests.now in
+    let workers = c.args.worker.workers in
+    let worker = c.args.worker.number in
+    let mine = worker_requests workers worker (requests_of lines) in
+    let q = request_of c.in-Some.request.now in
+    let rest = worker_requests workers worker (requests_of c.in-Some.rest.now) in
+    let told = c.loop-request.replies.items in
+    let owns = owns_still workers worker (g.H.HeapSeat.view c.args.seat.now) v c.loop-request.invariant.roots c.requires.1.1.1.1.0 in
+    let next = is_next workers worker c.loop-request.left.now c.in-Some.rest.now c.in-Some.request.now c.has.result c.in-Some.ensures.cases.0 c.has.ensures c.if-has.true image lines (replies_of told) v
+    c.requires.1.1.1.1.1.0 owns c.loop-request.invariant.worked in
+    let w = g.H.HeapSeat.view c.answer-answered.new.seat in
+    let start = g.H.HeapSeat.view c.args.seat.now in
+    let rooms = rooms_next workers worker c.loop-request.left.now c.in-Some.rest.now c.in-Some.request.now c.has.result c.in-Some.ensures.cases.0 c.has.ensures c.if-has.true image (requests_of lines)
+    c.loop-request.rooms.items c.pop_front.new.self.items c.in-Some-pop_front.room c.in-Some-pop_front.ensures.items c.loop-request.invariant.rooms in
+    let replied = c.in-Ok.ensures.ok in
+    let now = answered_next image mine rest q told c.push_reserved.new.self.items c.in-Ok.reply replied.reply v c.push_reserved.ensures.items replied.told_is next.worked in
+    let taken = taken_next mine (answered mine (replies_of told)) q replied.reply start v w next.among (puts_owned workers worker v (requests_of lines) owns) c.answer-answered.ensures.crash c.loop-request.invariant.taken
+    replied.takes in
+    let kept = g.met.H.HeapSeat.keeps_row c.args.seat.now c.loop-request.seat c.answer-answered.new.seat c.loop-request.invariant.kept c.answer-answered.ensures.kept in
+    let knows = knows_call q v w next.shard c.answer-answered.ensures.calls in
+    let one_more : length told + 1 ≡ length c.push_reserved.new.self.items =
+    let items = ap length c.push_reserved.ensures.items in let longer = length-append told (c.in-Ok.reply ∷ []) in omega arith in
+    record {
+      worked = work_replied image mine rest q told c.push_reserved.new.self.items c.in-Ok.reply v w (g.met.H.HeapSeat.seat c.loop-request.seat)
+          c.push_reserved.ensures.items next.worked c.answer-answered.ensures.crash c.in-Ok.ensures.ok;
+      rooms = rooms.1;
+      reserved = let most = c.loop-request.invariant.reserved in
+          let long = ap length (mine_next workers worker c.loop-request.left.now c.in-Some.rest.now c.in-Some.request.now c.has.result c.in-Some.ensures.cases.0 c.has.ensures c.if-has.true) in
+          let more = c.push_reserved.ensures.len in
+          let same = c.push_reserved.ensures.capacity in
+          omega arith;
+      shorter = let most = c.loop-request.invariant.shorter in let long = c.in-Some.ensures.cases.1 in omega arith;
+      same_room = c.push_reserved.ensures.capacity ∙ c.loop-request.invariant.same_room;
+      taken = subst (λ rs. HasTaken mine rs start w) (sym now) taken;
+      full = subst (λ rs. AreFullRightly g.H.HeapSeat.view g.H.HeapSeat.keeps mine rs c.args.seat.now c.answer-answered.new.seat) (sym now)
+          (refused_next g.H.HeapSeat.view g.H.HeapSeat.keeps mine (answered mine (replies_of told)) q replied.reply c.args.seat.now c.answer-answered.new.seat
+          (refused_on g.H.HeapSeat.view g.H.HeapSeat.keeps mine (answered mine (replies_of told)) c.args.seat.now c.loop-request.seat c.answer-answered.new.seat c.loop-request.invariant.full
+          (λ x keeps. g.met.H.HeapSeat.keeps_row x c.loop-request.seat c.answer-answered.new.seat keeps c.answer-answered.ensures.kept) knows)
+          kept (g.met.H.HeapSeat.keeps_none c.answer-answered.new.seat)
+          (λ full. full_behind mine (answered mine (replies_of told)) q replied.reply start w taken full (replied.room full)));
+      calls = λ keys lists. subst (λ n. MakeFew n (33280 + 4 * (length keys + length mine)) start w) one_more
+          (few_next (length told) (33280 + 4 * (length keys + length mine)) image mine rest q (replies_of told) start v w keys refl
+          c.requires.1.1.1.1.1.0 next.owned next.worked lists c.answer-answered.ensures.calls (c.loop-request.invariant.calls keys lists));
+      steps = subst (λ rs. TakesRequests g.H.HeapSeat.view g.H.HeapSeat.keeps rs c.args.seat.now c.answer-answered.new.seat) (sym now)
+          (takes_push g.H.HeapSeat.view g.H.HeapSeat.keeps (answered mine (replies_of told)) q replied.reply c.args.seat.now c.loop-request.seat c.answer-answered.new.seat c.loop-request.invariant.steps
+          (record {
+            answers = replied.answers;
+            may = c.answer-answered.ensures.crash;
+            keeps_it = c.answer-answered.ensures.kept;
+            refused = λ full. c.in-Ok.ensures.refused (replied.told_is ∙ ap Some full);
+          }));
+      roots = c.answer-answered.ensures.crash.others.roots ∙ c.loop-request.invariant.roots;
+      going = λ none. c.in-Ok.ensures.runs.running;
+      kept = kept;
+    }
+
+pub returns-clause-taken : goal.returns-clause-taken
+returns-clause-taken g c =
+    let image = g.image in
+    let v = g.H.HeapSeat.view c.loop-request.seat in
+    let start = g.H.HeapSeat.view c.args.seat.now in
+    let lines = c.args.requests.now in
+    let workers = c.args.worker.workers in
+    let worker = c.args.worker.number in
+    let mine = worker_requests workers worker (requests_of lines) in
+    let told = replies_of c.loop-request.replies.items in
+    let worked : HasWorked image mine [] told v = elim c.match-split_first.branch as (λ _. HasWorked image mine [] told v) [
+      | in-Some+then-has+in_default-pop_front w ↦
+          absurd (no_room_left workers worker c.loop-request.left.now w.in-Some.rest.now w.in-Some.request.now w.has.result w.in-Some.ensures.cases.0 w.has.ensures w.if-has.true image (requests_of lines) c.loop-request.rooms.items
+          (w.in_default-pop_front.ensures.items ∙ nil_from_length w.pop_front.new.self.items (let ok = w.pop_front.new.self.ok in let none = w.in_default-pop_front.ensures.cases.1 in omega arith)) c.loop-request.invariant.rooms)
+      | in_default w ↦ subst (λ (ls : List Line). HasWorked image mine (worker_requests workers worker (requests_of ls)) told v) (nil_from_length c.loop-request.left.now w.in_default.ensures.cases) c.loop-request.invariant.worked
+    ] in
+    subst (λ qs. HasTakenFew mine (answered mine told) qs start v) (sym (unanswered_now image mine [] told v worked)) (taken_ended mine (answered mine told) start v c.loop-request.invariant.taken)

@@ -1,0 +1,5 @@
+pub mod Examples
+pub mod Left
+pub mod Rooms
+pub mod Said
+pub mod Taking

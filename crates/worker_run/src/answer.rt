@@ -1,0 +1,119 @@
+//! The reply to one request.
+ghost use Rattle.std.specs.Prelude.{◌≡◌, ℕ, ◌+◌, ◌*◌, ◌≤◌, List, length, Some, IfOk, OnOk, IfErr};
+ghost use Rattle.heap_seat.specs.View.{View};
+ghost use Rattle.heap_seat.specs.Tickets.{Runs, Stops};
+ghost use Rattle.dict_model.specs.Nodes.{shard_of, largest_value};
+ghost use Rattle.dict_model.specs.Requests.{put, get, del, full};
+ghost use Rattle.dict_seat.specs.Removal.{IsShard};
+ghost use Rattle.run_model.specs.Progress.{MayAnswer};
+ghost use Rattle.run_model.specs.Workers.{shard_asked};
+ghost use Rattle.run_model.specs.Working.{Fits, Replied, MakesCalls};
+ghost use Rattle.worker_run.specs.Said.{request_of, reply_of, IsShort};
+ghost use Rattle.worker_run.specs.Taking.{MayTake};
+
+use dict_model::SHARDS;
+use dict_seat::Shard;
+use heap_seat::{AllocFault, HeapSeat};
+use line_memory::Stopped;
+use region_header::Bytes;
+use trace_text::{Reply, Request};
+
+/// Sets a key, and tells that it is done or that there is no room.
+fn put_reply<H: HeapSeat>(seat: &mut H, key: u64, value: &[u8]) -> Result<Reply, Stopped>
+    requires shard { IsShard (H.view seat.old) (shard_of key) }
+    requires short { length value.now ≤ largest_value }
+    ensures ok { IfOk result (λ reply. Replied (put key value.now) (reply_of reply)
+        (H.view seat.old) (H.view seat.new)) }
+    ensures runs { OnOk result (Runs (H.view seat.old) (H.view seat.new)) }
+    ensures refused { IfOk result (λ reply. reply_of reply ≡ Some full
+        → (H.view seat.new).refusals ≡ (H.view seat.old).refusals + 1) }
+    ensures cause { IfErr result (λ e. Stops e.step (H.view seat.old) (H.view seat.new)) }
+
+    // At every exit.
+    ensures crash { MayAnswer (put key value.now) (H.view seat.old) (H.view seat.new) }
+    ensures taken { MayTake (put key value.now) (H.view seat.old) (H.view seat.new) }
+    ensures calls { MakesCalls (put key value.now) (H.view seat.old) (H.view seat.new) }
+    ensures kept { H.keeps seat.old seat.new }
+{
+    let mut shard = Shard::at(key % SHARDS);
+    match shard.put(seat, key, value) {
+        Ok(()) => Ok(Reply::Ok),
+        Err(AllocFault::Full(_)) => Ok(Reply::Full),
+        Err(AllocFault::Stopped(stopped)) => Err(stopped),
+    }
+}
+
+/// Reads a key's value into the room, and tells it or that the key isn't there.
+fn get_reply<H: HeapSeat>(seat: &mut H, key: u64, mut room: Vec<u8>) -> Result<Reply, Stopped>
+    requires shard { IsShard (H.view seat.old) (shard_of key) }
+    requires fits { Fits (H.view seat.old) (get key) (length room.items) }
+    ensures ok { IfOk result (λ reply. Replied (get key) (reply_of reply)
+        (H.view seat.old) (H.view seat.new)) }
+    ensures runs { OnOk result (Runs (H.view seat.old) (H.view seat.new)) }
+    ensures refused { IfOk result (λ reply. reply_of reply ≡ Some full
+        → (H.view seat.new).refusals ≡ (H.view seat.old).refusals + 1) }
+    ensures cause { IfErr result (λ e. Stops e.step (H.view seat.old) (H.view seat.new)) }
+
+    // At every exit.
+    ensures crash { MayAnswer (get key) (H.view seat.old) (H.view seat.new) }
+    ensures taken { MayTake (get key) (H.view seat.old) (H.view seat.new) }
+    ensures calls { MakesCalls (get key) (H.view seat.old) (H.view seat.new) }
+    ensures kept { H.keeps seat.old seat.new }
+{
+    let shard = Shard::at(key % SHARDS);
+    let Some(length) = shard.get(seat, key, &mut room)? else {
+        return Ok(Reply::None);
+    };
+    room.truncate(length);
+    Ok(Reply::Value(Bytes::from_vec(room)))
+}
+
+/// Takes a key out, and tells that it is done or that the key isn't there.
+fn del_reply<H: HeapSeat>(seat: &mut H, key: u64) -> Result<Reply, Stopped>
+    requires shard { IsShard (H.view seat.old) (shard_of key) }
+    ensures ok { IfOk result (λ reply. Replied (del key) (reply_of reply)
+        (H.view seat.old) (H.view seat.new)) }
+    ensures runs { OnOk result (Runs (H.view seat.old) (H.view seat.new)) }
+    ensures refused { IfOk result (λ reply. reply_of reply ≡ Some full
+        → (H.view seat.new).refusals ≡ (H.view seat.old).refusals + 1) }
+    ensures cause { IfErr result (λ e. Stops e.step (H.view seat.old) (H.view seat.new)) }
+
+    // At every exit.
+    ensures crash { MayAnswer (del key) (H.view seat.old) (H.view seat.new) }
+    ensures taken { MayTake (del key) (H.view seat.old) (H.view seat.new) }
+    ensures calls { MakesCalls (del key) (H.view seat.old) (H.view seat.new) }
+    ensures kept { H.keeps seat.old seat.new }
+{
+    let mut shard = Shard::at(key % SHARDS);
+    let found = shard.del(seat, key)?;
+    Ok(if found { Reply::Ok } else { Reply::None })
+}
+
+/// Works off one request. A value that is read goes into the room.
+pub(crate) fn answer<H: HeapSeat>(
+    seat: &mut H,
+    request: &Request,
+    room: Vec<u8>,
+) -> Result<Reply, Stopped>
+    requires shard { IsShard (H.view seat.old) (shard_asked (request_of request.now)) }
+    requires short { IsShort (request_of request.now) }
+    requires fits { Fits (H.view seat.old) (request_of request.now) (length room.items) }
+    ensures ok { IfOk result (λ reply. Replied (request_of request.now) (reply_of reply)
+        (H.view seat.old) (H.view seat.new)) }
+    ensures runs { OnOk result (Runs (H.view seat.old) (H.view seat.new)) }
+    ensures refused { IfOk result (λ reply. reply_of reply ≡ Some full
+        → (H.view seat.new).refusals ≡ (H.view seat.old).refusals + 1) }
+    ensures cause { IfErr result (λ e. Stops e.step (H.view seat.old) (H.view seat.new)) }
+
+    // At every exit.
+    ensures crash { MayAnswer (request_of request.now) (H.view seat.old) (H.view seat.new) }
+    ensures taken { MayTake (request_of request.now) (H.view seat.old) (H.view seat.new) }
+    ensures calls { MakesCalls (request_of request.now) (H.view seat.old) (H.view seat.new) }
+    ensures kept { H.keeps seat.old seat.new }
+{
+    match request {
+        Request::Put(key, value) => put_reply(seat, *key, value.as_slice()),
+        Request::Get(key) => get_reply(seat, *key, room),
+        Request::Del(key) => del_reply(seat, *key),
+    }
+}

@@ -1,0 +1,96 @@
+//! The requests of one worker, worked off one after the other.
+ghost use Rattle.std.specs.Prelude.{◌≡◌, ℕ, ◌+◌, ◌*◌, ◌≤◌, ◌<◌, List, [], length, None, Some, IsTrue, IsFalse, Contains};
+ghost use Rattle.std.specs.Vec.{vec_capacity};
+ghost use Rattle.heap_model.specs.Image.{Image};
+ghost use Rattle.heap_seat.specs.View.{View};
+ghost use Rattle.dict_model.specs.Links.{shards};
+ghost use Rattle.run_model.specs.Needs.{ListsKeysOf};
+ghost use Rattle.run_model.specs.Opened.{HasMaps};
+ghost use Rattle.run_model.specs.Progress.{HasAnswered};
+ghost use Rattle.run_model.specs.Runs.{answered, unanswered};
+ghost use Rattle.run_model.specs.Spending.{AreFullRightly, HasTakenFew, MakeFew};
+ghost use Rattle.run_model.specs.Workers.{worker_of, worker_requests};
+ghost use Rattle.run_model.specs.Working.{HasWorked, HasStopped, HaveRoom, TakesRequests};
+ghost use Rattle.worker_run.specs.Said.{requests_of, replies_of, ValuesAreShort};
+
+use crate::answer::answer;
+use crate::worker::Worker;
+use heap_seat::HeapSeat;
+use region_header::Bytes;
+use std::collections::VecDeque;
+use tool_ports::Gate;
+use trace_text::{Reply, Request};
+
+/// Works off the worker's requests in order until all are answered or the heap stops, and tells
+/// whether it stopped. The gate is told of each of them, by its number in the trace.
+pub fn work_off<H: HeapSeat, G: Gate>(
+    seat: &mut H,
+    worker: Worker,
+    requests: &[Request],
+    mut rooms: VecDeque<Bytes>,
+    replies: &mut Vec<Reply>,
+    gate: &G,
+) -> bool
+    ghost image: { Image }
+    requires some { 1 ≤ worker.workers }
+    requires begun { HasAnswered image [] (H.view seat.old) }
+    requires shards { (shard : ℕ) → shard < shards → worker_of worker.workers shard ≡ worker.number
+        → Contains (H.view seat.old).roots shard }
+    requires maps { HasMaps image }
+    requires rooms { HaveRoom image (requests_of requests.now)
+        (worker_requests worker.workers worker.number (requests_of requests.now)) rooms.items }
+    requires short { ValuesAreShort (requests_of requests.now) }
+    requires empty { replies.old.items ≡ [] }
+    requires reserved { length (worker_requests worker.workers worker.number
+        (requests_of requests.now)) ≤ vec_capacity replies.old }
+    ensures answered { IsFalse result → HasWorked image
+        (worker_requests worker.workers worker.number (requests_of requests.now)) []
+        (replies_of replies.new.items) (H.view seat.new) }
+    ensures stopped { IsTrue result → HasStopped image
+        (worker_requests worker.workers worker.number (requests_of requests.now))
+        (replies_of replies.new.items) (H.view seat.new) }
+    ensures cause { IsTrue result → (ticket : ℕ) × ((H.view seat.new).stopped ≡ Some ticket) }
+    ensures going { IsFalse result → (H.view seat.old).stopped ≡ None
+        → (H.view seat.new).stopped ≡ None }
+
+    // At every exit.
+    ensures full { AreFullRightly H.view H.keeps
+        (worker_requests worker.workers worker.number (requests_of requests.now))
+        (answered (worker_requests worker.workers worker.number (requests_of requests.now))
+        (replies_of replies.new.items)) seat.old seat.new }
+    ensures taken { HasTakenFew
+        (worker_requests worker.workers worker.number (requests_of requests.now))
+        (answered (worker_requests worker.workers worker.number (requests_of requests.now))
+        (replies_of replies.new.items))
+        (unanswered (worker_requests worker.workers worker.number (requests_of requests.now))
+        (replies_of replies.new.items)) (H.view seat.old) (H.view seat.new) }
+    ensures calls { (keys : List ℕ) → ListsKeysOf image keys → MakeFew
+        (length (worker_requests worker.workers worker.number (requests_of requests.now)))
+        (33280 + 4 * (length keys + length (worker_requests worker.workers worker.number
+        (requests_of requests.now)))) (H.view seat.old) (H.view seat.new) }
+    ensures steps { (u : H) × TakesRequests H.view H.keeps
+        (answered (worker_requests worker.workers worker.number (requests_of requests.now))
+        (replies_of replies.new.items)) seat.old u × H.keeps u seat.new }
+    ensures roots { (H.view seat.new).roots ≡ (H.view seat.old).roots }
+    ensures room { vec_capacity replies.new ≡ vec_capacity replies.old }
+    ensures kept { H.keeps seat.old seat.new }
+{
+    let mut left = requests;
+    while let Some((request, rest)) = left.split_first() {
+        if worker.has(request) {
+            let Some(room) = rooms.pop_front() else {
+                break;
+            };
+            let number = requests.len() - left.len();
+            gate.pass(worker.number, number);
+            let answered = answer(seat, request, room.into_vec());
+            gate.done(worker.number, number);
+            let Ok(reply) = answered else {
+                return true;
+            };
+            replies.push_reserved(reply);
+        }
+        left = rest;
+    }
+    false
+}
