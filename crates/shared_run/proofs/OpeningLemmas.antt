@@ -1,0 +1,65 @@
+-- The seats of a heap that was opened for workers are those of the workers; and no shard of a dictionary is bad.
+use Rattle.std.proofs.Common.{◌≡◌, ◌<◌, ◌↔◌, ℕ, List, length, get_or, slice_index, Contains, refl, subst, sym, ap, ◌∙◌, arith}
+use Rattle.std.proofs.lemmas.List.{get_or_default}
+use Rattle.heap_model.specs.declared.block.Block.{Block}
+use Rattle.heap_model.specs.Image.{Image}
+use Rattle.heap_model.specs.Rest.{IsReady}
+use Rattle.core_model.specs.Opening.{HasDoneNothing, opened_view, setup_of}
+use Rattle.core_model.specs.View.{View}
+use Rattle.dict_model.specs.Links.{shards}
+use Rattle.dict_model.specs.Shards.{BadShard}
+use Rattle.dict_model.proofs.ShardLemmas.{no_bad_shard}
+use Rattle.heap_table.specs.AtTable.{SharedView}
+use Rattle.heap_rule.specs.Seated.{SeatView}
+use Rattle.heap_rule.specs.Seats.{AreOpenedSeats}
+use Rattle.seat_rows.proofs.IdleLemmas.{opened_seats}
+use Rattle.seat_view.specs.CacheState.{heap_view}
+use Rattle.run_model.specs.Opened.{HasMaps, IsDictionary, IsOpenedOver}
+use Rattle.run_model.specs.Workers.{root_owner}
+use Rattle.seat_owners.specs.Owning.{AreOwnersByRoot}
+use Rattle.seat_owners.proofs.OpenedLemmas.{has_root, opened_over, root_of}
+use Rattle.shared_run.specs.Dealing.{AreFresh}
+
+module _ (words : List ℕ) (held : List Block) (workers budget : ℕ) (block_owners root_owners : List ℕ) (ready : IsReady words held) (has : IsDictionary (slice_index words) (Contains held))
+    (by_root : AreOwnersByRoot (slice_index words) held workers block_owners root_owners) where
+  abbrev view_of : ℕ → View
+  view_of = opened_view (setup_of words budget workers) held block_owners root_owners
+
+  nothing_done : (i : ℕ) → HasDoneNothing (setup_of words budget workers) (view_of i)
+  nothing_done i = record {
+    floor = refl;
+    tickets = (refl, refl, refl);
+    counts = (refl, refl, refl, refl, refl, refl, refl);
+    free = (refl, refl);
+    claims = (refl, refl, refl, refl);
+    seen = (refl, refl, refl, refl);
+    looks = refl;
+  }
+
+  pub opened_fresh : (shared : SharedView) (seats : List SeatView) → shared.opening.seats ≡ workers → AreOpenedSeats shared (opened_view (setup_of words budget workers) held block_owners root_owners) seats
+      → AreFresh shared (length seats) seats
+  opened_fresh shared seats count opened = record {
+    each = λ i any below.
+        let at = sym (get_or_default seats i any (get_or seats i any) below) in
+        let is = opened.each i (get_or seats i any) below at in
+        let small : i < workers = let long = opened.count in omega (arith, long, count, below) in
+        let idle = opened_seats (setup_of words budget workers) held block_owners root_owners shared seats opened i (get_or seats i any) below at in
+        let all : workers ≡ length seats = let long = opened.count in omega (arith, long, count) in (
+          is.0,
+          record {
+            nothing = subst (λ (v : View). HasDoneNothing v.setup v) (sym is.1) (nothing_done i);
+            idle = idle.0;
+            short = idle.1;
+            roots_own = λ root inside.
+                subst (λ n. Contains (get_or seats i any).view.roots root ↔ (root_owner n root ≡ i)) all
+                (subst (λ (v : View). Contains v.roots root ↔ (root_owner workers root ≡ i)) (sym is.1)
+                (root_of words held workers budget block_owners root_owners by_root i root, has_root words held workers budget block_owners root_owners by_root i root inside));
+            opened = λ s seen. subst (λ (image : Image). IsOpenedOver image (heap_view s)) (sym (ap (λ (v : View). slice_index v.setup.opened) is.1))
+                (opened_over words held workers budget block_owners root_owners by_root i ready has small s (seen ∙ is.1));
+          },
+        );
+  }
+
+-- where each shard has a map none is told to be bad
+pub none_bad : (image : Image) (shard at : ℕ) → HasMaps image → shard < shards → BadShard image shard at → ⊥
+none_bad image shard at have small bad = let first = have.each shard small in no_bad_shard image shard at first.0 first.1 bad

@@ -1,0 +1,19 @@
+use Rattle.std.proofs.Common.{◌≡◌, ◌+◌, All, length}
+use Rattle.worker_run.specs.Said.{requests_of}
+use Rattle.shared_run.specs.Jobs.{IsJobOf}
+use Rattle.shared_run.specs.Dealing.{AreFresh, AreInTurn}
+use Rattle.std.specs.Vec.{vec_capacity}
+use Rattle.shared_run.proofs.deal.deal.Given as goal
+
+abbrev pub invariant-loop-seat : goal.invariant-loop-seat
+invariant-loop-seat g l = record {
+  fresh : AreFresh l._shared l.workers l.seats.items;
+  jobs : All (IsJobOf l._shared (requests_of l.requests)) l.jobs.items;
+  turns : AreInTurn (λ job. job.worker) l.workers l.jobs.items;
+  count : length l.jobs.items + length l.seats.items ≡ l.workers;
+  workers : l.workers ≡ length l.fn.seats.items;
+  room : vec_capacity l.jobs ≡ l.workers;
+}
+
+abbrev pub decreases-loop-seat : goal.decreases-loop-seat
+decreases-loop-seat g l = length l.seats.items

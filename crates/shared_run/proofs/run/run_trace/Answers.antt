@@ -1,0 +1,63 @@
+use Rattle.shared_run.proofs.FullLemmas.{full_rightly}
+use Rattle.shared_run.proofs.HeaderLemmas.{leaves_header, leaves_state}
+use Rattle.shared_run.proofs.LeftLemmas.{leaves_others}
+use Rattle.shared_run.proofs.MapLeftLemmas.{leaves_maps}
+use Rattle.shared_run.proofs.ReplyLemmas.{answer_in_order, replies_rightly}
+use Rattle.shared_run.proofs.TurnLemmas.{stops_rightly}
+use Rattle.shared_run.proofs.UsedLemmas.{leaves_used}
+use Rattle.worker_run.specs.Said.{requests_of, replies_of}
+use Rattle.shared_run.proofs.run.run_trace.Goals as goal
+
+pub returns-clause-answers : goal.returns-clause-answers
+returns-clause-answers g c =
+    let o = c.in_ok-outcome.outcome in
+    let is = c.in_ok-outcome.ensures in
+    answer_in_order c.args.heap.words c.args.heap.held c.args.workers c.args.budget (requests_of c.args.requests.now) (replies_of o.replies.items) o.stopped is.0 is.1 o.image.items is.2
+
+pub returns-clause-stops : goal.returns-clause-stops
+returns-clause-stops g c =
+    let o = c.in_ok-outcome.outcome in
+    let is = c.in_ok-outcome.ensures in
+    stops_rightly c.args.heap.words c.args.heap.held c.args.workers c.args.budget (requests_of c.args.requests.now) (replies_of o.replies.items) o.stopped is.0 is.1 o.image.items is.2
+
+pub returns-clause-replies : goal.returns-clause-replies
+returns-clause-replies g c =
+    let o = c.in_ok-outcome.outcome in
+    let is = c.in_ok-outcome.ensures in
+    replies_rightly c.args.heap.words c.args.heap.held c.args.workers c.args.budget (requests_of c.args.requests.now) (replies_of o.replies.items) o.stopped is.0 is.1 o.image.items is.2
+
+pub returns-clause-full : goal.returns-clause-full
+returns-clause-full g c =
+    let o = c.in_ok-outcome.outcome in
+    let is = c.in_ok-outcome.ensures in
+    full_rightly c.args.heap.words c.args.heap.held c.args.workers c.args.budget (requests_of c.args.requests.now) (replies_of o.replies.items) o.stopped is.0 is.1 o.image.items is.2
+
+pub returns-clause-maps : goal.returns-clause-maps
+returns-clause-maps g c =
+    let o = c.in_ok-outcome.outcome in
+    let is = c.in_ok-outcome.ensures in
+    leaves_maps c.args.heap.words c.args.heap.held c.args.workers c.args.budget (requests_of c.args.requests.now) (replies_of o.replies.items) o.stopped is.0 is.1 o.image.items is.2
+
+pub returns-clause-header : goal.returns-clause-header
+returns-clause-header g c =
+    let o = c.in_ok-outcome.outcome in
+    let is = c.in_ok-outcome.ensures in
+    leaves_header c.args.heap.words c.args.heap.held c.args.workers c.args.budget (requests_of c.args.requests.now) (replies_of o.replies.items) o.stopped is.0 is.1 o.image.items is.2
+
+pub returns-clause-others : goal.returns-clause-others
+returns-clause-others g c =
+    let o = c.in_ok-outcome.outcome in
+    let is = c.in_ok-outcome.ensures in
+    leaves_others c.args.heap.words c.args.heap.held c.args.workers c.args.budget (requests_of c.args.requests.now) (replies_of o.replies.items) o.stopped is.0 is.1 o.image.items is.2
+
+pub returns-clause-used : goal.returns-clause-used
+returns-clause-used g c =
+    let o = c.in_ok-outcome.outcome in
+    let is = c.in_ok-outcome.ensures in
+    leaves_used c.args.heap.words c.args.heap.held c.args.workers c.args.budget (requests_of c.args.requests.now) (replies_of o.replies.items) o.stopped is.0 is.1 o.image.items is.2
+
+pub returns-clause-state : goal.returns-clause-state
+returns-clause-state g c =
+    let o = c.in_ok-outcome.outcome in
+    let is = c.in_ok-outcome.ensures in
+    leaves_state c.args.heap.words c.args.heap.held c.args.workers c.args.budget (requests_of c.args.requests.now) (replies_of o.replies.items) o.stopped is.0 is.1 o.image.items is.2

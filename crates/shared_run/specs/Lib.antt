@@ -1,0 +1,5 @@
+pub mod Dealing
+pub mod Jobs
+pub mod Parts
+pub mod Settling
+pub mod Together

@@ -1,0 +1,41 @@
+-- The parts of all workers of a run over one heap, and what is left of it.
+use Rattle.std.specs.Prelude.{◌≡◌, ℕ, ◌-◌, ◌<◌, ◌≤◌, ◌↔◌, ◌++◌, Bool, true, false, List, length, replicate, get_or, slice_index, None, Contains}
+use Rattle.heap_model.specs.declared.block.Block.{Block}
+use Rattle.heap_model.specs.Durability.{IsClosedImage, IsCrashImage}
+use Rattle.heap_model.specs.Rest.{IsReady}
+use Rattle.core_model.specs.Opening.{setup_of}
+use Rattle.core_model.specs.View.{View}
+use Rattle.dict_model.specs.Requests.{Request}
+use Rattle.heap_table.specs.AtTable.{IsClosedSound}
+use Rattle.seat_view.specs.CacheState.{CacheState}
+use Rattle.run_model.specs.Workers.{Replies, worker_requests, worker_replies}
+use Rattle.run_model.specs.Opened.{IsDictionary}
+use Rattle.shared_run.specs.Parts.{IsPart}
+
+-- the image that is left: that of a close or, where the run was stopped, of a crash
+abbrev pub IsLeftOf : Bool → List ℕ → List ℕ → List ℕ → Type 0
+IsLeftOf false now kept left = IsClosedImage (slice_index now) (slice_index left)
+IsLeftOf true now kept left = IsCrashImage (slice_index kept) (slice_index left)
+
+-- the workers of a run over a dictionary at rest, with their seats as they were opened and as they were closed, and with the replies of all; the run was stopped exactly where a worker was
+pub record HaveWorked (words : List ℕ) (held : List Block) (workers budget : ℕ) (requests : List Request) (replies : Replies) (stopped : Bool) (now kept left : List ℕ) : Type 0 where
+  pub ready : IsReady words held
+  pub dictionary : IsDictionary (slice_index words) (Contains held)
+  pub some : 1 ≤ workers
+  pub few : workers ≤ 8
+  pub views : List View
+  pub closed : IsClosedSound (setup_of words budget workers) now kept views
+  pub first : ℕ → CacheState
+  pub last : ℕ → CacheState
+  pub stops : ℕ → Bool
+  pub told : ℕ → Replies
+  pub long : length replies ≡ length requests
+  pub padded : (worker : ℕ) → worker < workers → worker_replies workers worker requests replies
+      ≡ told worker ++ replicate (length (worker_requests workers worker requests) - length (told worker)) None
+  pub parts : (worker : ℕ) → worker < workers
+      → IsPart (slice_index words) workers requests worker (told worker) (stops worker) (first worker) (last worker)
+  pub setup : (worker : ℕ) → worker < workers → (first worker).view.setup ≡ setup_of words budget workers
+  pub views_are : (worker : ℕ) (any : View) → worker < workers → get_or views worker any ≡ (last worker).view
+  pub stopped_by : (stopped ≡ true) ↔ ((worker : ℕ) × (worker < workers) × (stops worker ≡ true))
+  pub left_long : length left ≡ length words
+  pub left_is : IsLeftOf stopped now kept left

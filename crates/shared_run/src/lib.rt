@@ -1,0 +1,9 @@
+//! A trace of requests worked off by one to eight workers over one heap that they share.
+#![tactic(auto)]
+
+mod deal;
+mod gather;
+mod job;
+mod run;
+
+pub use run::{Outcome, run_trace};
