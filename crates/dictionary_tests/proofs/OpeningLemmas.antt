@@ -1,5 +1,5 @@
 -- What recovery leaves of an image is a dictionary where each shard was read as a map; a heap that is opened over it has its shards, and requests go on.
-use Rattle.std.proofs.Common.{◌≡◌, ℕ, ◌<◌, List, Some, Contains, sym, ◌∙◌, arith, slice_index}
+use Rattle.std.proofs.Common.{ℕ, ◌<◌, List, [], Some, Contains, arith, slice_index}
 use Rattle.std.specs.BTreeMap.{BTreeMap}
 use Rattle.heap_model.specs.declared.block.Block.{Block}
 use Rattle.heap_model.specs.Blocks.{layout_of, IsBlock}
@@ -18,9 +18,10 @@ use Rattle.dict_seat.specs.Shards.{HasShards}
 use Rattle.dict_seat.proofs.OthersLemmas.{shards_on}
 use Rattle.dictionary.specs.Reading.{AreMaps}
 use Rattle.dictionary.proofs.SameLemmas.{recovers_to}
-use Rattle.trace_run.specs.Opened.{IsDictionary}
-use Rattle.trace_run.proofs.OpenedLemmas.{run_begins}
-use Rattle.trace_run.proofs.RecoveredLemmas.{recovered_dictionary}
+use Rattle.run_model.specs.Opened.{IsDictionary}
+use Rattle.worker_run.proofs.RecoveredLemmas.{recovered_dictionary}
+use Rattle.worker_run.proofs.WorkLemmas.{asked_shard}
+use Rattle.dictionary_tests.proofs.OpenedLemmas.{has_root, run_begins}
 
 -- what recovery promises of an image of the version, with the dictionary's filter, and what the reading of the maps does
 pub dictionary_of : (old new : Image) (held : List Block) (maps : List (BTreeMap ℕ (List ℕ)))
@@ -36,19 +37,9 @@ dictionary_of old new held maps ascending words none blocks kinds are =
 -- a heap that was opened over a dictionary has its shards
 pub opened_shards : (words : List ℕ) (held : List Block) (budget : ℕ) (s : SeqState) → IsOpened words held budget s → IsDictionary (slice_index words) (Contains held)
     → HasShards (seat_of s)
-opened_shards words held budget s is has =
-    let begun = run_begins words held budget s is has in
-    record {
-      each = λ shard small.
-          let first = has.maps.each shard small in
-          record {
-            owned = begun.stands.all_roots shard (omega arith);
-            kind_is = sym (begun.stands.kinds.each shard (omega arith)) ∙ first.1.kind_is;
-            only = begun.stands.only;
-            map = first.0;
-            gives = begun.gives shard first.0 small first.1;
-          };
-    }
+opened_shards words held budget s is has = record {
+  each = λ shard small. asked_shard (slice_index words) [] (seat_of s) shard has.maps small (has_root shard (omega arith)) (run_begins words held budget s is has);
+}
 
 -- requests to it go on
 pub go_on : (s t : SeqState) (shard : ℕ) (may after : Map → Map) → shard < shards → HasShards (seat_of s) → MayChange shard may (seat_of s) (seat_of t)

@@ -7,7 +7,7 @@
 mod runs;
 mod standing;
 
-pub use runs::run_text;
+pub use runs::{Outcome, run_text};
 pub use standing::Standing;
 
 #[cfg(test)]

@@ -3,12 +3,11 @@ ghost use Rattle.std.specs.Prelude.{◌<◌, ◌≤◌, ◌^◌};
 
 use crate::checks::{must_hold, reads_so};
 use crate::recoveries::empty;
-use crate::runs::run_text;
+use crate::runs::{Outcome, run_text};
 use std::alloc::Global;
 use std::process::Abort;
 use std::test::Fail;
 use super_block::{CLEAN, DIRTY, STATE_WORD};
-use trace_run::Outcome;
 use trace_text::reply_text;
 
 /// More steps than any test here takes.

@@ -1,12 +1,93 @@
-//! Whole runs of a trace, from its text.
-ghost use Rattle.std.specs.Prelude.{◌<◌, ◌^◌};
+//! Whole runs of a trace, from its text: by one worker, over a heap for one thread.
+ghost use Rattle.std.specs.Prelude.{◌≡◌, ◌<◌, ◌^◌, Contains, slice_index};
+ghost use Rattle.heap_model.specs.Header.{capacity_of};
+ghost use Rattle.line_memory.specs.ClosedWords.{volatile_words, durable_words};
+ghost use Rattle.run_model.specs.Opened.{IsDictionary};
+ghost use Rattle.worker_run.specs.Left.{AreWholeImage};
+ghost use Rattle.worker_run.specs.Said.{requests_of, ValuesAreShort};
 
 use crate::standing::recovered;
-use std::alloc::Global;
+use block_heap::SeqHeap;
+use dictionary::maps_of;
+use line_memory::Closed;
+use std::alloc::{AllocError, Global};
 use std::test::Fail;
-use tool_ports::{OpenGate, SeededChances};
-use trace_run::{Outcome, run_trace};
-use trace_text::parse_trace;
+use super_block::{Geometry, Ready};
+use tool_ports::{Chances, Gate, OpenGate, SeededChances};
+use trace_text::{Reply, Request, parse_trace};
+use worker_run::{Worker, closed_image, crash_image, longest_puts, make_rooms, work_off};
+
+/// What a run of a trace gives.
+#[derive(Drop)]
+pub struct Outcome {
+    /// The reply to each request, in the order of the trace.
+    pub replies: Vec<Reply>,
+    /// Whether the heap stopped at its budget.
+    pub stopped: bool,
+    /// The words of the image that is left: that of a close or, where the heap stopped, of a crash.
+    pub image: Vec<u64>,
+}
+
+/// The image that is left of a heap.
+fn image_left<C: Chances>(
+    closed: Closed,
+    stopped: bool,
+    geometry: Geometry,
+    chances: &mut C,
+) -> Vec<u64>
+    requires whole { AreWholeImage (volatile_words closed) }
+    requires layout { geometry.capacity ≡ capacity_of (slice_index (volatile_words closed)) }
+    requires same { capacity_of (slice_index (durable_words closed))
+        ≡ capacity_of (slice_index (volatile_words closed)) }
+{
+    let Closed { now, kept } = closed;
+    if stopped {
+        crash_image(kept, geometry, chances)
+    } else {
+        closed_image(now)
+    }
+}
+
+/// Tells of each request that has no reply that it is unanswered.
+fn tell_unanswered(replies: &mut Vec<Reply>, requests: usize) -> Result<(), AllocError> {
+    for _ in replies.len()..requests {
+        replies.push(Reply::Unanswered)?;
+    }
+    Ok(())
+}
+
+/// Runs the requests over a recovered heap, with a budget of so many steps.
+fn run_requests<G: Gate, C: Chances>(
+    alloc: Global,
+    heap: Ready,
+    requests: &[Request],
+    budget: u64,
+    gate: &G,
+    chances: &mut C,
+) -> Result<Outcome, Fail>
+    requires budget { budget < 2 ^ 40 }
+    requires dictionary { IsDictionary (slice_index heap.words) (Contains heap.held) }
+    requires short { ValuesAreShort (requests_of requests.now) }
+{
+    let geometry = heap.geometry();
+    let alone = Worker {
+        number: 0,
+        workers: 1,
+    };
+    let maps = maps_of(alloc, &heap)?;
+    let longest = longest_puts(alloc, requests)?;
+    let rooms = make_rooms(alloc, &maps, &longest, alone, requests)?;
+    let mut replies = Vec::with_capacity(alloc, requests.len())?;
+    let mut seat = SeqHeap::new(alloc, heap, budget, chances.chance(0))?;
+    let stopped = work_off(&mut seat, alone, requests, rooms, &mut replies, gate);
+    tell_unanswered(&mut replies, requests.len())?;
+    let image = image_left(seat.finish(), stopped, geometry, chances);
+    Ok(Outcome {
+        replies,
+        stopped,
+        image,
+    })
+}
 
 /// Runs the trace over what recovery makes of the image, with a budget of so many steps.
 pub fn run_text(alloc: Global, image: &[u64], text: &str, budget: u64) -> Result<Outcome, Fail>
@@ -15,7 +96,5 @@ pub fn run_text(alloc: Global, image: &[u64], text: &str, budget: u64) -> Result
     let heap = recovered(alloc, image)?.heap;
     let requests = parse_trace(alloc, text.as_bytes())?;
     let chances = &mut SeededChances::new();
-    Ok(run_trace(
-        &alloc, alloc, heap, &requests, 1, budget, &OpenGate, chances,
-    )?)
+    run_requests(alloc, heap, &requests, budget, &OpenGate, chances)
 }

@@ -1,7 +1,7 @@
 //! A dictionary on a heap for one thread.
 ghost use Rattle.std.specs.Prelude.{◌≡◌, ◌<◌, ◌^◌, IfOk, Contains, slice_index};
 ghost use Rattle.heap_model.specs.Image.{Image};
-ghost use Rattle.trace_run.specs.Opened.{IsDictionary};
+ghost use Rattle.run_model.specs.Opened.{IsDictionary};
 
 use block_heap::{AllocFault, Chance, Closed, SeqHeap, Stopped};
 use dict_model::LARGEST_VALUE;

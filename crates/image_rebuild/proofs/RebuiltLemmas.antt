@@ -10,7 +10,7 @@ use Rattle.heap_model.proofs.HeaderLemmas.{no_fault}
 use Rattle.heap_recover.specs.InPlace.{differences, IsRecoveryOf, RecoversAlike, IsBetween, HoldsDurably, IsStoppedAt}
 use Rattle.line_memory.specs.View.{View}
 use Rattle.dict_model.specs.Links.{dict_links, kind_count}
-use Rattle.trace_run.specs.Left.{AreWholeImage}
+use Rattle.worker_run.specs.Left.{AreWholeImage}
 use Rattle.image_rebuild.specs.Rebuilding.{IsRebuilt}
 
 module _ (old new : List ℕ) (held : List Block) (is : IsRecoveryOf (Some kind_count) old dict_links new held) where

@@ -14,8 +14,8 @@ use region_header::{Bytes, words_to_bytes};
 use std::alloc::{AllocError, Global};
 use super_block::Ready;
 use tool_ports::Chances;
-use trace_run::crash_image;
 use trace_text::report_text;
+use worker_run::crash_image;
 
 /// What recovery in place puts and prints.
 #[derive(Drop)]

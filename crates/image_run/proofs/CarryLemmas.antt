@@ -16,10 +16,10 @@ use Rattle.dict_model.specs.Shards.{Map, MapOf}
 use Rattle.dict_model.proofs.ShardLemmas.{one_map_of}
 use Rattle.dictionary.specs.Reading.{AreMaps, RecoversTo}
 use Rattle.dictionary.proofs.SameLemmas.{traced_alike, kinds_kept, map_kept}
-use Rattle.trace_run.specs.Stands.{IsOtherRoot}
-use Rattle.trace_run.specs.Needs.{ListsKeysOf}
-use Rattle.image_run.specs.Running.{Options, Leaves, RunsRequests}
-use Rattle.trace_run.specs.Said.{Told}
+use Rattle.run_model.specs.Runs.{IsOtherRoot}
+use Rattle.run_model.specs.Needs.{ListsKeysOf}
+use Rattle.worker_run.specs.Said.{Told}
+use Rattle.image_run.specs.Running.{Options, by_recovery, Leaves, RunsRequests}
 
 module _ (old new : Image) (to : RecoversTo old new) (maps : List (BTreeMap ℕ (List ℕ))) (are : AreMaps new shards maps) where
   -- a map of the image is one of the words
@@ -56,15 +56,23 @@ module _ (old new : Image) (to : RecoversTo old new) (maps : List (BTreeMap ℕ 
   others_reach b kind reached = reach_by_kinds new (kinds_of old) (kinds_of new) dict_links (λ root below. sym (kinds_kept old new to root below)) b kind
       (reach_kept old new IsOtherRoot (kinds_of old) dict_links others_alike b kind reached)
 
-  carried : (requests : List Request) (budget : ℕ) (told : List Told) (stopped : Bool) (left : List ℕ)
-      → Leaves new requests budget told stopped left → Leaves old requests budget told stopped left
-  carried requests budget told stopped left leaves = record {
+  carried : (requests : List Request) (workers budget : ℕ) (told : List Told) (stopped : Bool) (left : List ℕ)
+      → Leaves new requests workers budget told stopped left → Leaves old requests workers budget told stopped left
+  carried requests workers budget told stopped left leaves = record {
+    worked = record {
+      words = leaves.worked.words;
+      opened = by_recovery old new to leaves.worked.opened;
+      held = leaves.worked.held;
+      now = leaves.worked.now;
+      kept = leaves.worked.kept;
+      worked = leaves.worked.worked;
+    };
     answers = leaves.answers;
     stops = record { all = leaves.stops.all; cause = λ is keys lists. leaves.stops.cause is keys (keys_listed keys lists) };
     replies = record { right = λ shard map below is. leaves.replies.right shard map below (map_of_words shard map below is) };
     full = record {
-      cause = λ before later key value is.
-          let more = leaves.full.cause before later key value is in
+      cause = λ worker low before later key value is.
+          let more = leaves.full.cause worker low before later key value is in
           omega (arith, more, (to.recovered.same capacity_word (in_header capacity_word (inr (inr (inl refl))))), used_stays);
     };
     maps = record { each = λ shard map below is. leaves.maps.each shard map below (map_of_words shard map below is) };
@@ -85,6 +93,10 @@ module _ (old new : Image) (to : RecoversTo old new) (maps : List (BTreeMap ℕ 
           ∙ words_unchanged old new (kinds_of old) dict_links to.recovered b word
           (record { kind = kind; reach = more_roots old (kinds_of old) dict_links (λ root c. tt) b kind reached }) within;
     };
+    used = record {
+      least = let least = leaves.used.least in omega (arith, least, used_stays);
+      most = let most = leaves.used.most in omega (arith, most, used_stays);
+    };
     state = leaves.state;
   }
 
@@ -93,7 +105,7 @@ module _ (old new : Image) (to : RecoversTo old new) (maps : List (BTreeMap ℕ 
     told = runs.told;
     stopped = runs.stopped;
     left = runs.left;
-    leaves = carried requests options.budget runs.told runs.stopped runs.left runs.leaves;
+    leaves = carried requests options.workers options.budget runs.told runs.stopped runs.left runs.leaves;
     put_is = runs.put_is;
     words_are = runs.words_are;
     report = runs.report;

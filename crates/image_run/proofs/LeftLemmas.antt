@@ -16,7 +16,7 @@ use Rattle.dictionary.specs.declared.fault.MapFault.TheVariants.{BadShard}
 use Rattle.dictionary.proofs.SameLemmas.{bad_kept}
 use Rattle.heap_recover.specs.declared.answer.Recovered.{Recovered}
 use Rattle.heap_recover.specs.declared.answer.Was.TheVariants.{Clean}
-use Rattle.trace_run.specs.Opened.{CanBeRun}
+use Rattle.run_model.specs.Opened.{CanBeRun}
 use Rattle.image_run.specs.Reporting.{IsKept, PointsOutside, Recovers, IsRecoveredHeap}
 
 -- words of this version are recovered as they are

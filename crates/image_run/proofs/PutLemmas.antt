@@ -8,9 +8,9 @@ use Rattle.heap_model.proofs.EmptyLemmas.{first_kind, length-first_kinds}
 use Rattle.heap_model.proofs.ImageLemmas.{length-words_from, get_or-words_from}
 use Rattle.dict_model.specs.Links.{kind_count, root_kind}
 use Rattle.dict_model.specs.Requests.{Request}
-use Rattle.trace_run.specs.Opened.{HasMaps, CanBeRun}
-use Rattle.trace_run.specs.Said.{replies_of}
-use Rattle.trace_run.proofs.AgainLemmas.{can_be_run}
+use Rattle.run_model.specs.Opened.{HasMaps, CanBeRun}
+use Rattle.worker_run.specs.Said.{replies_of}
+use Rattle.worker_run.proofs.AgainLemmas.{can_be_run}
 use Rattle.region_header.specs.Words.{AreWordsOf}
 use Rattle.region_header.specs.Migration.{current_words}
 use Rattle.region_header.proofs.MigrationLemmas.{current_of_new}
@@ -47,7 +47,7 @@ first_are kinds long are = same_number_lists kinds first_kinds (long ∙ sym len
 module _ (image : Image) (requests : List Request) (options : Options) (put text : List ℕ) (have : HasMaps image) (runs : RunsRequests image requests options put text) where
   left_again : CanBeRun (length runs.left) (slice_index runs.left)
   left_again =
-      can_be_run image (slice_index runs.left) requests (replies_of runs.told) runs.stopped (length runs.left) have
+      can_be_run image (slice_index runs.left) options.workers requests (replies_of runs.told) runs.stopped (length runs.left) have
       runs.leaves.maps runs.leaves.header runs.leaves.others
 
   put_again : CanBeRun (length runs.left) (image_in put)

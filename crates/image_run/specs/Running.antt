@@ -1,10 +1,14 @@
 -- What a run of a trace puts and prints.
 use Rattle.std.specs.Prelude.{◌≡◌, ℕ, Bool, List, ◌++◌, length, slice_index}
+use Rattle.heap_model.specs.declared.block.Block.{Block}
 use Rattle.heap_model.specs.Image.{Image, bytes_of_words}
 use Rattle.region_header.specs.Words.{AreWordsOf}
 use Rattle.dict_model.specs.Requests.{Request}
-use Rattle.trace_run.specs.Runs.{AnswersInOrder, StopsRightly, IsFullRightly, RepliesRightly, LeavesMaps, LeavesHeader, LeavesOthers, LeavesState}
-use Rattle.trace_run.specs.Said.{Told, replies_of}
+use Rattle.dictionary.specs.Reading.{RecoversTo}
+use Rattle.run_model.specs.Runs.{AnswerInOrder, StopsRightly, IsFullRightly, RepliesRightly, LeavesMaps, LeavesHeader, LeavesOthers, LeavesUsed, LeavesState}
+use Rattle.run_model.specs.Workers.{Replies}
+use Rattle.shared_run.specs.Together.{HaveWorked}
+use Rattle.worker_run.specs.Said.{Told, replies_of}
 use Rattle.trace_text.specs.Replies.{replies_text}
 use Rattle.image_run.specs.declared.options.RunOptions.{RunOptions}
 use Rattle.image_run.specs.Reporting.{Reports}
@@ -26,15 +30,31 @@ options_of options = record {
   with_map = options.with_map;
 }
 
--- the requests are answered in order with right replies, as far as the budget goes, and this image is left
-pub record Leaves (image : Image) (requests : List Request) (budget : ℕ) (told : List Told) (stopped : Bool) (left : List ℕ) : Type 0 where
-  pub answers : AnswersInOrder requests (replies_of told)
-  pub stops : StopsRightly image requests budget (replies_of told) stopped
+-- the words are those of the image, or those that recovery leaves of it
+pub data AreOpened (words : List ℕ) : Image → Type 0 where
+  as_they_are : AreOpened words (slice_index words)
+  by_recovery : (image next : Image) → RecoversTo image next → AreOpened words next → AreOpened words image
+
+-- the replies and the image left are those of workers over one heap at rest that was opened with the image: the states that each one's seat went through say why it was stopped
+pub record WorkedOver (image : Image) (workers budget : ℕ) (requests : List Request) (replies : Replies) (stopped : Bool) (left : List ℕ) : Type 0 where
+  pub words : List ℕ
+  pub opened : AreOpened words image
+  pub held : List Block
+  pub now : List ℕ
+  pub kept : List ℕ
+  pub worked : HaveWorked words held workers budget requests replies stopped now kept left
+
+-- each worker's requests are answered in order with right replies, as far as the budget goes, and this image is left
+pub record Leaves (image : Image) (requests : List Request) (workers budget : ℕ) (told : List Told) (stopped : Bool) (left : List ℕ) : Type 0 where
+  pub worked : WorkedOver image workers budget requests (replies_of told) stopped left
+  pub answers : AnswerInOrder workers requests (replies_of told)
+  pub stops : StopsRightly image workers requests budget (replies_of told) stopped
   pub replies : RepliesRightly image requests (replies_of told)
-  pub full : IsFullRightly image requests (replies_of told)
-  pub maps : LeavesMaps image requests (replies_of told) stopped (slice_index left)
+  pub full : IsFullRightly image workers requests (replies_of told)
+  pub maps : LeavesMaps image workers requests (replies_of told) stopped (slice_index left)
   pub header : LeavesHeader image (length left) (slice_index left)
   pub others : LeavesOthers image (slice_index left)
+  pub used : LeavesUsed image workers requests (replies_of told) (slice_index left)
   pub state : LeavesState stopped (slice_index left)
 
 -- a run of the requests over the image puts these bytes, those of the image that is left, which are read again as its words, and prints this text: the replies, and then the report on the image that is left
@@ -42,7 +62,7 @@ pub record RunsRequests (image : Image) (requests : List Request) (options : Opt
   pub told : List Told
   pub stopped : Bool
   pub left : List ℕ
-  pub leaves : Leaves image requests options.budget told stopped left
+  pub leaves : Leaves image requests options.workers options.budget told stopped left
   pub put_is : put ≡ bytes_of_words left
   pub words_are : AreWordsOf left put
   pub report : List ℕ

@@ -6,7 +6,7 @@ ghost use Rattle.heap_model.specs.Image.{Image};
 ghost use Rattle.dict_model.specs.Links.{shards};
 ghost use Rattle.dict_model.specs.Requests.{Request};
 ghost use Rattle.dictionary.specs.Reading.{RecoversTo, AreMaps};
-ghost use Rattle.trace_run.specs.Opened.{HasMaps};
+ghost use Rattle.run_model.specs.Opened.{HasMaps};
 ghost use Rattle.image_run.specs.Reporting.{fault_of, image_in, PointsOutside, Recovers};
 ghost use Rattle.image_run.specs.Running.{Options, RunsRequests};
 

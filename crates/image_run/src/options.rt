@@ -3,7 +3,7 @@ ghost use Rattle.std.specs.Prelude.{◌≡◌, ◌≤◌, false};
 ghost use Rattle.image_run.specs.declared.options.TheConstants.{MOST_WORKERS, MOST_BUDGET};
 
 /// The most workers of a run.
-pub const MOST_WORKERS: u64 = 1;
+pub const MOST_WORKERS: u64 = 8;
 
 /// The greatest budget of a run, in steps.
 pub const MOST_BUDGET: u64 = (1 << 40) - 1;

@@ -1,7 +1,7 @@
 //! Runs a trace over a recovered heap, and makes what is put and printed.
 ghost use Rattle.std.specs.Prelude.{◌≡◌, length, IfOk, Contains, slice_index};
-ghost use Rattle.trace_run.specs.Opened.{IsDictionary, CanBeRun};
-ghost use Rattle.trace_run.specs.Said.{requests_of, ValuesAreShort};
+ghost use Rattle.run_model.specs.Opened.{IsDictionary, CanBeRun};
+ghost use Rattle.worker_run.specs.Said.{requests_of, ValuesAreShort};
 ghost use Rattle.image_run.specs.Reporting.{Reports, IsRecoveredHeap};
 ghost use Rattle.image_run.specs.Running.{RunsRequests, options_of};
 
@@ -10,10 +10,11 @@ use crate::reporting::recovered_text;
 use dictionary::{DictFilter, MapFault, read_maps, root_kinds};
 use heap_recover::{RecoverFault, Recovered, recover_owned};
 use region_header::{Bytes, words_to_bytes};
+use shared_run::run_trace;
 use std::alloc::{AllocError, Global};
+use std::thread::Threads;
 use super_block::Ready;
 use tool_ports::{Chances, Gate};
-use trace_run::run_trace;
 use trace_text::{Request, reply_text};
 
 /// What a run puts and prints.
@@ -27,7 +28,7 @@ pub struct RunProduct {
 
 /// Runs the requests over a recovered heap in which nothing is outside and each shard has a map,
 /// and makes all that is to be put and printed. The chances begin anew by the options' seed.
-pub fn run_image<R, G: Gate + Sync, C: Chances>(
+pub fn run_image<R: Threads + Sync, G: Gate + Sync, C: Chances>(
     rt: &R,
     alloc: Global,
     heap: Ready,

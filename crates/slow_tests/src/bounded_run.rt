@@ -4,17 +4,18 @@ use line_memory::ConstantChance;
 use std::alloc::{AllocError, Global};
 use std::process::Abort;
 use std::test::Fail;
+use std::thread::Threads;
 use tool_ports::MapStore;
 
 /// What a run of the trace over the image in the store prints.
 fn printed_by(
-    rt: &(impl Abort + AllocGlobal),
+    rt: &(impl Abort + AllocGlobal + Threads + Sync),
     images: &mut MapStore,
     line: &str,
     trace: &[u8],
 ) -> Result<Vec<u8>, AllocError> {
     let trace = Vec::from_slice(rt.alloc(), trace)?;
-    let (status, printed) = make(rt.alloc(), line, trace, images, &mut ConstantChance(0))?;
+    let (status, printed) = make(rt, line, trace, images, &mut ConstantChance(0))?;
     must_hold(rt, status == 0, line);
     Ok(printed)
 }
@@ -22,26 +23,26 @@ fn printed_by(
 /// What two runs of the trace over an empty heap of 256 superblocks print, the second over what the
 /// first left.
 fn run_twice(
-    rt: &(impl Abort + AllocGlobal),
+    rt: &(impl Abort + AllocGlobal + Threads + Sync),
     line: &str,
     trace: &[u8],
 ) -> Result<(Vec<u8>, Vec<u8>), Fail> {
-    let mut images = store_with(rt.alloc(), &image_made(rt.alloc(), "format h 256")?)?;
+    let mut images = store_with(rt.alloc(), &image_made(rt, "format h 256")?)?;
     let first = printed_by(rt, &mut images, line, trace)?;
     let second = printed_by(rt, &mut images, "run h --workers 1", trace)?;
     Ok((first, second))
 }
 
 /// The trace that the tool makes of these words.
-fn made_trace(alloc: Global, line: &str) -> Result<Vec<u8>, Fail> {
-    let mut none = store_with(alloc, b"")?;
+fn made_trace(rt: &(impl AllocGlobal + Threads + Sync), line: &str) -> Result<Vec<u8>, Fail> {
+    let mut none = store_with(rt.alloc(), b"")?;
     let chance = &mut ConstantChance(0);
-    Ok(make(alloc, line, Vec::new(alloc), &mut none, chance)?.1)
+    Ok(make(rt, line, Vec::new(rt.alloc()), &mut none, chance)?.1)
 }
 
 #[test]
 fn a_long_trace_gives_the_same_within_its_bound(rt: HostRuntime) -> Result<(), Fail> {
-    let trace = made_trace(rt.alloc(), "gen 20000 7")?;
+    let trace = made_trace(&rt, "gen 20000 7")?;
     let free = run_twice(&rt, "run h --workers 1", &trace)?;
     let bounded = run_twice(&rt, "run h --workers 1 --stop 268435456", &trace)?;
     must_hold(&rt, free == bounded, "the same");

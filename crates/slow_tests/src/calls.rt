@@ -3,6 +3,7 @@ use line_memory::ConstantChance;
 use std::alloc::{AllocError, Global};
 use std::process::Abort;
 use std::test::Fail;
+use std::thread::Threads;
 use tool_ports::{BytesSource, Chances, FailedPut, ImageStore, MapStore, OpenGate, VecSink};
 use tool_run::run_tool;
 
@@ -26,18 +27,18 @@ fn words_of(alloc: Global, line: &str) -> Result<Vec<String>, AllocError> {
 
 /// Makes the call: its status, and the bytes that it printed.
 pub fn make<C: Chances>(
-    alloc: Global,
+    rt: &(impl AllocGlobal + Threads + Sync),
     line: &str,
     trace: Vec<u8>,
     images: &mut MapStore,
     chances: &mut C,
 ) -> Result<(u8, Vec<u8>), AllocError> {
-    let words = words_of(alloc, line)?;
-    let mut out = VecSink::new(alloc, Vec::new(alloc), ROOM, ROOM)?;
-    let mut trace = BytesSource::new(Vec::new(alloc), 1 << 20, trace);
+    let words = words_of(rt.alloc(), line)?;
+    let mut out = VecSink::new(rt.alloc(), Vec::new(rt.alloc()), ROOM, ROOM)?;
+    let mut trace = BytesSource::new(Vec::new(rt.alloc()), 1 << 20, trace);
     let status = run_tool(
-        &(),
-        alloc,
+        rt,
+        rt.alloc(),
         &words,
         images,
         &mut trace,
@@ -45,15 +46,15 @@ pub fn make<C: Chances>(
         &OpenGate,
         chances,
     );
-    Ok((status.code(), Vec::from_slice(alloc, out.bytes())?))
+    Ok((status.code(), Vec::from_slice(rt.alloc(), out.bytes())?))
 }
 
 /// The image that a call makes, as `format h 1`.
-pub fn image_made(alloc: Global, line: &str) -> Result<Vec<u8>, Fail> {
-    let mut images = store_with(alloc, b"")?;
+pub fn image_made(rt: &(impl AllocGlobal + Threads + Sync), line: &str) -> Result<Vec<u8>, Fail> {
+    let mut images = store_with(rt.alloc(), b"")?;
     let chance = &mut ConstantChance(0);
-    make(alloc, line, Vec::new(alloc), &mut images, chance)?;
-    Ok(Vec::from_slice(alloc, images.image("h").unwrap_or(&[]))?)
+    make(rt, line, Vec::new(rt.alloc()), &mut images, chance)?;
+    Ok(Vec::from_slice(rt.alloc(), images.image("h").unwrap_or(&[]))?)
 }
 
 /// Asserts what the text tells of. An assertion makes a long function slow to prove; a call of this
@@ -64,7 +65,7 @@ pub fn must_hold(rt: &impl Abort, holds: bool, told: &str) {
 
 /// Makes the call, which is to end with this status and to print this text.
 pub fn runs<C: Chances>(
-    rt: &(impl Abort + AllocGlobal),
+    rt: &(impl Abort + AllocGlobal + Threads + Sync),
     images: &mut MapStore,
     chances: &mut C,
     line: &str,
@@ -72,7 +73,7 @@ pub fn runs<C: Chances>(
     status: u8,
     text: &str,
 ) -> Result<(), Fail> {
-    let (code, printed) = make(rt.alloc(), line, trace, images, chances)?;
+    let (code, printed) = make(rt, line, trace, images, chances)?;
     must_hold(rt, code == status, line);
     must_hold(rt, printed.as_slice() == text.as_bytes(), line);
     Ok(())

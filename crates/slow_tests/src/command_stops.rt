@@ -6,6 +6,7 @@ use region_header::words_to_bytes;
 use std::alloc::{AllocError, Global};
 use std::process::Abort;
 use std::test::Fail;
+use std::thread::Threads;
 use tool_ports::{Chances, MapStore, SeededChances};
 
 const DONE: &str = "rebuild done\nheap 2 dirty\nheld 64 1\n";
@@ -22,23 +23,23 @@ fn one_block(alloc: Global) -> Result<Vec<u8>, Fail> {
 
 /// The status of a recovery that is to stop at this step, and what it prints.
 fn stopped_at<C: Chances>(
-    alloc: Global,
+    rt: &(impl AllocGlobal + Threads + Sync),
     images: &mut MapStore,
     budget: u64,
     chances: &mut C,
 ) -> Result<(u8, Vec<u8>), AllocError> {
-    let line = format!(in alloc; "rebuild h --stop {budget}")?;
-    make(alloc, &line, Vec::new(alloc), images, chances)
+    let line = format!(in rt.alloc(); "rebuild h --stop {budget}")?;
+    make(rt, &line, Vec::new(rt.alloc()), images, chances)
 }
 
 /// Stops a recovery of the image in the store at this step: the answer is whether it is done.
 fn is_done_at<C: Chances>(
-    rt: &(impl Abort + AllocGlobal),
+    rt: &(impl Abort + AllocGlobal + Threads + Sync),
     images: &mut MapStore,
     budget: u64,
     chances: &mut C,
 ) -> Result<bool, Fail> {
-    let (status, printed) = stopped_at(rt.alloc(), images, budget, chances)?;
+    let (status, printed) = stopped_at(rt, images, budget, chances)?;
     must_hold(rt, status == 0, "its status");
     let is_done = printed.as_slice() == DONE.as_bytes();
     let is_stopped = printed.as_slice() == STOPPED.as_bytes();
@@ -49,7 +50,7 @@ fn is_done_at<C: Chances>(
 /// Stops a recovery of the image at this step, and goes on from what the stop left: the answer is
 /// whether there was no stop.
 fn goes_on_from<C: Chances>(
-    rt: &(impl Abort + AllocGlobal),
+    rt: &(impl Abort + AllocGlobal + Threads + Sync),
     image: &[u8],
     budget: u64,
     chances: &mut C,
@@ -63,7 +64,7 @@ fn goes_on_from<C: Chances>(
 
 /// Stops a recovery at each step until it is done, and goes on from what each stop left.
 fn is_told_at_each_stop<C: Chances>(
-    rt: &(impl Abort + AllocGlobal),
+    rt: &(impl Abort + AllocGlobal + Threads + Sync),
     chances: &mut C,
 ) -> Result<(), Fail> {
     let image = one_block(rt.alloc())?;

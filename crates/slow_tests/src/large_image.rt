@@ -7,11 +7,12 @@ use region_header::words_to_bytes;
 use std::alloc::{AllocError, Global};
 use std::process::Abort;
 use std::test::Fail;
+use std::thread::Threads;
 use tool_ports::MapStore;
 
 /// Makes a call without input, which is to end with this status and to print this text.
 fn must_tell(
-    rt: &(impl Abort + AllocGlobal),
+    rt: &(impl Abort + AllocGlobal + Threads + Sync),
     images: &mut MapStore,
     line: &str,
     status: u8,
@@ -30,7 +31,10 @@ fn all_blocks(alloc: Global) -> Result<String, AllocError> {
     Ok(text)
 }
 
-fn is_made_and_shown(rt: &(impl Abort + AllocGlobal), images: &mut MapStore) -> Result<(), Fail> {
+fn is_made_and_shown(
+    rt: &(impl Abort + AllocGlobal + Threads + Sync),
+    images: &mut MapStore,
+) -> Result<(), Fail> {
     let made = "formatted 257 bytes 16875904\n";
     must_tell(rt, images, "format h 257", 0, made)?;
     must_tell(rt, images, "show h", 0, "heap 257 clean\n")?;

@@ -4,6 +4,7 @@ use line_memory::ConstantChance;
 use std::alloc::{AllocError, Global};
 use std::process::Abort;
 use std::test::Fail;
+use std::thread::Threads;
 use tool_ports::MapStore;
 
 /// A request of sixteen bytes.
@@ -31,9 +32,13 @@ fn longest_trace(
 }
 
 /// Works off a trace of the greatest length, which asks for no key that is there.
-fn must_answer(rt: &(impl Abort + AllocGlobal), trace: Vec<u8>, text: &str) -> Result<(), Fail> {
+fn must_answer(
+    rt: &(impl Abort + AllocGlobal + Threads + Sync),
+    trace: Vec<u8>,
+    text: &str,
+) -> Result<(), Fail> {
     must_hold(rt, trace.len() == 16_777_216, "its length");
-    let mut images = store_with(rt.alloc(), &image_made(rt.alloc(), "format h 1")?)?;
+    let mut images = store_with(rt.alloc(), &image_made(rt, "format h 1")?)?;
     let line = "run h --workers 1 --sum";
     let chance = &mut ConstantChance(0);
     runs(rt, &mut images, chance, line, trace, 0, text)
@@ -67,7 +72,7 @@ fn the_longest_trace_of_the_most_lines_is_worked_off(rt: HostRuntime) -> Result<
 
 /// Refuses a trace of so many bytes, which is one line outside the grammar.
 fn must_refuse(
-    rt: &(impl Abort + AllocGlobal),
+    rt: &(impl Abort + AllocGlobal + Threads + Sync),
     images: &mut MapStore,
     length: usize,
     text: &str,
@@ -79,7 +84,7 @@ fn must_refuse(
 
 #[test]
 fn a_line_of_the_longest_length_is_outside_the_grammar(rt: HostRuntime) -> Result<(), Fail> {
-    let image = image_made(rt.alloc(), "format h 1")?;
+    let image = image_made(&rt, "format h 1")?;
     let mut images = store_with(rt.alloc(), &image)?;
     must_refuse(&rt, &mut images, 16_777_216, "bad trace line 1\n")?;
     must_refuse(&rt, &mut images, 16_777_217, "bad trace too long\n")?;

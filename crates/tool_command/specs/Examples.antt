@@ -55,14 +55,14 @@ gen_most = record {
   small = lit≤ tt;
 }
 
--- options in any order, a number behind an equals sign or a space
-run_all : Asks (codes "run" ∷ codes "--map" ∷ codes "--stop" ∷ codes "7" ∷ codes "h" ∷ codes "--workers=1" ∷ [])
-    (run_image (codes "h") (record { workers = 1; budget = 7; seed = 0; with_sum = false; with_map = true }))
+-- options in any order, a number behind an equals sign or a space; two workers
+run_all : Asks (codes "run" ∷ codes "--map" ∷ codes "--stop" ∷ codes "7" ∷ codes "h" ∷ codes "--workers=2" ∷ [])
+    (run_image (codes "h") (record { workers = 2; budget = 7; seed = 0; with_sum = false; with_map = true }))
 unfolding clap_on_literals
 run_all = record {
   taken = record { named = refl; faultless = refl };
   named = refl;
-  by = record { text = codes "1"; given = refl; counted = record { digits = (lit< tt, (lit< tt, tt)); value = refl } };
+  by = record { text = codes "2"; given = refl; counted = record { digits = (lit< tt, (lit< tt, tt)); value = refl } };
   some = lit≤ tt;
   few = lit≤ tt;
   within = inl (record { text = codes "7"; given = refl; counted = record { digits = (lit< tt, (lit< tt, tt)); value = refl } });
@@ -115,19 +115,15 @@ replay_plain = record {
   fits = lit< tt;
 }
 
--- more workers than there may be, and none told
-nine_workers : fault_of run_app (codes "run" ∷ codes "h" ∷ codes "--workers" ∷ codes "9" ∷ []) ≡ ValueValidation ∷ []
-unfolding clap_on_literals
-nine_workers = refl
-
+-- no number of workers
 workers_missing : fault_of run_app (codes "run" ∷ codes "h" ∷ []) ≡ MissingRequiredArgument ∷ []
 unfolding clap_on_literals
 workers_missing = refl
 
 -- the first number past each range: of workers, seeds of traces, steps, and superblocks
-two_workers : fault_of run_app (codes "run" ∷ codes "h" ∷ codes "--workers" ∷ codes "2" ∷ []) ≡ ValueValidation ∷ []
+nine_workers : fault_of run_app (codes "run" ∷ codes "h" ∷ codes "--workers" ∷ codes "9" ∷ []) ≡ ValueValidation ∷ []
 unfolding clap_on_literals
-two_workers = refl
+nine_workers = refl
 
 seed_past_the_last : fault_of gen_app (codes "gen" ∷ codes "1" ∷ codes "1000001" ∷ []) ≡ ValueValidation ∷ []
 unfolding clap_on_literals

@@ -44,9 +44,9 @@ run_without = record {
   fits = lit< tt;
 }
 
-run_with : IsForm (codes "run" ∷ codes "h" ∷ codes "--workers" ∷ codes "1" ∷ codes "--stop" ∷ codes "1099511627775"
+run_with : IsForm (codes "run" ∷ codes "h" ∷ codes "--workers" ∷ codes "8" ∷ codes "--stop" ∷ codes "1099511627775"
     ∷ codes "--seed" ∷ codes "18446744073709551615" ∷ codes "--sum" ∷ codes "--map" ∷ [])
-    (run_image (codes "h") (record { workers = 1; budget = 1099511627775; seed = 18446744073709551615; with_sum = true; with_map = true }))
+    (run_image (codes "h") (record { workers = 8; budget = 1099511627775; seed = 18446744073709551615; with_sum = true; with_map = true }))
 unfolding digits
 run_with = record {
   stop = Some 1099511627775;

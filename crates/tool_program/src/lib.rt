@@ -8,7 +8,8 @@ use file_ports::{FileStore, InputSource, OutputSink};
 use std::alloc::Alloc;
 use std::io::ErrorKind;
 use std::process::ExitCode;
-use std::rt::Env;
+use std::rt::{Env, Runtime};
+use std::thread::Threads;
 use std::{env, io};
 use tool_ports::{OpenGate, SeededChances};
 use tool_run::{run_tool, tell_out_of_memory};
@@ -16,7 +17,7 @@ use usage::USAGE;
 
 /// Does what the words behind the program's name ask for. At status 2 it writes help to standard
 /// error too.
-pub fn run_program(rt: &HostRuntime) -> ExitCode {
+pub fn run_program<R: Runtime + AllocGlobal + Threads + Sync>(rt: &R) -> ExitCode {
     let alloc = rt.alloc();
     let mut out = OutputSink::new(io::writer(rt));
     let words = match words_of(rt) {

@@ -7,7 +7,7 @@ usage: heap_tool COMMAND
   show IMAGE [--map]   recover the heap and print a report; with --map its superblocks too
   run IMAGE --workers N [--stop K] [--seed X] [--sum] [--map]
                        work off the requests on standard input, put the heap that is left,
-                       and print the replies and a report; N is 1
+                       and print the replies and a report; N is 1 to 8
     --stop K           stop at step K, as by a crash (0 to 1099511627775; the default)
     --seed X           the seed of what is written back early (any of 64 bits; 0)
     --sum              count replies and keys, in place of a line for each

@@ -1,7 +1,7 @@
 -- What a run comes to over a good image, where the source tells that its trace is refused.
 use Rattle.std.proofs.Common.{◌≡◌, ◌⊎◌, ℕ, ◌<◌, false, List, [], length, Option, Some, inl, inr, sym, subst, arith}
 use Rattle.tool_ports.specs.Contents.{Contents}
-use Rattle.trace_run.specs.Said.{Line}
+use Rattle.worker_run.specs.Said.{Line}
 use Rattle.trace_text.specs.Trace.{lines_of, AreLines}
 use Rattle.trace_text.proofs.ReadingLemmas.{read_or_outside}
 use Rattle.tool_command.specs.Command.{Command, show_image, run_image, Asks}

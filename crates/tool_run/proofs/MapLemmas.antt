@@ -11,7 +11,7 @@ use Rattle.dictionary.specs.Reading.{AreMaps, TellsLowest, RecoversTo}
 use Rattle.dictionary.proofs.SameLemmas.{map_kept, bad_kept}
 use Rattle.heap_recover.specs.declared.answer.Recovered.{Recovered}
 use Rattle.image_run.proofs.RecoveredLemmas.{recovers_to, maps_of_image}
-use Rattle.trace_run.proofs.RecoveredLemmas.{recovered_dictionary}
+use Rattle.worker_run.proofs.RecoveredLemmas.{recovered_dictionary}
 use Rattle.tool_ports.specs.Contents.{Contents}
 use Rattle.tool_run.specs.declared.fault.Fault.{Fault}
 use Rattle.tool_command.specs.Command.{Command, image_name}

@@ -12,7 +12,7 @@ use Rattle.tool_run.specs.declared.fault.Fault.{Fault}
 use Rattle.tool_run.specs.declared.fault.Fault.TheVariants.{Usage, Memory, ReadFault, WriteFault, Absent, Malformed, Outside, BadShard, BadLine, BadStep, TooLong}
 use Rattle.tool_ports.specs.declared.reading.ReadAllFault.{ReadAllFault}
 use Rattle.tool_ports.specs.declared.reading.ReadAllFault.TheVariants.{TooLong as MoreGiven, Failed as ReadFailed, Memory as ReadMemory}
-use Rattle.trace_run.specs.Said.{Line}
+use Rattle.worker_run.specs.Said.{Line}
 use Rattle.trace_text.specs.declared.request.TraceError.{TraceError}
 use Rattle.trace_text.specs.declared.request.TraceError.TheVariants.{BadLine as BadTraceLine, Memory as TraceMemory}
 use Rattle.trace_text.specs.Trace.{lines_of, AreLines}

@@ -16,7 +16,7 @@ pub use Rattle.image_rebuild.specs.Rebuilding.{Rebuilds}
 pub use Rattle.image_replay.specs.Replaying.{Replays, LeavesOutside}
 pub use Rattle.image_run.specs.Running.{Options, RunsRequests}
 use Rattle.tool_ports.specs.Contents.{Contents, Holds}
-use Rattle.trace_run.specs.Said.{Line, requests_of}
+use Rattle.worker_run.specs.Said.{Line, requests_of}
 use Rattle.trace_text.specs.declared.schedule.Schedule.{Schedule}
 use Rattle.trace_text.specs.Generated.{made_trace}
 use Rattle.trace_text.specs.Report.{line_feed}

@@ -5,7 +5,7 @@ use Rattle.heap_model.specs.declared.header.BadHeader.{BadHeader}
 use Rattle.tool_ports.specs.Causes.{Rose}
 use Rattle.tool_ports.specs.Contents.{Contents, Holds, HoldsOldOrNew, KeepsOthers, Lacks, told_of}
 use Rattle.tool_ports.specs.Taken.{taken_with, TakesPart}
-use Rattle.trace_run.specs.Said.{Line}
+use Rattle.worker_run.specs.Said.{Line}
 use Rattle.trace_text.specs.declared.schedule.Schedule.{Schedule}
 use Rattle.trace_text.specs.Schedule.{IsSchedule, IsFirstBad}
 use Rattle.trace_text.specs.Trace.{lines_of, AreLines, IsFirstOutside}

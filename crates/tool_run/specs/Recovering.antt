@@ -14,7 +14,7 @@ pub use Rattle.image_run.specs.Reporting.{IsRecoveredHeap, IsTextOf, words_in_by
 use Rattle.std.specs.BTreeMap.{BTreeMap}
 use Rattle.dict_model.specs.Links.{shards}
 use Rattle.dictionary.specs.Reading.{RecoversTo, AreMaps}
-use Rattle.trace_run.specs.Opened.{IsDictionary}
+use Rattle.run_model.specs.Opened.{IsDictionary}
 use Rattle.tool_run.specs.Making.{PointsOutside, HasMapped, fault_of, image_in, drained_text}
 
 -- the bytes are the image of this name, and their header is good

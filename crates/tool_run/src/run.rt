@@ -18,12 +18,13 @@ use crate::fault::Fault;
 use crate::making::make;
 use crate::status::Status;
 use std::alloc::Global;
+use std::thread::Threads;
 use tool_command::{Invocation, Refusal, parse};
 use tool_ports::{Chances, Gate, ImageStore, Sink, Source};
 
 /// Does what the words ask for. They are those after the program's name: `format IMAGE S` puts an
 /// empty image of S superblocks, `show IMAGE` recovers an image and prints a report on it,
-/// `show IMAGE --map` prints a map too, `run IMAGE --workers 1` runs the trace that the source has
+/// `show IMAGE --map` prints a map too, `run IMAGE --workers N` runs the trace that the source has
 /// left over an image, puts the image that is left and prints the replies and a report, with
 /// `--stop K` and `--seed X` as far as step K, with early write-backs by that seed, and with
 /// `--sum` and `--map` other texts; `rebuild IMAGE [--stop K] [--seed X]` recovers an image in
@@ -33,7 +34,7 @@ use tool_ports::{Chances, Gate, ImageStore, Sink, Source};
 /// prints the offsets of the blocks that the class then gives, and `gen N SEED` prints a trace.
 /// Where there is no result, a line tells why; one that the sink refuses is lost. What a heap
 /// writes back early comes from `chances`, with the seed 0 where none is given.
-pub fn run_tool<R, I: ImageStore, T: Source, O: Sink, G: Gate + Sync, C: Chances>(
+pub fn run_tool<R: Threads + Sync, I: ImageStore, T: Source, O: Sink, G: Gate + Sync, C: Chances>(
     rt: &R,
     alloc: Global,
     words: &[String],
@@ -169,7 +170,7 @@ pub fn tell_out_of_memory<O: Sink>(out: &mut O) -> Status
 }
 
 // Makes the whole result first, then puts and prints it.
-fn carry_out<R, I: ImageStore, T: Source, O: Sink, G: Gate + Sync, C: Chances>(
+fn carry_out<R: Threads + Sync, I: ImageStore, T: Source, O: Sink, G: Gate + Sync, C: Chances>(
     rt: &R,
     alloc: Global,
     command: Invocation<'_>,

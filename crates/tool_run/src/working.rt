@@ -18,6 +18,7 @@ use dictionary::read_maps;
 use heap_recover::Recovered;
 use image_run::{RunOptions, run_image};
 use std::alloc::Global;
+use std::thread::Threads;
 use super_block::Ready;
 use tool_ports::{Chances, Gate, ImageStore, Source, read_all};
 use trace_text::{Request, parse_trace};
@@ -27,7 +28,7 @@ pub const LONGEST_TRACE: usize = 1 << 24;
 
 /// Runs the trace that the source has left over the image of this name, and makes the image that is
 /// left and the text on the run.
-pub fn work_named<R, I: ImageStore, T: Source, G: Gate + Sync, C: Chances>(
+pub fn work_named<R: Threads + Sync, I: ImageStore, T: Source, G: Gate + Sync, C: Chances>(
     rt: &R,
     alloc: Global,
     name: &str,

@@ -8,6 +8,7 @@ use crate::session::{play, shows_each};
 use line_memory::ConstantChance;
 use std::process::Abort;
 use std::test::Fail;
+use std::thread::Threads;
 use tool_ports::{FailedPut, MapStore, OpenGate};
 
 const LINE: &str = "run h --workers 1 --map";
@@ -67,7 +68,7 @@ const FAILURES: [Failing; 7] = [
 
 /// Makes the run over the store, of which a read and a write fail, and which ends so.
 fn must_end_so(
-    rt: &(impl Abort + AllocGlobal),
+    rt: &(impl Abort + AllocGlobal + Threads + Sync),
     images: &mut MapStore,
     (failing_reads, failing_writes): (&[u64], &[u64]),
     status: u8,
@@ -78,13 +79,13 @@ fn must_end_so(
         failing_writes,
         ..plain(LINE, TRACE)
     };
-    let ended = make(rt.alloc(), call, images, &OpenGate, &mut ConstantChance(0));
+    let ended = make(rt, call, images, &OpenGate, &mut ConstantChance(0));
     must_hold(rt, ends_so(ended, status, text), text);
 }
 
 /// Makes the run over the old image with that failure: it ends so, and leaves the old or the new.
 fn fails(
-    rt: &(impl Abort + AllocGlobal),
+    rt: &(impl Abort + AllocGlobal + Threads + Sync),
     old: &[u8],
     new: &[u8],
     failing: &Failing,
@@ -99,14 +100,21 @@ fn fails(
 }
 
 /// The image that the run leaves of an old one, where nothing fails.
-fn image_run(rt: &(impl Abort + AllocGlobal), old: &[u8]) -> Result<Vec<u8>, Fail> {
+fn image_run(
+    rt: &(impl Abort + AllocGlobal + Threads + Sync),
+    old: &[u8],
+) -> Result<Vec<u8>, Fail> {
     let mut images = store_with(rt.alloc(), old, NO_CALL, FailedPut::LeavesOld)?;
     must_end_so(rt, &mut images, (&[], &[]), 0, TOLD);
     Ok(image_in(rt.alloc(), &images)?)
 }
 
 /// Makes the run over the old image, which changes it, with each failure.
-fn fail_each(rt: &(impl Abort + AllocGlobal), old: &[u8], new: &[u8]) -> Result<(), Fail> {
+fn fail_each(
+    rt: &(impl Abort + AllocGlobal + Threads + Sync),
+    old: &[u8],
+    new: &[u8],
+) -> Result<(), Fail> {
     must_hold(rt, old != new, "the run changes the image");
     for failing in &FAILURES {
         fails(rt, old, new, failing)?;
@@ -116,7 +124,7 @@ fn fail_each(rt: &(impl Abort + AllocGlobal), old: &[u8], new: &[u8]) -> Result<
 
 #[test]
 fn each_call_of_the_outside_fails_once(rt: HostRuntime) -> Result<(), Fail> {
-    let old = image_after(rt.alloc(), "2", "")?;
+    let old = image_after(&rt, "2", "")?;
     fail_each(&rt, &old, &image_run(&rt, &old)?)
 }
 
@@ -147,7 +155,10 @@ const STORE_FAILURES: [StoreFailing; 5] = [
 ];
 
 /// Makes the call over such a store.
-fn store_fails(rt: &(impl Abort + AllocGlobal), failing: &StoreFailing) -> Result<(), Fail> {
+fn store_fails(
+    rt: &(impl Abort + AllocGlobal + Threads + Sync),
+    failing: &StoreFailing,
+) -> Result<(), Fail> {
     let (call, failed_put, line, status, text, length) = *failing;
     let mut images = store_with(rt.alloc(), b"old", call, failed_put)?;
     runs(rt, &mut images, line, b"", status, text);

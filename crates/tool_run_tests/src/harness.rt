@@ -4,6 +4,7 @@ use image_text::number;
 use std::alloc::{AllocError, Global};
 use std::process::Abort;
 use std::test::Fail;
+use std::thread::Threads;
 use tool_ports::{
     BytesSource, Chances, FailedPut, Gate, ImageStore, MapStore, OpenGate, SeededChances, VecSink,
 };
@@ -84,7 +85,7 @@ fn told_by(alloc: Global, status: Status, out: &VecSink) -> Ended {
 
 /// Makes the call: its status, and the bytes that it printed.
 pub fn make<G: Gate + Sync, C: Chances>(
-    alloc: Global,
+    rt: &(impl AllocGlobal + Threads + Sync),
     call: Call<'_>,
     images: &mut MapStore,
     gate: &G,
@@ -94,10 +95,10 @@ pub fn make<G: Gate + Sync, C: Chances>(
         words,
         mut trace,
         mut out,
-    } = outside_of(alloc, &call)?;
+    } = outside_of(rt.alloc(), &call)?;
     let status = run_tool(
-        &(),
-        alloc,
+        rt,
+        rt.alloc(),
         &words,
         images,
         &mut trace,
@@ -105,13 +106,18 @@ pub fn make<G: Gate + Sync, C: Chances>(
         gate,
         chances,
     );
-    told_by(alloc, status, &out)
+    told_by(rt.alloc(), status, &out)
 }
 
 /// Makes a call with an open gate and seeded chances.
-pub fn make_plain(alloc: Global, images: &mut MapStore, line: &str, trace: &[u8]) -> Ended {
+pub fn make_plain(
+    rt: &(impl AllocGlobal + Threads + Sync),
+    images: &mut MapStore,
+    line: &str,
+    trace: &[u8],
+) -> Ended {
     make(
-        alloc,
+        rt,
         plain(line, trace),
         images,
         &OpenGate,
@@ -144,20 +150,20 @@ pub fn ends_so(ended: Ended, status: u8, text: &str) -> bool {
 
 /// Makes a call, which is to end with this status and to print this text.
 pub fn runs(
-    rt: &(impl Abort + AllocGlobal),
+    rt: &(impl Abort + AllocGlobal + Threads + Sync),
     images: &mut MapStore,
     line: &str,
     trace: &[u8],
     status: u8,
     text: &str,
 ) {
-    let ended = make_plain(rt.alloc(), images, line, trace);
+    let ended = make_plain(rt, images, line, trace);
     must_hold(rt, ends_so(ended, status, text), line);
 }
 
 /// Makes a call on the image h, which it leaves as it is.
 pub fn shows(
-    rt: &(impl Abort + AllocGlobal),
+    rt: &(impl Abort + AllocGlobal + Threads + Sync),
     image: &[u8],
     line: &str,
     status: u8,
@@ -195,16 +201,24 @@ pub fn image_in(alloc: Global, images: &MapStore) -> Result<Vec<u8>, AllocError>
 }
 
 /// The image that a run leaves of one.
-fn image_behind(alloc: Global, image: &[u8], trace: &str) -> Result<Vec<u8>, Fail> {
-    let mut images = store_with(alloc, image, NO_CALL, FailedPut::LeavesOld)?;
-    make_plain(alloc, &mut images, "run h --workers 1", trace.as_bytes())?;
-    Ok(image_in(alloc, &images)?)
+fn image_behind(
+    rt: &(impl AllocGlobal + Threads + Sync),
+    image: &[u8],
+    trace: &str,
+) -> Result<Vec<u8>, Fail> {
+    let mut images = store_with(rt.alloc(), image, NO_CALL, FailedPut::LeavesOld)?;
+    make_plain(rt, &mut images, "run h --workers 1", trace.as_bytes())?;
+    Ok(image_in(rt.alloc(), &images)?)
 }
 
 /// The image that a run leaves of an empty one of some superblocks.
-pub fn image_after(alloc: Global, superblocks: &str, trace: &str) -> Result<Vec<u8>, Fail> {
-    let image = image_bytes(alloc, superblocks)?;
-    image_behind(alloc, &image, trace)
+pub fn image_after(
+    rt: &(impl AllocGlobal + Threads + Sync),
+    superblocks: &str,
+    trace: &str,
+) -> Result<Vec<u8>, Fail> {
+    let image = image_bytes(rt.alloc(), superblocks)?;
+    image_behind(rt, &image, trace)
 }
 
 /// Adds the pieces to the text.

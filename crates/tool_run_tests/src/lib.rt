@@ -13,6 +13,8 @@ mod harness;
 #[cfg(test)]
 mod images;
 #[cfg(test)]
+mod meeting;
+#[cfg(test)]
 mod rebuilds;
 #[cfg(test)]
 mod replays;
@@ -30,3 +32,5 @@ mod stops;
 mod versions;
 #[cfg(test)]
 mod words;
+#[cfg(test)]
+mod workers;

@@ -8,6 +8,7 @@ use line_memory::ConstantChance;
 use std::alloc::{AllocError, Global};
 use std::process::Abort;
 use std::test::Fail;
+use std::thread::Threads;
 use tool_ports::{Chances, FailedPut, MapStore, OpenGate, SeededChances};
 
 /// An image whose superblock 0 of two has blocks of 64 bytes, to the first of which root 8 points.
@@ -19,23 +20,23 @@ const STOPPED: &str = "rebuild stopped\nheap 2 dirty\nheld 64 1\n";
 
 /// The status of a recovery that is to stop at this step, and what it prints.
 fn stopped_at<C: Chances>(
-    alloc: Global,
+    rt: &(impl AllocGlobal + Threads + Sync),
     images: &mut MapStore,
     budget: u64,
     chances: &mut C,
 ) -> Ended {
-    let line = numbered(alloc, "rebuild h --stop ", budget)?;
-    make(alloc, plain(&line, b""), images, &OpenGate, chances)
+    let line = numbered(rt.alloc(), "rebuild h --stop ", budget)?;
+    make(rt, plain(&line, b""), images, &OpenGate, chances)
 }
 
 /// Stops a recovery at this step, and answers whether there was no stop.
 fn stop_recovery<C: Chances>(
-    rt: &(impl Abort + AllocGlobal),
+    rt: &(impl Abort + AllocGlobal + Threads + Sync),
     images: &mut MapStore,
     budget: u64,
     chances: &mut C,
 ) -> Result<bool, AllocError> {
-    let (status, printed) = stopped_at(rt.alloc(), images, budget, chances)?;
+    let (status, printed) = stopped_at(rt, images, budget, chances)?;
     let is_done = printed.as_slice() == DONE.as_bytes();
     let is_stopped = printed.as_slice() == STOPPED.as_bytes();
     must_hold(rt, status == 0 && (is_done || is_stopped), "a stop");
@@ -44,7 +45,7 @@ fn stop_recovery<C: Chances>(
 
 /// Stops a recovery at this step, recovers what is left, and answers whether there was no stop.
 fn stop_at<C: Chances>(
-    rt: &(impl Abort + AllocGlobal),
+    rt: &(impl Abort + AllocGlobal + Threads + Sync),
     image: &[u8],
     budget: u64,
     chances: &mut C,
@@ -58,7 +59,7 @@ fn stop_at<C: Chances>(
 /// Stops a recovery at each early step and at a few later ones until it is done, and recovers what
 /// each stop left. (The crate slow_tests takes every step.)
 fn goes_on_from_stops<C: Chances>(
-    rt: &(impl Abort + AllocGlobal),
+    rt: &(impl Abort + AllocGlobal + Threads + Sync),
     image: &[u8],
     chances: &mut C,
 ) -> Result<(), Fail> {
@@ -123,7 +124,11 @@ const FAILURES: [Failure; 3] = [
 ];
 
 /// Recovers the image over a store of which that call fails.
-fn fails(rt: &(impl Abort + AllocGlobal), image: &[u8], failure: &Failure) -> Result<(), Fail> {
+fn fails(
+    rt: &(impl Abort + AllocGlobal + Threads + Sync),
+    image: &[u8],
+    failure: &Failure,
+) -> Result<(), Fail> {
     let (call, failed, status, text, is_old) = *failure;
     let mut images = store_with(rt.alloc(), image, call, failed)?;
     runs(rt, &mut images, "rebuild h", b"", status, text);

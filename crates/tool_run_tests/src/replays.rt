@@ -9,6 +9,7 @@ use line_memory::ConstantChance;
 use std::alloc::{AllocError, Global};
 use std::process::Abort;
 use std::test::Fail;
+use std::thread::Threads;
 use tool_ports::{FailedPut, MapStore, OpenGate};
 
 /// A superblock that was taken, and nothing held.
@@ -156,7 +157,7 @@ fn written(alloc: Global, schedule: &str) -> Result<String, AllocError> {
 
 /// Replays a schedule by several chances. The image stays as it is.
 fn replays(
-    rt: &(impl Abort + AllocGlobal),
+    rt: &(impl Abort + AllocGlobal + Threads + Sync),
     image: &str,
     schedule: &str,
     status: u8,
@@ -168,7 +169,7 @@ fn replays(
 
 /// The same of a schedule in bytes.
 fn replays_on(
-    rt: &(impl Abort + AllocGlobal),
+    rt: &(impl Abort + AllocGlobal + Threads + Sync),
     image: &str,
     schedule: &[u8],
     status: u8,
@@ -180,7 +181,7 @@ fn replays_on(
 
 /// The same of an image and a schedule in bytes.
 fn replays_bytes(
-    rt: &(impl Abort + AllocGlobal),
+    rt: &(impl Abort + AllocGlobal + Threads + Sync),
     image: &[u8],
     schedule: &[u8],
     status: u8,
@@ -194,7 +195,7 @@ fn replays_bytes(
 
 /// Replays it by each of the chances.
 fn replays_each(
-    rt: &(impl Abort + AllocGlobal),
+    rt: &(impl Abort + AllocGlobal + Threads + Sync),
     images: &mut MapStore,
     schedule: &[u8],
     status: u8,
@@ -207,7 +208,7 @@ fn replays_each(
 
 /// Replays it where each number asked for is the greatest.
 fn replays_with_most(
-    rt: &(impl Abort + AllocGlobal),
+    rt: &(impl Abort + AllocGlobal + Threads + Sync),
     images: &mut MapStore,
     schedule: &[u8],
     status: u8,
@@ -215,7 +216,7 @@ fn replays_with_most(
 ) {
     let call = plain("replay h", schedule);
     let mut chance = ConstantChance(u64::MAX);
-    let ended = make(rt.alloc(), call, images, &OpenGate, &mut chance);
+    let ended = make(rt, call, images, &OpenGate, &mut chance);
     must_hold(rt, ends_so(ended, status, text), text);
 }
 
@@ -286,13 +287,13 @@ fn a_failed_get_is_told_before_the_schedule(rt: HostRuntime) -> Result<(), Fail>
 }
 
 /// Replays a schedule that can't be read.
-fn read_fails(rt: &(impl Abort + AllocGlobal), images: &mut MapStore) {
+fn read_fails(rt: &(impl Abort + AllocGlobal + Threads + Sync), images: &mut MapStore) {
     let call = Call {
         failing_reads: &[0],
         ..plain("replay h", b"seats 9")
     };
     let mut chance = ConstantChance(0);
-    let ended = make(rt.alloc(), call, images, &OpenGate, &mut chance);
+    let ended = make(rt, call, images, &OpenGate, &mut chance);
     must_hold(rt, ends_so(ended, 4, "read fault\n"), "a failed read");
 }
 

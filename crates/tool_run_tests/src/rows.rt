@@ -5,6 +5,7 @@ use image_text::number;
 use std::alloc::{AllocError, Global};
 use std::process::Abort;
 use std::test::Fail;
+use std::thread::Threads;
 
 const ANSWERED: &str = "
 $ format h 4
@@ -68,7 +69,7 @@ $ run h --workers 1
 $ run h --workers 9
 = 2
 > usage
-$ run h --workers 2
+$ run h --workers 0
 = 2
 > usage
 $ show none.img
@@ -128,7 +129,7 @@ $ run none --workers 1
 < put
 = 6
 > no image none
-$ run h --workers 2
+$ run h --workers 0
 = 2
 > usage
 $ run h --workers 1 --workers 1
@@ -364,8 +365,8 @@ fn a_trace_is_made(rt: HostRuntime) {
 }
 
 /// What a call prints.
-fn printed(alloc: Global, line: &str) -> Result<Vec<u8>, AllocError> {
-    Ok(make_plain(alloc, &mut store(alloc), line, b"")?.1)
+fn printed(rt: &(impl AllocGlobal + Threads + Sync), line: &str) -> Result<Vec<u8>, AllocError> {
+    Ok(make_plain(rt, &mut store(rt.alloc()), line, b"")?.1)
 }
 
 const EIGHT_RUN: &str = "requests 8 ok 4 none 4 value 0 full 0 unanswered 0
@@ -382,7 +383,7 @@ sb 2 class 6 held 0-1
 ";
 
 /// Runs the trace over an empty heap.
-fn runs_eight(rt: &(impl Abort + AllocGlobal), trace: &[u8]) {
+fn runs_eight(rt: &(impl Abort + AllocGlobal + Threads + Sync), trace: &[u8]) {
     let mut images = store(rt.alloc());
     let made = "formatted 8 bytes 541504\n";
     runs(rt, &mut images, "format h 8", b"", 0, made);
@@ -392,7 +393,7 @@ fn runs_eight(rt: &(impl Abort + AllocGlobal), trace: &[u8]) {
 
 #[test]
 fn a_made_trace_is_run(rt: HostRuntime) -> Result<(), Fail> {
-    let trace = printed(rt.alloc(), "gen 8 1")?;
+    let trace = printed(&rt, "gen 8 1")?;
     runs_eight(&rt, &trace);
     Ok(())
 }

@@ -6,6 +6,7 @@ use line_memory::ConstantChance;
 use std::alloc::AllocError;
 use std::process::Abort;
 use std::test::Fail;
+use std::thread::Threads;
 use tool_ports::{Chances, FailedPut, MapStore, OpenGate};
 
 /// What the heap went through before the put that is stopped.
@@ -34,7 +35,7 @@ const STOPPED: &str = "
 
 /// Makes the call, which stops the put and leaves the value.
 fn must_leave(
-    rt: &(impl Abort + AllocGlobal),
+    rt: &(impl Abort + AllocGlobal + Threads + Sync),
     image: &[u8],
     line: &str,
     value: &str,
@@ -47,7 +48,7 @@ fn must_leave(
 
 /// Makes the call, which stops the put and prints this text.
 fn stops(
-    rt: &(impl Abort + AllocGlobal),
+    rt: &(impl Abort + AllocGlobal + Threads + Sync),
     image: &[u8],
     line: &str,
     text: &str,
@@ -57,7 +58,11 @@ fn stops(
     Ok(())
 }
 
-fn leaves_as_told(rt: &(impl Abort + AllocGlobal), image: &[u8], row: &str) -> Result<(), Fail> {
+fn leaves_as_told(
+    rt: &(impl Abort + AllocGlobal + Threads + Sync),
+    image: &[u8],
+    row: &str,
+) -> Result<(), Fail> {
     let (options, value) = row.split_once(" => ").ok_or("no row")?;
     let line = joined(rt.alloc(), &["run h --workers 1 --stop ", options])?;
     must_leave(rt, image, &line, value)
@@ -65,7 +70,7 @@ fn leaves_as_told(rt: &(impl Abort + AllocGlobal), image: &[u8], row: &str) -> R
 
 #[test]
 fn a_seed_decides_whether_a_stopped_put_is_durable(rt: HostRuntime) -> Result<(), Fail> {
-    let image = image_after(rt.alloc(), "2", BEFORE)?;
+    let image = image_after(&rt, "2", BEFORE)?;
     for row in STOPPED.trim().split('\n') {
         leaves_as_told(&rt, &image, row)?;
     }
@@ -110,7 +115,7 @@ replay h --seed 14 < seats 1 => 14
 
 /// The seed that a call gives its chances, which are seeded once.
 fn seed_given(
-    rt: &(impl Abort + AllocGlobal),
+    rt: &(impl Abort + AllocGlobal + Threads + Sync),
     images: &mut MapStore,
     call: &str,
 ) -> Result<u64, AllocError> {
@@ -120,18 +125,26 @@ fn seed_given(
         latest: 0,
     };
     let call = plain(line, input.as_bytes());
-    let (status, _) = make(rt.alloc(), call, images, &OpenGate, &mut chances)?;
+    let (status, _) = make(rt, call, images, &OpenGate, &mut chances)?;
     must_hold(rt, status == 0 && chances.count == 1, line);
     Ok(chances.latest)
 }
 
 /// The seed that a call on the image gives its chances.
-fn seed_of_call(rt: &(impl Abort + AllocGlobal), image: &[u8], call: &str) -> Result<u64, Fail> {
+fn seed_of_call(
+    rt: &(impl Abort + AllocGlobal + Threads + Sync),
+    image: &[u8],
+    call: &str,
+) -> Result<u64, Fail> {
     let mut images = store_with(rt.alloc(), image, NO_CALL, FailedPut::LeavesOld)?;
     Ok(seed_given(rt, &mut images, call)?)
 }
 
-fn gives_the_seed(rt: &(impl Abort + AllocGlobal), image: &[u8], row: &str) -> Result<(), Fail> {
+fn gives_the_seed(
+    rt: &(impl Abort + AllocGlobal + Threads + Sync),
+    image: &[u8],
+    row: &str,
+) -> Result<(), Fail> {
     let (call, seed) = row.split_once(" => ").ok_or("no row")?;
     must_hold(rt, seed_of_call(rt, image, call)? == number(seed)?, call);
     Ok(())
@@ -139,7 +152,7 @@ fn gives_the_seed(rt: &(impl Abort + AllocGlobal), image: &[u8], row: &str) -> R
 
 #[test]
 fn each_command_gives_its_chances_the_seed(rt: HostRuntime) -> Result<(), Fail> {
-    let image = image_after(rt.alloc(), "2", BEFORE)?;
+    let image = image_after(&rt, "2", BEFORE)?;
     for row in SEEDS.trim().split('\n') {
         gives_the_seed(&rt, &image, row)?;
     }

@@ -22,6 +22,7 @@ use crate::images::image_bytes;
 use std::alloc::{AllocError, Global};
 use std::process::Abort;
 use std::test::Fail;
+use std::thread::Threads;
 use tool_ports::{FailedPut, MapStore, OpenGate, SeededChances};
 
 /// What stands behind the mark, in a line that begins with it.
@@ -148,7 +149,7 @@ fn first_line(text: &str) -> &str {
 
 /// Makes a call of a session, with this input and these failing writes.
 fn make_call(
-    alloc: Global,
+    rt: &(impl AllocGlobal + Threads + Sync),
     images: &mut MapStore,
     line: &str,
     trace: &[u8],
@@ -161,19 +162,24 @@ fn make_call(
         failing_writes,
         reads_and_writes: (7, 8),
     };
-    make(alloc, call, images, &OpenGate, &mut SeededChances::new())
+    make(rt, call, images, &OpenGate, &mut SeededChances::new())
 }
 
 /// Makes a call of a session, with this input.
-fn make_with_input(alloc: Global, images: &mut MapStore, turn: &str, trace: &[u8]) -> Ended {
-    let failing = failing_writes(alloc, turn)?;
-    make_call(alloc, images, first_line(turn), trace, &failing)
+fn make_with_input(
+    rt: &(impl AllocGlobal + Threads + Sync),
+    images: &mut MapStore,
+    turn: &str,
+    trace: &[u8],
+) -> Ended {
+    let failing = failing_writes(rt.alloc(), turn)?;
+    make_call(rt, images, first_line(turn), trace, &failing)
 }
 
 /// Makes a call of a session.
-fn make_turn(alloc: Global, images: &mut MapStore, turn: &str) -> Ended {
-    let input = input_of(alloc, turn)?;
-    make_with_input(alloc, images, turn, input.as_bytes())
+fn make_turn(rt: &(impl AllocGlobal + Threads + Sync), images: &mut MapStore, turn: &str) -> Ended {
+    let input = input_of(rt.alloc(), turn)?;
+    make_with_input(rt, images, turn, input.as_bytes())
 }
 
 /// Whether the image h is as long as the turn tells, if it does.
@@ -193,14 +199,18 @@ fn ends_as_told(alloc: Global, turn: &str, ended: Ended) -> bool {
 }
 
 /// Makes a call of a session, which ends and leaves an image as it tells.
-fn take_turn(rt: &(impl Abort + AllocGlobal), images: &mut MapStore, turn: &str) {
-    let ended = make_turn(rt.alloc(), images, turn);
+fn take_turn(rt: &(impl Abort + AllocGlobal + Threads + Sync), images: &mut MapStore, turn: &str) {
+    let ended = make_turn(rt, images, turn);
     must_hold(rt, ends_as_told(rt.alloc(), turn, ended), turn);
     must_hold(rt, has_length(images, turn), turn);
 }
 
 /// Makes the calls of a session over the store.
-pub fn play(rt: &(impl Abort + AllocGlobal), images: &mut MapStore, session: &str) {
+pub fn play(
+    rt: &(impl Abort + AllocGlobal + Threads + Sync),
+    images: &mut MapStore,
+    session: &str,
+) {
     let mut turns = session.split("\n$ ");
     turns.next();
     for turn in turns {
@@ -209,7 +219,11 @@ pub fn play(rt: &(impl Abort + AllocGlobal), images: &mut MapStore, session: &st
 }
 
 /// Plays a session over a store that has the image alone, which it leaves as it was.
-fn show_image(rt: &(impl Abort + AllocGlobal), image: &[u8], session: &str) -> Result<(), Fail> {
+fn show_image(
+    rt: &(impl Abort + AllocGlobal + Threads + Sync),
+    image: &[u8],
+    session: &str,
+) -> Result<(), Fail> {
     let mut images = store_with(rt.alloc(), image, NO_CALL, FailedPut::LeavesOld)?;
     play(rt, &mut images, session);
     must_hold(rt, has_image(&images, image), session);
@@ -217,13 +231,16 @@ fn show_image(rt: &(impl Abort + AllocGlobal), image: &[u8], session: &str) -> R
 }
 
 /// Plays a session over a store that has the image alone that it names.
-fn show(rt: &(impl Abort + AllocGlobal), session: &str) -> Result<(), Fail> {
+fn show(rt: &(impl Abort + AllocGlobal + Threads + Sync), session: &str) -> Result<(), Fail> {
     let image = image_bytes(rt.alloc(), first_line(session))?;
     show_image(rt, &image, session)
 }
 
 /// Plays such sessions, each over a store of its own.
-pub fn shows_each(rt: &(impl Abort + AllocGlobal), sessions: &str) -> Result<(), Fail> {
+pub fn shows_each(
+    rt: &(impl Abort + AllocGlobal + Threads + Sync),
+    sessions: &str,
+) -> Result<(), Fail> {
     let mut sessions = sessions.split("\n@ ");
     sessions.next();
     for session in sessions {
@@ -234,7 +251,7 @@ pub fn shows_each(rt: &(impl Abort + AllocGlobal), sessions: &str) -> Result<(),
 
 /// Makes a call on the image, which ends with this status, having printed this line.
 fn shows_line(
-    rt: &(impl Abort + AllocGlobal),
+    rt: &(impl Abort + AllocGlobal + Threads + Sync),
     image: &[u8],
     call: &str,
     (code, line): (&str, &str),
@@ -245,7 +262,11 @@ fn shows_line(
 
 /// Makes a call on the image of a row, which it leaves as it is. Behind the image, between bars,
 /// are the status and the line that is printed.
-fn show_row(rt: &(impl Abort + AllocGlobal), call: &str, row: &str) -> Result<(), Fail> {
+fn show_row(
+    rt: &(impl Abort + AllocGlobal + Threads + Sync),
+    call: &str,
+    row: &str,
+) -> Result<(), Fail> {
     let (image, rest) = row.split_once(" | ").unwrap_or((row, ""));
     let (code, line) = rest.split_once(" | ").unwrap_or((rest, ""));
     let image = image_bytes(rt.alloc(), image)?;
@@ -253,7 +274,11 @@ fn show_row(rt: &(impl Abort + AllocGlobal), call: &str, row: &str) -> Result<()
 }
 
 /// Makes the call on the image of each row. A line that begins with `#` is a comment.
-pub fn shows_rows(rt: &(impl Abort + AllocGlobal), call: &str, rows: &str) -> Result<(), Fail> {
+pub fn shows_rows(
+    rt: &(impl Abort + AllocGlobal + Threads + Sync),
+    call: &str,
+    rows: &str,
+) -> Result<(), Fail> {
     for row in rows.trim().split('\n') {
         if !row.starts_with('#') {
             show_row(rt, call, row)?;

@@ -5,6 +5,7 @@ use crate::session::{play, shows_each, shows_rows};
 use std::alloc::{AllocError, Global};
 use std::process::Abort;
 use std::test::Fail;
+use std::thread::Threads;
 
 const MADE: &str = "
 $ format h 1
@@ -257,7 +258,7 @@ fn drained_text(
 
 /// Makes a call on an image told in words.
 fn drains(
-    rt: &(impl Abort + AllocGlobal),
+    rt: &(impl Abort + AllocGlobal + Threads + Sync),
     image: &str,
     call: &str,
     text: &str,
@@ -267,7 +268,7 @@ fn drains(
 }
 
 /// Asks for the blocks of a class.
-fn is_drained(rt: &(impl Abort + AllocGlobal), row: &Drained) -> Result<(), Fail> {
+fn is_drained(rt: &(impl Abort + AllocGlobal + Threads + Sync), row: &Drained) -> Result<(), Fail> {
     let (image, call, line, blocks) = *row;
     let text = drained_text(rt.alloc(), line, blocks)?;
     drains(rt, image, call, &text)

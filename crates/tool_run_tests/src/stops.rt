@@ -7,19 +7,20 @@ use std::alloc::{AllocError, Global};
 use std::process::Abort;
 use std::sync::atomic::{AtomicU64, Ordering};
 use std::test::Fail;
+use std::thread::Threads;
 use tool_ports::{Chances, FailedPut, Gate, MapStore, OpenGate, SeededChances};
 
 /// A stopped run of a trace over the image of the store: what it prints.
 fn stopped_run<C: Chances>(
-    alloc: Global,
+    rt: &(impl AllocGlobal + Threads + Sync),
     images: &mut MapStore,
     trace: &str,
     budget: u64,
     chances: &mut C,
 ) -> Result<Vec<u8>, AllocError> {
-    let line = numbered(alloc, "run h --workers 1 --stop ", budget)?;
+    let line = numbered(rt.alloc(), "run h --workers 1 --stop ", budget)?;
     let call = plain(&line, trace.as_bytes());
-    Ok(make(alloc, call, images, &OpenGate, chances)?.1)
+    Ok(make(rt, call, images, &OpenGate, chances)?.1)
 }
 
 /// What is told of a put that replaces a value, stopped before the step at which it does so.
@@ -40,6 +41,15 @@ held 32 1
 held 1024 1
 ";
 
+/// The same, answered, and stopped behind that, where its worker empties its caches.
+const ANSWERED: &str = "ok
+run stopped
+heap 2 dirty
+key 0 bb
+held 32 1
+held 1024 1
+";
+
 /// The same, not stopped.
 const CLOSED: &str = "ok
 run closed
@@ -53,15 +63,18 @@ held 1024 1
 enum Seen {
     Old,
     New,
+    Answered,
     Closed,
 }
 
-/// Which of the three is printed.
+/// Which of the four is printed.
 fn seen_in(printed: &[u8]) -> Result<Seen, Fail> {
     if printed == OLD.as_bytes() {
         Ok(Seen::Old)
     } else if printed == NEW.as_bytes() {
         Ok(Seen::New)
+    } else if printed == ANSWERED.as_bytes() {
+        Ok(Seen::Answered)
     } else if printed == CLOSED.as_bytes() {
         Ok(Seen::Closed)
     } else {
@@ -69,26 +82,26 @@ fn seen_in(printed: &[u8]) -> Result<Seen, Fail> {
     }
 }
 
-/// Which of the three is printed where the put is stopped at this step.
+/// Which of the four is printed where the put is stopped at this step.
 fn seen_at<C: Chances>(
-    alloc: Global,
+    rt: &(impl AllocGlobal + Threads + Sync),
     images: &mut MapStore,
     budget: u64,
     chances: &mut C,
 ) -> Result<Seen, Fail> {
-    let printed = stopped_run(alloc, images, "put 0 bb", budget, chances)?;
+    let printed = stopped_run(rt, images, "put 0 bb", budget, chances)?;
     seen_in(&printed)
 }
 
 /// Stops the put at this step, and does it on what is left.
 fn stop_put<C: Chances>(
-    rt: &(impl Abort + AllocGlobal),
+    rt: &(impl Abort + AllocGlobal + Threads + Sync),
     image: &[u8],
     budget: u64,
     chances: &mut C,
 ) -> Result<Seen, Fail> {
     let mut images = store_with(rt.alloc(), image, NO_CALL, FailedPut::LeavesOld)?;
-    let seen = seen_at(rt.alloc(), &mut images, budget, chances)?;
+    let seen = seen_at(rt, &mut images, budget, chances)?;
     if seen != Seen::Closed {
         let trace = b"put 0 bb".as_slice();
         runs(rt, &mut images, "run h --workers 1", trace, 0, CLOSED);
@@ -96,38 +109,48 @@ fn stop_put<C: Chances>(
     Ok(seen)
 }
 
-/// Asserts that a new value stays, and that the put closes once the value is new.
-fn must_follow(rt: &impl Abort, before: Seen, seen: Seen) {
+/// Whether the one may be seen at a step behind the other: the old value, then the new one, then
+/// the answer, and then the end.
+fn may_follow(before: Seen, seen: Seen) -> bool {
     match seen {
-        Seen::Old => must_hold(rt, before == Seen::Old, "a new value stays"),
-        Seen::New => {}
-        Seen::Closed => must_hold(rt, before == Seen::New, "it closes once the value is new"),
+        Seen::Old => before == Seen::Old,
+        Seen::New => before == Seen::Old || before == Seen::New,
+        Seen::Answered => before == Seen::New || before == Seen::Answered,
+        Seen::Closed => before == Seen::Answered,
     }
 }
 
-/// Stops the put at each step until it is closed: the old value is there up to some step, and from
-/// there on the new one.
+/// The next step that is tried: each of so many first ones, and few of those behind, in which a
+/// worker empties its caches.
+fn next_step(budget: u64, each: u64) -> u64 {
+    budget.saturating_add(if budget < each { 1 } else { 509 })
+}
+
+/// Stops the put at one step after the other until it is closed: the old value is there up to some
+/// step, and from there on the new one.
 fn replaces_at_one_step<C: Chances>(
-    rt: &(impl Abort + AllocGlobal),
+    rt: &(impl Abort + AllocGlobal + Threads + Sync),
     image: &[u8],
     chances: &mut C,
 ) -> Result<(), Fail> {
     let mut before = Seen::Old;
-    for budget in 0..10_000 {
+    let mut budget = 0u64;
+    for _ in 0..1_000 {
         let seen = stop_put(rt, image, budget, chances)?;
-        must_follow(rt, before, seen);
+        must_hold(rt, may_follow(before, seen), "old, new, answered, closed");
         if seen == Seen::Closed {
-            must_hold(rt, 10 < budget, "it takes steps");
+            must_hold(rt, 40 < budget, "it takes steps");
             return Ok(());
         }
         before = seen;
+        budget = next_step(budget, 40);
     }
     Err("it never closes".into())
 }
 
 #[test]
 fn a_replaced_value_is_old_or_new_at_each_stop(rt: HostRuntime) -> Result<(), Fail> {
-    let image = image_after(rt.alloc(), "2", "put 0 aa")?;
+    let image = image_after(&rt, "2", "put 0 aa")?;
     replaces_at_one_step(&rt, &image, &mut ConstantChance(0))?;
     replaces_at_one_step(&rt, &image, &mut ConstantChance(1))?;
     replaces_at_one_step(&rt, &image, &mut SeededChances::new())
@@ -167,32 +190,36 @@ fn requests_behind(count: usize) -> &'static str {
 
 /// Runs the requests behind so many first ones on what a stop left.
 fn runs_rest(
-    rt: &(impl Abort + AllocGlobal),
+    rt: &(impl Abort + AllocGlobal + Threads + Sync),
     images: &mut MapStore,
     count: usize,
 ) -> Result<(), Fail> {
     let rest = requests_behind(count);
-    let (status, told) = make_plain(rt.alloc(), images, "run h --workers 1", rest.as_bytes())?;
+    let (status, told) = make_plain(rt, images, "run h --workers 1", rest.as_bytes())?;
     must_hold(rt, status == 0 && told.ends_with(REPORT), "the rest is run");
     Ok(())
 }
 
 /// Stops a run of the requests at this step: how many are answered, and whether none was left.
 fn stop_requests(
-    alloc: Global,
+    rt: &(impl AllocGlobal + Threads + Sync),
     images: &mut MapStore,
     budget: u64,
 ) -> Result<(usize, bool), AllocError> {
     let mut chance = ConstantChance(budget);
-    let printed = stopped_run(alloc, images, REQUESTS, budget, &mut chance)?;
+    let printed = stopped_run(rt, images, REQUESTS, budget, &mut chance)?;
     Ok((answered(&printed), printed.ends_with(REPORT)))
 }
 
 /// Stops a run of the requests at this step, and runs those left unanswered on what is left. The
 /// answer is whether none was.
-fn go_on(rt: &(impl Abort + AllocGlobal), image: &[u8], budget: u64) -> Result<bool, Fail> {
+fn go_on(
+    rt: &(impl Abort + AllocGlobal + Threads + Sync),
+    image: &[u8],
+    budget: u64,
+) -> Result<bool, Fail> {
     let mut images = store_with(rt.alloc(), image, NO_CALL, FailedPut::LeavesOld)?;
-    let (count, is_closed) = stop_requests(rt.alloc(), &mut images, budget)?;
+    let (count, is_closed) = stop_requests(rt, &mut images, budget)?;
     runs_rest(rt, &mut images, count)?;
     must_hold(rt, !is_closed || count == 3, "all are answered in the end");
     Ok(is_closed)
@@ -200,11 +227,13 @@ fn go_on(rt: &(impl Abort + AllocGlobal), image: &[u8], budget: u64) -> Result<b
 
 #[test]
 fn requests_left_unanswered_are_run_on_what_a_stop_left(rt: HostRuntime) -> Result<(), Fail> {
-    let image = image_after(rt.alloc(), "2", "put 0 aa")?;
-    for step in 0..3_000u64 {
-        if go_on(&rt, &image, 3 * step)? {
+    let image = image_after(&rt, "2", "put 0 aa")?;
+    let mut budget = 0u64;
+    for _ in 0..1_000 {
+        if go_on(&rt, &image, budget)? {
             return Ok(());
         }
+        budget = next_step(budget, 100);
     }
     Err("it never closes".into())
 }
@@ -241,26 +270,34 @@ impl Gate for Recorder {
 }
 
 /// How much a recorder is told of a run over the store.
-fn told_by_run(alloc: Global, images: &mut MapStore, line: &str) -> Result<u64, AllocError> {
+fn told_by_run(
+    rt: &(impl AllocGlobal + Threads + Sync),
+    images: &mut MapStore,
+    line: &str,
+) -> Result<u64, AllocError> {
     let gate = Recorder {
         told: AtomicU64::new(0),
     };
     let call = plain(line, b"put 5 6162\nget 5\ndel 5\nget 5\nput 1 aa\n");
-    make(alloc, call, images, &gate, &mut SeededChances::new())?;
+    make(rt, call, images, &gate, &mut SeededChances::new())?;
     Ok(gate.told.load(Ordering::SeqCst))
 }
 
 /// How much a recorder is told of a run, which leaves an image.
-fn told_gate(rt: &(impl Abort + AllocGlobal), image: &[u8], line: &str) -> Result<u64, Fail> {
+fn told_gate(
+    rt: &(impl Abort + AllocGlobal + Threads + Sync),
+    image: &[u8],
+    line: &str,
+) -> Result<u64, Fail> {
     let mut images = store_with(rt.alloc(), image, NO_CALL, FailedPut::LeavesOld)?;
-    let told = told_by_run(rt.alloc(), &mut images, line)?;
+    let told = told_by_run(rt, &mut images, line)?;
     must_hold(rt, !images.image("h").unwrap_or(&[]).is_empty(), line);
     Ok(told)
 }
 
 #[test]
 fn the_gate_is_told_of_each_request_in_order(rt: HostRuntime) -> Result<(), Fail> {
-    let image = image_after(rt.alloc(), "2", "")?;
+    let image = image_after(&rt, "2", "")?;
     let all = told_gate(&rt, &image, "run h --workers 1")?;
     let first = told_gate(&rt, &image, "run h --workers 1 --stop 0")?;
     must_hold(&rt, all == 10 && first == 2, "each is told");

@@ -9,6 +9,7 @@ use image_text::number;
 use std::alloc::Global;
 use std::process::Abort;
 use std::test::Fail;
+use std::thread::Threads;
 use tool_ports::{FailedPut, MapStore};
 
 /// One superblock more than version 1 may have.
@@ -266,7 +267,7 @@ $ show h
 
 /// Plays the session over this image.
 fn play_over(
-    rt: &(impl Abort + AllocGlobal),
+    rt: &(impl Abort + AllocGlobal + Threads + Sync),
     image: &str,
     session: &str,
 ) -> Result<MapStore, Fail> {
@@ -300,7 +301,10 @@ fn has_first_kinds(alloc: Global, image: &[u8]) -> Result<bool, Fail> {
 
 /// Asserts that an image of two superblocks is of version 2, has the first kinds, and the old
 /// image's root.
-fn must_be_migrated(rt: &(impl Abort + AllocGlobal), image: &[u8]) -> Result<(), Fail> {
+fn must_be_migrated(
+    rt: &(impl Abort + AllocGlobal + Threads + Sync),
+    image: &[u8],
+) -> Result<(), Fail> {
     must_hold(rt, word(image, "1")? == 2, "the version");
     must_hold(rt, has_first_kinds(rt.alloc(), image)?, "the kinds");
     must_hold(rt, word(image, "root:8")? == number("@1080")?, "the root");
@@ -308,7 +312,7 @@ fn must_be_migrated(rt: &(impl Abort + AllocGlobal), image: &[u8]) -> Result<(),
 }
 
 /// Plays the session over the image of version 1.
-fn migrates(rt: &(impl Abort + AllocGlobal), session: &str) -> Result<(), Fail> {
+fn migrates(rt: &(impl Abort + AllocGlobal + Threads + Sync), session: &str) -> Result<(), Fail> {
     let images = play_over(rt, OLD, session)?;
     must_be_migrated(rt, images.image("h").unwrap_or(&[]))
 }

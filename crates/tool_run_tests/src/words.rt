@@ -2,6 +2,7 @@
 use crate::harness::{must_hold, runs, store};
 use crate::session::play;
 use std::process::Abort;
+use std::thread::Threads;
 
 /// Words that ask for nothing, a call a line; the first call has one empty word.
 const NO_FORM: &str = "''
@@ -45,7 +46,7 @@ drain -h 4
 drain 4 h";
 
 /// Makes the calls, which ask for nothing.
-fn are_usage(rt: &(impl Abort + AllocGlobal), lines: &str) {
+fn are_usage(rt: &(impl Abort + AllocGlobal + Threads + Sync), lines: &str) {
     let mut images = store(rt.alloc());
     for line in lines.split('\n') {
         runs(rt, &mut images, line, b"", 2, "usage\n");

@@ -3,7 +3,7 @@ use Rattle.heap_model.specs.Header.{capacity_of}
 use Rattle.line_memory.specs.View.{View}
 use Rattle.line_memory.specs.Plain.{view_of}
 use Rattle.line_memory.specs.ClosedWords.{volatile_words, durable_words}
-use Rattle.trace_run.specs.Left.{AreWholeImage}
+use Rattle.worker_run.specs.Left.{AreWholeImage}
 use Rattle.image_rebuild.proofs.RebuiltLemmas.{durable_capacity, durable_whole, capacity_new, rebuilt_done, rebuilt_cut}
 use Rattle.image_rebuild.proofs.rebuilding.rebuild_words.Goals as goal
 

@@ -1,14 +1,15 @@
 use Rattle.std.proofs.Common.{◌≡◌, List, ℕ, ◌++◌, slice_index, subst, ap, ◌∙◌, rules}
-use Rattle.trace_run.specs.Said.{Told}
+use Rattle.worker_run.specs.Said.{Told}
 use Rattle.heap_model.specs.Image.{bytes_of_words}
 use Rattle.trace_text.specs.Replies.{replies_text}
 use Rattle.region_header.specs.Words.{AreWordsOf}
-use Rattle.trace_run.proofs.AgainLemmas.{can_be_run}
+use Rattle.worker_run.proofs.AgainLemmas.{can_be_run}
+use Rattle.image_run.specs.Running.{as_they_are}
 use Rattle.image_run.proofs.running.run_image.Goals as goal
 
 pub left_text-requires : goal.left_text-requires
 left_text-requires g c =
-    can_be_run (slice_index c.args.heap.words) (slice_index c.in_ok-outcome.outcome.image.items) _ _ _ _ c.requires.dictionary.maps c.in_ok-outcome.ensures.maps
+    can_be_run (slice_index c.args.heap.words) (slice_index c.in_ok-outcome.outcome.image.items) _ _ _ _ _ c.requires.dictionary.maps c.in_ok-outcome.ensures.maps
     c.in_ok-outcome.ensures.header c.in_ok-outcome.ensures.others
 
 pub returns : goal.returns
@@ -26,6 +27,14 @@ returns g c =
         stopped = outcome.stopped;
         left = outcome.image.items;
         leaves = record {
+          worked = record {
+            words = c.args.heap.words;
+            opened = as_they_are;
+            held = c.args.heap.held;
+            now = c.in_ok-outcome.ensures.worked.0;
+            kept = c.in_ok-outcome.ensures.worked.1;
+            worked = c.in_ok-outcome.ensures.worked.2;
+          };
           answers = c.in_ok-outcome.ensures.answers;
           stops = c.in_ok-outcome.ensures.stops;
           replies = c.in_ok-outcome.ensures.replies;
@@ -33,6 +42,7 @@ returns g c =
           maps = c.in_ok-outcome.ensures.maps;
           header = c.in_ok-outcome.ensures.header;
           others = c.in_ok-outcome.ensures.others;
+          used = c.in_ok-outcome.ensures.used;
           state = c.in_ok-outcome.ensures.state;
         };
         put_is = image_is;

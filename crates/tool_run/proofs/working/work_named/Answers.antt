@@ -3,11 +3,11 @@ use Rattle.tool_run.specs.Making.{image_in}
 use Rattle.image_run.proofs.CarryLemmas.{runs_carried}
 use Rattle.image_run.specs.Running.{RunsRequests, options_of}
 use Rattle.tool_command.specs.Command.{run_image}
-use Rattle.trace_run.specs.Said.{Line, requests_of, ValuesAreShort}
+use Rattle.worker_run.specs.Said.{Line, requests_of, ValuesAreShort}
 use Rattle.tool_run.proofs.CallLemmas.{refused_by_image}
 use Rattle.tool_run.proofs.DeliveryLemmas.{at_cause}
 use Rattle.tool_run.proofs.OutsideLemmas.{mapped_inside}
-use Rattle.trace_run.proofs.SaidLemmas.{lines_short}
+use Rattle.worker_run.proofs.SaidLemmas.{lines_short}
 use Rattle.tool_run.proofs.working.work_named.Goals as goal
 
 pub returns-in_err-heap-clause-err : goal.returns-in_err-heap-clause-err

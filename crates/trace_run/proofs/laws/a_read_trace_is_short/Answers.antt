@@ -1,5 +1,0 @@
-use Rattle.trace_run.proofs.SaidLemmas.{lines_short}
-use Rattle.trace_run.proofs.laws.a_read_trace_is_short.Goals as goal
-
-pub returns : goal.returns
-returns c = lines_short

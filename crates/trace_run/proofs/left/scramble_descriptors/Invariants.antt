@@ -1,5 +1,0 @@
-use Rattle.trace_run.specs.Left.{ScramblesOnly}
-use Rattle.trace_run.proofs.left.scramble_descriptors.Given as goal
-
-abbrev pub invariant-loop-d : goal.invariant-loop-d
-invariant-loop-d g l = ScramblesOnly l.initial.words.items l.words.items

@@ -1,7 +1,0 @@
-use Rattle.std.proofs.Common.{take}
-use Rattle.trace_run.specs.Rooms.{AreLongest}
-use Rattle.trace_run.specs.Said.{requests_of}
-use Rattle.trace_run.proofs.room.longest_puts.Given as goal
-
-abbrev pub invariant-loop-request : goal.invariant-loop-request
-invariant-loop-request l = AreLongest (requests_of (take l.request-index l.requests)) l.longest
