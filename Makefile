@@ -7,8 +7,9 @@
 # make schedules  runs the schedules of docs/ALGORITHM.md, and compares their answers
 # make compare  holds the program against a second reading of the format, over damaged images, random traces and schedules, for a minute
 # make kills   kills the program at random moments of a run, and counts which images and temporaries that leaves
+# make soak    runs random traces with one to eight workers for ten minutes (MINUTES), and holds each answer against a second reading
 # make clean   removes what these made
-.PHONY: all test demo check bench faults schedules compare kills clean
+.PHONY: all test demo check bench faults schedules compare kills soak clean
 
 all: bin/heap_tool
 
@@ -42,6 +43,11 @@ compare: bin/heap_tool
 
 kills: bin/heap_tool
 	tools/kills
+
+MINUTES = 10
+
+soak: bin/heap_tool
+	tools/soak $(MINUTES)
 
 clean:
 	rm -rf bin crates/*/out
