@@ -2,7 +2,7 @@
 use Rattle.std.proofs.Common.{ℕ, zero, suc, ◌+◌, ◌*◌, ◌^◌, ◌<◌, ◌≤◌, arith}
 use Rattle.std.proofs.Math.Nat.{mul-le-mul_left}
 use Rattle.thread_cache.specs.Keeps.{most_draws, most_gives, most_wins}
-use Rattle.shared_run.proofs.SumLemmas.{sum_over, sum_step, sum_within, sum_both, sum_same, sum_times}
+use Rattle.run_model.proofs.SumLemmas.{sum_over, sum_step, sum_within, sum_both, sum_same, sum_times}
 
 -- the costs of each add up to costs of all
 pub draws_add : (draws small large losses moves : ℕ → ℕ) (from count : ℕ)

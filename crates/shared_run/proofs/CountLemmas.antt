@@ -9,7 +9,7 @@ use Rattle.dict_model.specs.Requests.{Request, put, get, del}
 use Rattle.run_model.specs.Needs.{is_to, put_into, shards_put_into}
 use Rattle.run_model.specs.Runs.{answered, unanswered, worker_unanswered}
 use Rattle.run_model.specs.Workers.{Replies, shard_asked, worker_of, is_of_worker, worker_requests, worker_replies, worker_numbers}
-use Rattle.shared_run.proofs.SumLemmas.{sum_over, sum_within, sum_both, sum_one, sum_none}
+use Rattle.run_model.proofs.SumLemmas.{sum_over, sum_within, sum_both, sum_one, sum_none}
 
 -- a test that at most one of the workers passes, and only where the whole passes it
 count_one : (tests : ℕ → Bool) (whole : Bool) (owner workers : ℕ) → ((w : ℕ) → tests w ≡ true → (whole ≡ true) × (owner ≡ w))

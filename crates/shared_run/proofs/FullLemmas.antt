@@ -12,7 +12,7 @@ use Rattle.run_model.specs.Runs.{IsFullRightly, span_taken, spans_beside, worker
 use Rattle.run_model.specs.Workers.{Replies}
 use Rattle.shared_run.specs.Together.{HaveWorked}
 use Rattle.shared_run.proofs.CountLemmas.{shards_all}
-use Rattle.shared_run.proofs.SumLemmas.{sum_over, sum_within, sum_both, sum_beside}
+use Rattle.run_model.proofs.SumLemmas.{sum_over, sum_within, sum_both, sum_beside}
 use Rattle.shared_run.proofs.WorkerLemmas.{of_each, answered_told, unused, taken_of, tables_of, taken_few, used_now}
 
 cond_within : (b : Bool) (n x y : ℕ) → n ≤ x + y → cond b 0 n ≤ cond b 0 x + cond b 0 y

@@ -14,7 +14,6 @@ pub mod ReplyLemmas
 pub mod RunLemmas
 pub mod ShardLemmas
 pub mod ShareLemmas
-pub mod SumLemmas
 pub mod TurnLemmas
 pub mod UsedLemmas
 pub mod WorkerLemmas

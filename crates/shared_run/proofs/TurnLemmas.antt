@@ -20,7 +20,7 @@ use Rattle.shared_run.specs.Parts.{SpendsFew}
 use Rattle.shared_run.specs.Together.{HaveWorked}
 use Rattle.shared_run.proofs.BoundLemmas.{draws_add, wins_add, times_add, losses_add, large_add, within_bound}
 use Rattle.shared_run.proofs.CountLemmas.{all_answered, requests_all, requests_few}
-use Rattle.shared_run.proofs.SumLemmas.{sum_over}
+use Rattle.run_model.proofs.SumLemmas.{sum_over}
 use Rattle.shared_run.proofs.WorkerLemmas.{last_view, kept_all, of_each, seats_total, unanswered_told}
 
 -- a worker that was not stopped has answered all of its requests

@@ -15,7 +15,7 @@ use Rattle.run_model.specs.Runs.{LeavesUsed, worker_span}
 use Rattle.run_model.specs.Workers.{Replies}
 use Rattle.shared_run.specs.Together.{HaveWorked, IsLeftOf}
 use Rattle.shared_run.proofs.CountLemmas.{shards_all}
-use Rattle.shared_run.proofs.SumLemmas.{sum_over, sum_within, sum_both}
+use Rattle.run_model.proofs.SumLemmas.{sum_over, sum_within, sum_both}
 use Rattle.shared_run.proofs.WorkerLemmas.{last_view, kept_all, unused, taken_of, tables_of, taken_few, used_now}
 
 -- a close leaves the volatile mark, and a crash the durable one

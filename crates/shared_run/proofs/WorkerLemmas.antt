@@ -18,7 +18,7 @@ use Rattle.run_model.specs.Working.{TakesRequests}
 use Rattle.shared_run.specs.Parts.{IsUnused}
 use Rattle.shared_run.specs.Together.{HaveWorked}
 use Rattle.shared_run.proofs.CountLemmas.{answered_padded, unanswered_padded}
-use Rattle.shared_run.proofs.SumLemmas.{sum_over, total_over}
+use Rattle.run_model.proofs.SumLemmas.{sum_over, total_over}
 
 -- requests that were taken one by one keep what each call keeps
 pub keeps_over : (rs : List (Request × Reply)) (s t : CacheState) → TakesRequests heap_view KeepsHeap rs s t → KeepsHeap s t

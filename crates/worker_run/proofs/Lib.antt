@@ -1,5 +1,4 @@
 pub mod AgainLemmas
-pub mod AnswerLemmas
 pub mod AnsweringLemmas
 pub mod KeyLemmas
 pub mod LeftLemmas
@@ -13,6 +12,5 @@ pub mod ScrambleLemmas
 pub mod ShardReachLemmas
 pub mod SpendLemmas
 pub mod StandsLemmas
-pub mod SumLemmas
 pub mod TakenLemmas
 pub mod WorkLemmas

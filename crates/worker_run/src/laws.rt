@@ -1,23 +1,23 @@
 //! What follows from the definitions, as functions with nothing to run: a caller cites their
 //! clauses.
 
-ghost use Rattle.std.specs.Prelude.{◌≡◌, ℕ, ◌+◌, ◌<◌, ◌≤◌, Bool, true, List, [], ◌∷◌, ◌++◌, length, Some, Contains};
+ghost use Rattle.std.specs.Prelude.{◌≡◌, ℕ, ◌<◌, Bool, true, List, [], ◌∷◌, ◌++◌, Some, Contains};
 ghost use Rattle.std.specs.BTreeMap.{BTreeMap};
 ghost use Rattle.heap_model.specs.declared.block.Block.{Block};
 ghost use Rattle.heap_model.specs.Image.{Image};
 ghost use Rattle.heap_model.specs.Reach.{IsReachedIn};
 ghost use Rattle.heap_model.specs.Recovered.{AreAscending};
-ghost use Rattle.heap_model.specs.Header.{capacity_of, used_of, HasKindsBelow};
+ghost use Rattle.heap_model.specs.Header.{HasKindsBelow};
 ghost use Rattle.dictionary.specs.Reading.{AreMaps, RecoversTo};
 ghost use Rattle.heap_seat.specs.View.{View};
 ghost use Rattle.heap_seat.specs.Words.{KeepsOwn, MixesOwn, NamesAll, StoresKinds};
 ghost use Rattle.heap_seat.specs.Sound.{IsSeat};
 ghost use Rattle.dict_model.specs.Links.{shards, kind_count, dict_links};
-ghost use Rattle.dict_model.specs.Requests.{Request, Reply, put, full, after};
+ghost use Rattle.dict_model.specs.Requests.{Request, Reply, after};
 ghost use Rattle.dict_model.specs.Shards.{Map, MapOf};
 ghost use Rattle.dict_seat.specs.Removal.{IsShard};
-ghost use Rattle.run_model.specs.Needs.{superblocks_needed, ListsKeysOf};
-ghost use Rattle.run_model.specs.Runs.{answered, of_shard, AnswersInOrder, IsFullRightly, IsMapLeft, LeavesMaps, LeavesHeader, LeavesOthers};
+ghost use Rattle.run_model.specs.Needs.{ListsKeysOf};
+ghost use Rattle.run_model.specs.Runs.{of_shard, IsMapLeft, LeavesMaps, LeavesHeader, LeavesOthers};
 ghost use Rattle.run_model.specs.Opened.{HasMaps, IsDictionary, IsOpenedOver, HasAllRoots, CanBeRun};
 ghost use Rattle.run_model.specs.Progress.{Answers, MayAnswer, HasAnswered};
 ghost use Rattle.run_model.specs.Stands.{StandsOver};
@@ -26,18 +26,6 @@ ghost use Rattle.worker_run.specs.Said.{Line, requests_of, ValuesAreShort};
 ghost use Rattle.trace_text.specs.Trace.{AreLines};
 
 use heap_seat::HeapSeat;
-
-/// Each of a worker's requests has a reply or stands as unanswered; and where as many superblocks
-/// are left as the trace needs, no put of it is told that there is no room.
-pub fn replies_fit_the_trace()
-    ensures each { (requests : List Request) (replies : Replies) → AnswersInOrder requests replies
-        → length replies ≡ length requests }
-    ensures room { (image : Image) (workers : ℕ) (requests : List Request) (replies : Replies)
-        → 1 ≤ workers → IsFullRightly image workers requests replies
-        → used_of image + superblocks_needed requests ≤ capacity_of image
-        → (before later : List (Request × Reply)) (key : ℕ) (value : List ℕ)
-        → answered requests replies ≡ before ++ (put key value, full) ∷ later → ⊥ }
-{}
 
 /// The keys of a dictionary are finitely many, so that there is a bound of steps for each trace.
 pub fn a_dictionary_lists_its_keys()

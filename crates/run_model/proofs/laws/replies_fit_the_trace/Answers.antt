@@ -1,5 +1,5 @@
-use Rattle.worker_run.proofs.AnswerLemmas.{one_each, never_full}
-use Rattle.worker_run.proofs.laws.replies_fit_the_trace.Goals as goal
+use Rattle.run_model.proofs.FullLemmas.{one_each, never_full}
+use Rattle.run_model.proofs.laws.replies_fit_the_trace.Goals as goal
 
 pub returns-clause-each : goal.returns-clause-each
 returns-clause-each c = one_each

@@ -1,10 +1,12 @@
--- Sums over the numbers of the workers, and over the views of their seats.
-use Rattle.std.proofs.Common.{◌≡◌, ◌≢◌, ℕ, zero, suc, ◌+◌, ◌*◌, ◌<◌, ◌≤◌, inl, inr, Bool, true, false, cond, List, [], ◌∷◌, length, get_or, sum_by, refl, ap, ◌∙◌, arith}
+-- Sums over the numbers of the workers, and over what is theirs of a trace: each request is one worker's.
+use Rattle.std.proofs.Common.{◌≡◌, ◌≢◌, ℕ, zero, suc, ◌+◌, ◌*◌, ◌<◌, ◌≤◌, inl, inr, Bool, true, false, nat_eq, cond, List, [], ◌∷◌, length, get_or, sum_by, refl, sym, ap, ◌∙◌, arith}
 use Rattle.std.proofs.Math.Nat.{mul-add}
-use Rattle.std.proofs.lemmas.Bool.{cases_eq}
+use Rattle.std.proofs.lemmas.Bool.{cases_eq, cases_lt, eq-eqb, ne_eqb}
 use Rattle.std.proofs.lemmas.List.Sums.{sum_by-cons}
 use Rattle.heap_model.specs.Counting.{total}
 use Rattle.heap_model.specs.Image.{words_from}
+use Rattle.dict_model.specs.Requests.{Request}
+use Rattle.run_model.specs.Workers.{shard_asked, worker_of, is_of_worker, worker_requests, worker_numbers}
 
 -- a sum over so many numbers, from one on
 abbrev pub sum_over : (ℕ → ℕ) → ℕ → ℕ → ℕ
@@ -96,3 +98,41 @@ total_over of (x ∷ xs) f from same =
     let here = same 0 x (omega arith) ∙ ap f (let e : from + 0 ≡ from = omega arith in e) in
     let rest = total_over of xs f (from + 1) (λ i y below. same (suc i) y (omega arith) ∙ ap f (let e : from + suc i ≡ from + 1 + i = omega arith in e)) in
     omega arith
+
+-- one worker's part and those of the others, each within what it has
+pub beside_fits : (workers worker : ℕ) (all span : ℕ → ℕ) (x : ℕ) → worker < workers → x ≤ all worker → ((other : ℕ) → span other ≤ all other)
+    → x + sum_by (λ other. cond (nat_eq other worker) 0 (span other)) (worker_numbers workers) ≤ sum_by all (worker_numbers workers)
+beside_fits workers worker all span x small mine fits =
+    let parts = sum_beside all (λ other. nat_eq other worker) worker 0 workers (omega arith) (omega arith) (eq-eqb worker worker refl) (λ i other. ne_eqb i worker other) in
+    let others = sum_within (λ other. cond (nat_eq other worker) 0 (span other)) (λ other. cond (nat_eq other worker) 0 (all other)) 0 workers (λ i low high. at (nat_eq i worker) (fits i)) in
+    omega arith where
+      at : (b : Bool) {m n : ℕ} → m ≤ n → cond b 0 m ≤ cond b 0 n
+      at true few = let none : 0 ≤ 0 = omega arith in none
+      at false few = few
+
+-- what one worker has alone counts once at most
+one_most : (owner workers x : ℕ) → sum_over (λ worker. cond (nat_eq owner worker) x 0) 0 workers ≤ x
+one_most owner workers x = elim (cases_lt owner workers) as (λ _. sum_over (λ worker. cond (nat_eq owner worker) x 0) 0 workers ≤ x) [
+  | inl below ↦
+      let one = sum_one (λ worker. cond (nat_eq owner worker) x 0) owner 0 workers (omega arith) (omega arith) (λ i other. ap (λ b. cond b x 0) (ne_eqb owner i (λ e. other (sym e)))) in
+      let here : cond {A = ℕ} (nat_eq owner owner) x 0 ≡ x = ap (λ b. cond {A = ℕ} b x 0) (eq-eqb owner owner refl) in
+      omega arith
+  | inr above ↦
+      let none = sum_none (λ worker. cond (nat_eq owner worker) x 0) 0 workers (λ i low high. ap (λ b. cond b x 0) (ne_eqb owner i (λ e. omega arith))) in
+      omega arith
+]
+
+-- what is counted over all workers' requests is counted once over the trace
+pub workers_sum : (workers : ℕ) (f : Request → ℕ) (requests : List Request) → sum_by (λ worker. sum_by f (worker_requests workers worker requests)) (worker_numbers workers) ≤ sum_by f requests
+workers_sum workers f [] = let none = sum_none (λ worker. 0) 0 workers (λ i low high. refl) in omega arith
+workers_sum workers f (q ∷ qs) =
+    let rest = workers_sum workers f qs in
+    let more = sum_by-cons f q qs in
+    let parts = sum_both (λ worker. cond (is_of_worker workers worker q) (f q) 0) (λ worker. sum_by f (worker_requests workers worker qs)) 0 workers in
+    let one = one_most (worker_of workers (shard_asked q)) workers (f q) in
+    let within = sum_within (λ worker. sum_by f (worker_requests workers worker (q ∷ qs)))
+    (λ worker. cond (is_of_worker workers worker q) (f q) 0 + sum_by f (worker_requests workers worker qs)) 0 workers (λ i low high. at (worker_requests workers i qs) (is_of_worker workers i q)) in
+    omega arith where
+      at : (own : List Request) (b : Bool) → sum_by f (cond b (q ∷ own) own) ≤ cond b (f q) 0 + sum_by f own
+      at own true = let first = sum_by-cons f q own in let all : sum_by f (q ∷ own) ≤ f q + sum_by f own = omega arith in all
+      at own false = let all : sum_by f own ≤ 0 + sum_by f own = omega arith in all

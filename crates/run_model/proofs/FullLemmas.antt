@@ -1,4 +1,4 @@
--- What the definitions of a run say of its replies: how many there are, and when none of them is for want of room.
+-- How many replies a run has, and when none of them is for want of room.
 use Rattle.std.proofs.Common.{◌≡◌, ℕ, ◌+◌, ◌<◌, ◌≤◌, inl, inr, List, [], ◌∷◌, ◌++◌, length, map, replicate, sum_by, Option, None, Some, Bool, true, false, cond, Contains, refl, subst, sym, ap, ◌∙◌, arith}
 use Rattle.std.proofs.Math.Nat.{mod-lt}
 use Rattle.std.proofs.lemmas.Bool.{eq-eqb}
@@ -12,7 +12,7 @@ use Rattle.dict_model.specs.Requests.{Request, put, Reply, done, full, none, fou
 use Rattle.run_model.specs.Needs.{node_span, superblocks_needed}
 use Rattle.run_model.specs.Runs.{answered, unanswered, AnswersInOrder, IsFullRightly, span_taken, first_span, worker_span, worker_answered}
 use Rattle.run_model.specs.Workers.{Replies, shard_asked, worker_of, is_of_worker, worker_requests, worker_replies}
-use Rattle.worker_run.proofs.SumLemmas.{beside_fits, workers_sum}
+use Rattle.run_model.proofs.SumLemmas.{beside_fits, workers_sum}
 
 -- each request has one reply, or stands as unanswered
 pub one_each : (requests : List Request) (replies : Replies) → AnswersInOrder requests replies → length replies ≡ length requests
