@@ -112,7 +112,7 @@ answered_of workers worker (q ∷ qs) (Some r ∷ rs) x mine h = by_case (answer
   ]
 
 -- what is in a list stands between two parts of it
-between : {X : Type 0} (xs : List X) (x : X) → Contains xs x → (before : List X) × (later : List X) × (xs ≡ before ++ (x ∷ later))
+pub between : {X : Type 0} (xs : List X) (x : X) → Contains xs x → (before : List X) × (later : List X) × (xs ≡ before ++ (x ∷ later))
 between [] x h = absurd (in_none x h)
 between (y ∷ ys) x h = elim (head_or_rest y x ys h) as (λ _. (before : List _) × (later : List _) × (y ∷ ys ≡ before ++ (x ∷ later))) [
   | inl same ↦ ([], ys, ap (λ z. z ∷ ys) same)

@@ -1,8 +1,9 @@
--- Worked examples by computation: what is a worker's of a trace and of its replies, what traces need, bounds of steps, runs that answer a first part, and what workers took.
+-- Worked examples by computation: what is a worker's of a trace and of its replies, what traces need, bounds of steps, runs that answer a first part, what workers took, and what one map answers.
 use Rattle.std.specs.Prelude.{◌≡◌, List, [], ◌∷◌, map, sum_by, None, Some, refl}
 use Rattle.heap_model.specs.Sizes.{span_of}
 use Rattle.dict_model.specs.Nodes.{node_bytes}
-use Rattle.dict_model.specs.Requests.{Request, put, get, del, done, full, none, found}
+use Rattle.dict_model.specs.Requests.{Request, put, get, del, done, full, none, found, after, AreReplies, put_done, get_none, del_none}
+use Rattle.dict_model.specs.Shards.{no_keys}
 use Rattle.run_model.specs.Needs.{superblocks_needed, shards_put_into, step_bound}
 use Rattle.run_model.specs.Runs.{answered, unanswered, of_shard, AnswersInOrder, span_taken, first_span, worker_answered, worker_unanswered, worker_span, spans_beside}
 use Rattle.run_model.specs.Workers.{Replies, root_owner, worker_requests, worker_replies, worker_numbers}
@@ -117,3 +118,14 @@ taken_by_each = refl
 -- beside one alone none is taken, beside one of two what the other took, and beside one of eight that has no request all
 taken_beside : spans_beside 1 0 mixed one_missing ∷ spans_beside 2 0 mixed one_missing ∷ spans_beside 8 3 mixed one_missing ∷ spans_beside 8 5 mixed one_missing ∷ [] ≡ 0 ∷ 1 ∷ 2 ∷ 1 ∷ []
 taken_beside = refl
+
+-- the mixed trace, of two shards, as one map without keys answers it
+abbrev pub all_told : Replies
+all_told = Some done ∷ Some none ∷ Some done ∷ Some none ∷ []
+
+one_map : AreReplies no_keys (answered mixed all_told)
+one_map = (put_done 5 (97 ∷ 98 ∷ []), (get_none 6 refl, (put_done 14 [], (del_none 13 refl, tt))))
+
+-- and that map after it, which has keys of both shards
+both_shards : map (after no_keys (answered mixed all_told)) (5 ∷ 14 ∷ 13 ∷ []) ≡ Some (97 ∷ 98 ∷ []) ∷ Some [] ∷ None ∷ []
+both_shards = refl

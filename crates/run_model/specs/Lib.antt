@@ -1,5 +1,6 @@
 pub mod Examples
 pub mod Needs
+pub mod OneMap
 pub mod Opened
 pub mod Progress
 pub mod Runs

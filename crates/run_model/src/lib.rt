@@ -4,4 +4,7 @@
 
 mod laws;
 
-pub use laws::replies_fit_the_trace;
+pub use laws::{
+    a_dictionary_is_one_map, a_run_without_a_refusal_is_that_of_one_thread,
+    enough_room_refuses_nothing, replies_fit_the_trace, runs_as_one_thread_are_alike,
+};

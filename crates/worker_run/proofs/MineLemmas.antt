@@ -13,7 +13,7 @@ use Rattle.run_model.specs.Opened.{HasMaps}
 use Rattle.run_model.specs.Workers.{Replies, shard_asked, worker_of, is_of_worker, worker_requests}
 use Rattle.run_model.specs.Working.{HasWorked, HasRoom, HaveRoom}
 use Rattle.worker_run.specs.Said.{Line, request_of, requests_of}
-use Rattle.worker_run.proofs.ProgressLemmas.{small_shard}
+use Rattle.run_model.proofs.OneMapLemmas.{small_shard}
 use Rattle.worker_run.proofs.WorkLemmas.{next_among, next_shard}
 
 -- what a filter lets through is in the list, and passes

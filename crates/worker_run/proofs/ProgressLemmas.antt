@@ -17,7 +17,8 @@ use Rattle.run_model.specs.Opened.{IsOpenedOver, HasAllRoots}
 use Rattle.run_model.specs.Progress.{Answers, MayAnswer, HasAnswered}
 use Rattle.run_model.specs.Runs.{of_shard, IsMapLeft, LeavesOthers}
 use Rattle.run_model.specs.Stands.{StandsOver}
-use Rattle.run_model.specs.Workers.{key_of, shard_asked}
+use Rattle.run_model.specs.Workers.{shard_asked}
+use Rattle.run_model.proofs.OneMapLemmas.{small_shard}
 use Rattle.worker_run.proofs.LeftLemmas.{nothing_outside, map_left}
 use Rattle.worker_run.proofs.OpenLemmas.{only_opened, gives_opened, others_opened}
 use Rattle.dict_seat.proofs.OthersLemmas.{gives_others}
@@ -40,9 +41,6 @@ push_same shard xs x same = filter-append (λ r. is_to shard r.0) xs (x ∷ []) 
 push_other : (shard : ℕ) (xs : List (Request × Reply)) (x : Request × Reply) → shard_asked x.0 ≢ shard → of_shard shard (xs ++ (x ∷ [])) ≡ of_shard shard xs
 push_other shard [] x other = cond-false (is_to shard x.0) (x ∷ []) [] (ne_eqb (shard_asked x.0) shard other)
 push_other shard (y ∷ ys) x other = ap (λ zs. cond (is_to shard y.0) (y ∷ zs) zs) (push_other shard ys x other)
-
-pub small_shard : (request : Request) → shard_asked request < shards
-small_shard request = mod-lt (key_of request) (omega arith)
 
 -- what belongs to no shard stands over a request, wherever it ends
 pub stands_on : (image : Image) (v w : View) (request : Request) → StandsOver image v → MayAnswer request v w → StandsOver image w

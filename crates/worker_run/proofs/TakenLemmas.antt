@@ -20,7 +20,7 @@ use Rattle.run_model.specs.Runs.{span_taken}
 use Rattle.run_model.specs.Spending.{IsPut, TakesFew, for_node as answered_node, with_table as answered_table, HasTakenFew}
 use Rattle.worker_run.specs.Taking.{MayTake, for_node, with_table}
 use Rattle.run_model.specs.Workers.{shard_asked}
-use Rattle.worker_run.proofs.ProgressLemmas.{small_shard}
+use Rattle.run_model.proofs.OneMapLemmas.{small_shard}
 use Rattle.heap_model.proofs.ListLemmas.{in_numbers}
 
 -- where what passed still passes, no fewer do, and one more where one passes that did not

@@ -20,7 +20,8 @@ use Rattle.run_model.specs.Workers.{Replies, shard_asked}
 use Rattle.run_model.specs.Working.{HasWorked, HasRoom, Fits, Replied}
 use Rattle.worker_run.specs.Said.{Told, reply_of, replies_of}
 use Rattle.dict_seat.specs.Removal.{IsShard}
-use Rattle.worker_run.proofs.ProgressLemmas.{goes_on, small_shard}
+use Rattle.run_model.proofs.OneMapLemmas.{small_shard}
+use Rattle.worker_run.proofs.ProgressLemmas.{goes_on}
 
 -- a key has its value from before, or the request put it
 one_where : (m : Map) (q : Request) (r : Reply) (key : ℕ) (value : List ℕ) → after_one m q r key ≡ Some value → (m key ≡ Some value) ⊎ (q ≡ put key value)
