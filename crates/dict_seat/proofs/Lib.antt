@@ -26,6 +26,7 @@ pub mod SeatsLemmas
 pub mod ShardReachLemmas
 pub mod TableLemmas
 pub mod TrailLemmas
+pub mod TurnedDownLemmas
 pub mod UnreachedLemmas
 pub mod ValueLemmas
 pub mod WalkLemmas

@@ -1,4 +1,4 @@
--- What a put answers where it found no room, and what it asks of a key that is missing.
+-- What a put answers where it found no room, what the heap said of it, and what it asks of a key that is missing.
 use Rattle.std.specs.Prelude.{◌≡◌, ◌≢◌, ℕ, ◌+◌, ◌≤◌, [], None, Some}
 use Rattle.heap_model.specs.declared.block.Block.{Block}
 use Rattle.heap_seat.specs.declared.fault.AllocFault.{AllocFault}
@@ -29,6 +29,14 @@ pub record IsRefused (bytes most : ℕ) (looks : Looks) (v w : View) : Type 0 wh
   pub bytes_are : w.refused_bytes ≡ bytes
   pub looks_are : w.refused_looks ≡ looks
   pub taken : w.taken ≤ v.taken + most
+
+-- within a call from s to t the heap turned a request of so many bytes down: what has_none says of a heap's seat was so before and after it, and else all was kept
+pub record WasTurnedDown {S : Type 0} (keeps : S → S → Type 0) (has_none : S → S → ℕ → Looks → Type 0) (bytes : ℕ) (looks : Looks) (s t : S) : Type 0 where
+  pub before : S
+  pub after : S
+  pub kept_before : keeps s before
+  pub none : has_none before after bytes looks
+  pub kept_after : keeps after t
 
 -- why a put was not done: this request was refused, and no word was stored to; or the seat stopped
 abbrev pub PutFails : ℕ → AllocFault → View → View → Type 0

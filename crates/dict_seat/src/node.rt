@@ -14,6 +14,7 @@ ghost use Rattle.heap_model.specs.Sizes.{span_of};
 ghost use Rattle.dict_model.specs.Nodes.{largest_value, value_words, node_bytes};
 ghost use Rattle.dict_seat.specs.Quiet.{Grown};
 ghost use Rattle.dict_seat.specs.Trails.{IsSettling};
+ghost use Rattle.dict_seat.specs.Puts.{WasTurnedDown};
 ghost use Rattle.dict_seat.specs.Nodes.{StoresWithin, KeepsPendingBut, Writes, WritesValue, WritesNode, MakesNode};
 
 use crate::value::value_word;
@@ -105,6 +106,9 @@ pub(crate) fn make_node<H: HeapSeat>(
         (H.view seat.old) (H.view seat.new)) }
     ensures full { IfErr result (λ fault. (looks : Looks) → fault ≡ Full looks
         → KeepsOwn (H.view seat.old) (H.view seat.new)) }
+    ensures none { IfErr result (λ fault. (looks : Looks) → fault ≡ Full looks
+        → WasTurnedDown H.keeps H.has_none (node_bytes (length value.now)) looks
+        seat.old seat.new) }
     ensures grown { Grown (H.view seat.old) (H.view seat.new) }
     ensures calls { IsRow (2 * value_words (length value.now) + 7) 1
         (span_of (node_bytes (length value.now))) (H.view seat.old) (H.view seat.new) }

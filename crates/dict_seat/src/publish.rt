@@ -2,6 +2,8 @@
 ghost use Rattle.std.specs.Prelude.{◌≡◌, ℕ, ◌+◌, ◌*◌, ◌≤◌, length, OnOk, IfErr};
 ghost use Rattle.heap_model.specs.declared.block.Block.{Block};
 ghost use Rattle.heap_model.specs.Sizes.{span_of};
+ghost use Rattle.heap_seat.specs.declared.fault.AllocFault.TheVariants.{Full};
+ghost use Rattle.heap_seat.specs.declared.fault.Looks.{Looks};
 ghost use Rattle.heap_seat.specs.View.{View};
 ghost use Rattle.heap_seat.specs.Tickets.{Runs};
 ghost use Rattle.heap_seat.specs.Rows.{IsRow};
@@ -12,7 +14,7 @@ ghost use Rattle.dict_seat.specs.Changes.{MayChange, Changes};
 ghost use Rattle.dict_seat.specs.Reached.{ReachesAllHeld};
 ghost use Rattle.dict_seat.specs.Removal.{IsShard};
 ghost use Rattle.dict_seat.specs.Walks.{IsFoundPlace};
-ghost use Rattle.dict_seat.specs.Puts.{IsMissing, PutFails};
+ghost use Rattle.dict_seat.specs.Puts.{IsMissing, PutFails, WasTurnedDown};
 
 use crate::node::make_node;
 use crate::removal::take;
@@ -39,6 +41,9 @@ pub(crate) fn put_first<H: HeapSeat>(
         → ReachesAllHeld (H.view seat.new)) }
     ensures cause { IfErr result (λ fault. PutFails (node_bytes (length value.now)) fault
         (H.view seat.old) (H.view seat.new)) }
+    ensures none { IfErr result (λ fault. (looks : Looks) → fault ≡ Full looks
+        → WasTurnedDown H.keeps H.has_none (node_bytes (length value.now)) looks
+        seat.old seat.new) }
     ensures crash { MayChange (shard_of key) (λ map. with_key map key value.now)
         (H.view seat.old) (H.view seat.new) }
     ensures calls { IsRow (2 * value_words (length value.now) + 12) 1
@@ -69,6 +74,9 @@ pub(crate) fn put_over<H: HeapSeat>(
         → ReachesAllHeld (H.view seat.new)) }
     ensures cause { IfErr result (λ fault. PutFails (node_bytes (length value.now)) fault
         (H.view seat.old) (H.view seat.new)) }
+    ensures none { IfErr result (λ fault. (looks : Looks) → fault ≡ Full looks
+        → WasTurnedDown H.keeps H.has_none (node_bytes (length value.now)) looks
+        seat.old seat.new) }
     ensures crash { MayChange (shard_of key) (λ map. with_key map key value.now)
         (H.view seat.old) (H.view seat.new) }
     ensures calls { IsRow (2 * value_words (length value.now) + 13) 2

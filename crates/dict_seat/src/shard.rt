@@ -14,7 +14,7 @@ ghost use Rattle.dict_model.specs.Shards.{Map};
 ghost use Rattle.dict_seat.specs.Changes.{MayChange, Changes};
 ghost use Rattle.dict_seat.specs.Reached.{ReachesAllHeld};
 ghost use Rattle.dict_seat.specs.Removal.{IsShard};
-ghost use Rattle.dict_seat.specs.Puts.{PutAnswers, PutTakes};
+ghost use Rattle.dict_seat.specs.Puts.{PutAnswers, PutTakes, WasTurnedDown};
 ghost use Rattle.dict_seat.specs.Answers.{Deletes, MakesFew};
 
 use crate::publish::{put_first, put_over};
@@ -125,6 +125,9 @@ impl Shard {
             → ReachesAllHeld (H.view seat.old) → ReachesAllHeld (H.view seat.new)) }
         ensures cause { IfErr result (λ fault. PutAnswers (node_bytes (length value.now))
             (shard_of key) fault (H.view seat.old) (H.view seat.new)) }
+        ensures none { IfErr result (λ fault. (looks : Looks) → fault ≡ Full looks
+            → WasTurnedDown H.keeps H.has_none (H.view seat.new).refused_bytes
+            (H.view seat.new).refused_looks seat.old seat.new) }
 
         // At every exit.
         ensures crash { MayChange (shard_of key) (λ map. with_key map key value.now)

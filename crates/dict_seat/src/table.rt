@@ -2,6 +2,8 @@
 ghost use Rattle.std.specs.Prelude.{◌≡◌, ℕ, ◌+◌, ◌*◌, ◌<◌, ◌≤◌, IfOk, OnOk, IfErr, Contains};
 ghost use Rattle.heap_model.specs.declared.block.Block.{Block};
 ghost use Rattle.heap_model.specs.Sizes.{span_of};
+ghost use Rattle.heap_seat.specs.declared.fault.AllocFault.TheVariants.{Full};
+ghost use Rattle.heap_seat.specs.declared.fault.Looks.{Looks};
 ghost use Rattle.heap_seat.specs.View.{View};
 ghost use Rattle.heap_seat.specs.Tickets.{Stops};
 ghost use Rattle.heap_seat.specs.Rows.{IsRow};
@@ -11,7 +13,7 @@ ghost use Rattle.dict_seat.specs.Changes.{MayChange};
 ghost use Rattle.dict_seat.specs.Reached.{ReachesAllHeld};
 ghost use Rattle.dict_seat.specs.Removal.{IsShard};
 ghost use Rattle.dict_seat.specs.Searches.{HasNoRoot};
-ghost use Rattle.dict_seat.specs.Puts.{PutFails};
+ghost use Rattle.dict_seat.specs.Puts.{PutFails, WasTurnedDown};
 ghost use Rattle.dict_seat.specs.Nodes.{StoresWithin};
 ghost use Rattle.dict_seat.specs.Tables.{IsClearing, MakesTable};
 
@@ -49,6 +51,8 @@ pub(crate) fn make_table<H: HeapSeat>(seat: &mut H, key: u64) -> Result<Block, A
         → ReachesAllHeld (H.view seat.new)) }
     ensures cause { IfErr result (λ fault. PutFails table_bytes fault
         (H.view seat.old) (H.view seat.new)) }
+    ensures none { IfErr result (λ fault. (looks : Looks) → fault ≡ Full looks
+        → WasTurnedDown H.keeps H.has_none table_bytes looks seat.old seat.new) }
     ensures crash { (after : Map → Map) → MayChange (shard_of key) after
         (H.view seat.old) (H.view seat.new) }
     ensures calls { IsRow 260 1 (span_of table_bytes) (H.view seat.old) (H.view seat.new) }

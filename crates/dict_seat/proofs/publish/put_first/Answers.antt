@@ -12,6 +12,7 @@ use Rattle.dict_seat.proofs.GrownLemmas.{grown_keeps, grown_then}
 use Rattle.dict_seat.proofs.ChangeLemmas.{change_none}
 use Rattle.dict_seat.proofs.FirstLemmas.{put_fails, first_left, first_done, all_first}
 use Rattle.dict_seat.proofs.TrailLemmas.{bucket_below}
+use Rattle.dict_seat.proofs.TurnedDownLemmas.{turned_down_behind}
 use Rattle.dict_seat.proofs.publish.put_first.Goals as goal
 
 pub returns-in_err-first-clause-crash : goal.returns-in_err-first-clause-crash
@@ -141,3 +142,11 @@ returns-clause-exact g c =
     all_first v t u w (g.met.H.HeapSeat.seat c.follow.new.seat) (g.met.H.HeapSeat.seat c.make_node.new.seat) c.args.key c.in_ok-first.first c.encode.result c.args.value.now c.args.table c.in_ok-node.node
     c.requires.shard c.requires.missing (g.met.H.HeapSeat.seat c.args.seat.now) c.follow.ensures.quiet.unchanged follows c.make_node.ensures.grown c.in_ok-node.ensures.ok c.requires.short (λ k less. omega (arith, c.type_inv.value k))
     c.encode.ensures.tagged may c.follow.ensures.quiet.calls.goes_on.kinds c.make_node.ensures.calls.goes_on.kinds c.persist.ensures.calls.goes_on.kinds (g.met.H.HeapSeat.seat c.persist.new.heap) settled
+
+pub returns-in_err-node-clause-none : goal.returns-in_err-node-clause-none
+returns-in_err-node-clause-none g c =
+    let heap = g.H.HeapSeat in
+    let p = err_from_is_err_and c.from_residual-in_err-node.result c.from_residual-in_err-node.ensures.1 in
+    rw (p.1, p.2)
+    (λ looks is. turned_down_behind heap.keeps heap.has_none g.met.H.HeapSeat.keeps_row (node_bytes (length c.args.value.now)) looks c.args.seat.now c.follow.new.seat c.make_node.new.seat
+    c.follow.ensures.kept (c.in_err-node.ensures.none looks is))

@@ -11,6 +11,7 @@ use Rattle.dict_seat.proofs.TrailLemmas.{settles}
 use Rattle.dict_seat.proofs.ChangeLemmas.{change_none}
 use Rattle.dict_seat.proofs.FirstLemmas.{put_fails}
 use Rattle.dict_seat.proofs.OverLemmas.{taken_made, over_left, old_still, over_freed, all_over}
+use Rattle.dict_seat.proofs.TurnedDownLemmas.{turned_down_behind}
 use Rattle.dict_seat.proofs.publish.put_over.Goals as goal
 
 pub returns-in_err-next-clause-crash : goal.returns-in_err-next-clause-crash
@@ -215,3 +216,11 @@ returns-clause-exact g c =
     c.take.ensures.quiet.unchanged made.0 made.1 made.2 made.3 c.make_node.ensures.grown makes c.requires.short (λ k less. omega (arith, c.type_inv.value k)) c.encode.ensures.tagged c.persist.ensures.crash
     c.take.ensures.quiet.calls.goes_on.kinds c.make_node.ensures.calls.goes_on.kinds c.persist.ensures.calls.goes_on.kinds
     (g.met.H.HeapSeat.seat c.persist.new.heap) settled y c.free.ensures.others c.free.ensures.counted.goes_on.kinds c.in_ok-free.ensures.ok.gone
+
+pub returns-in_err-node-clause-none : goal.returns-in_err-node-clause-none
+returns-in_err-node-clause-none g c =
+    let heap = g.H.HeapSeat in
+    let p = err_from_is_err_and c.from_residual-in_err-node.result c.from_residual-in_err-node.ensures.1 in
+    rw (p.1, p.2)
+    (λ looks is. turned_down_behind heap.keeps heap.has_none g.met.H.HeapSeat.keeps_row (node_bytes (length c.args.value.now)) looks c.args.seat.now c.take.new.seat c.make_node.new.seat
+    c.take.ensures.kept (c.in_err-node.ensures.none looks is))

@@ -1,10 +1,11 @@
 use Rattle.std.proofs.Common.{◌≡◌, ℕ, ◌+◌, ◌<◌, List, Contains, inl, inr, refl, Some, subst, sym, ◌∙◌, arith}
+use Rattle.std.proofs.lemmas.Result.{err_from_is_err_and}
 use Rattle.heap_model.specs.declared.block.Block.{Block}
 use Rattle.heap_model.specs.Geometry.{root_word}
 use Rattle.heap_seat.specs.Words.{IsOwn, in_block, in_root, MayHaveStored}
 use Rattle.heap_seat.specs.Tickets.{Runs}
 use Rattle.heap_seat.proofs.RowLemmas.{row_then, row_small, runs_then, same_refusals_then}
-use Rattle.dict_model.specs.Nodes.{shard_of}
+use Rattle.dict_model.specs.Nodes.{shard_of, table_bytes}
 use Rattle.dict_seat.specs.Trails.{IsDurableAt}
 use Rattle.dict_seat.proofs.GrownLemmas.{grown_keeps, grown_then}
 use Rattle.dict_seat.proofs.TrailLemmas.{settles}
@@ -12,6 +13,7 @@ use Rattle.dict_seat.proofs.ChangeLemmas.{change_none}
 use Rattle.dict_seat.proofs.MakeLemmas.{grown_within, refusals_within, made_row}
 use Rattle.dict_seat.proofs.DeleteLemmas.{shard_below}
 use Rattle.dict_seat.proofs.TableLemmas.{table_size, table_left, table_gives, table_reached, table_all, table_missing}
+use Rattle.dict_seat.proofs.TurnedDownLemmas.{turned_down}
 use Rattle.dict_seat.proofs.table.make_table.Goals as goal
 
 pub returns-in_err-table-clause-crash : goal.returns-in_err-table-clause-crash
@@ -205,3 +207,10 @@ returns-clause-exact g c =
     table_all v s w (g.met.H.HeapSeat.seat c.fence.new.self) (g.met.H.HeapSeat.seat c.persist.new.heap) grown_s c.requires.shard.only shard c.encode.result table (shard_below c.args.key) c.requires.shard.owned
     held_s c.in_ok-table.ensures.ok.blocks.new size nulls c.encode.ensures.tagged may c.requires.none.empty (c.fence.ensures.counted.goes_on.kinds ∙ c.clear.ensures.within.calls.goes_on.kinds ∙ c.alloc.ensures.counted.goes_on.kinds) c.persist.ensures.calls.goes_on.kinds null seen
     (λ a h. c.in_ok-table.ensures.ok.blocks.only a (subst (λ (bs : List Block). Contains bs a) c.clear.ensures.within.held (subst (λ (bs : List Block). Contains bs a) c.fence.ensures.unchanged.held h)))
+
+pub returns-in_err-table-clause-none : goal.returns-in_err-table-clause-none
+returns-in_err-table-clause-none g c =
+    let heap = g.H.HeapSeat in
+    let p = err_from_is_err_and c.from_residual.result c.from_residual.ensures.1 in
+    rw (p.1, p.2)
+    (λ looks is. turned_down heap.keeps heap.has_none g.met.H.HeapSeat.keeps_none table_bytes looks c.args.seat.now c.alloc.new.self (c.in_err-table.ensures.none looks is))

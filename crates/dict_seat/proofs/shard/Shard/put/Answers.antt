@@ -17,6 +17,7 @@ use Rattle.dict_seat.proofs.TrailLemmas.{same_map}
 use Rattle.dict_seat.proofs.ChangeLemmas.{change_none, change_after, changes_after}
 use Rattle.dict_seat.proofs.DelLemmas.{shard_still, few_calls}
 use Rattle.dict_seat.proofs.RequestLemmas.{full_keeps, was_null, still_owned, answers_node, answers_table, answers_behind, change_behind, changes_behind, shard_behind}
+use Rattle.dict_seat.proofs.TurnedDownLemmas.{last_turned_down, ends_turned_down}
 use Rattle.dict_seat.proofs.shard.Shard.put.Goals as goal
 
 pub returns-in_err-place-clause-crash : goal.returns-in_err-place-clause-crash
@@ -410,3 +411,39 @@ returns-in_err-table-in-NoTable-clause-taken g c =
 
 pub returns-in_err-place-clause-taken : goal.returns-in_err-place-clause-taken
 returns-in_err-place-clause-taken g c = for_node (let a = c.search.ensures.quiet.quiet.calls.few in omega arith)
+
+pub returns-in_err-table-in-NoTable-clause-none : goal.returns-in_err-table-in-NoTable-clause-none
+returns-in_err-table-in-NoTable-clause-none g c =
+    let heap = g.H.HeapSeat in
+    let u = c.search.new.seat in
+    let y = c.make_table.new.seat in
+    let p = err_from_is_err_and c.from_residual-in_err-table-in-NoTable.result c.from_residual-in_err-table-in-NoTable.ensures.1 in
+    rw (p.1, p.2)
+    (last_turned_down heap.keeps heap.has_none g.met.H.HeapSeat.keeps_row table_bytes c.in_err-table-in-NoTable.field-0.0 (heap.view u) (heap.view y) c.args.seat.now u y
+    c.search.ensures.kept c.in_err-table-in-NoTable.ensures.cause c.in_err-table-in-NoTable.ensures.none)
+
+pub returns-in_ok-table-in-NoTable-clause-none : goal.returns-in_ok-table-in-NoTable-clause-none
+returns-in_ok-table-in-NoTable-clause-none g c =
+    let heap = g.H.HeapSeat in
+    let u = c.search.new.seat in
+    let y = c.make_table.new.seat in
+    let w = c.put_first-in-NoTable.new.seat in
+    let kept = g.met.H.HeapSeat.keeps_row c.args.seat.now u y c.search.ensures.kept c.make_table.ensures.kept in
+    ends_turned_down heap.keeps heap.has_none g.met.H.HeapSeat.keeps_row c.put_first-in-NoTable.result (node_bytes (length c.args.value.now)) (heap.view y) (heap.view w) c.args.seat.now y w
+    kept c.put_first-in-NoTable.ensures.cause c.put_first-in-NoTable.ensures.none
+
+pub returns-in-Found-clause-none : goal.returns-in-Found-clause-none
+returns-in-Found-clause-none g c =
+    let heap = g.H.HeapSeat in
+    let u = c.search.new.seat in
+    let w = c.put_over.new.seat in
+    ends_turned_down heap.keeps heap.has_none g.met.H.HeapSeat.keeps_row c.put_over.result (node_bytes (length c.args.value.now)) (heap.view u) (heap.view w) c.args.seat.now u w
+    c.search.ensures.kept c.put_over.ensures.cause c.put_over.ensures.none
+
+pub returns-in-Missing-clause-none : goal.returns-in-Missing-clause-none
+returns-in-Missing-clause-none g c =
+    let heap = g.H.HeapSeat in
+    let u = c.search.new.seat in
+    let w = c.put_first.new.seat in
+    ends_turned_down heap.keeps heap.has_none g.met.H.HeapSeat.keeps_row c.put_first.result (node_bytes (length c.args.value.now)) (heap.view u) (heap.view w) c.args.seat.now u w
+    c.search.ensures.kept c.put_first.ensures.cause c.put_first.ensures.none
