@@ -5,7 +5,7 @@ use Rattle.heap_model.specs.Geometry.{root_word}
 use Rattle.heap_model.specs.Image.{Image}
 use Rattle.heap_model.specs.Header.{kinds_of}
 use Rattle.heap_model.specs.Pointers.{Leads}
-use Rattle.heap_model.specs.Reach.{words_in, ReachFrom, ReachIn, by_start, by_link}
+use Rattle.heap_model.specs.Reach.{words_in, ReachFrom, by_start, by_link}
 use Rattle.heap_model.proofs.ImageLemmas.{length-words_from}
 use Rattle.heap_model.proofs.MemberLemmas.{in_none, in_head, in_rest, head_or_rest}
 use Rattle.heap_model.proofs.ReachLemmas.{not_null, one_block, closure_least}
@@ -21,14 +21,18 @@ pub block_lists : (image : Image) (a : Block) (from position kind : ℕ) → IsL
 block_lists image a from position kind is = link_listed from a.words position kind is (words_in image a) (length-words_from image a.first_word a.words)
 
 module _ (image : Image) (shard : ℕ) (small : shard < shards) (is_table : kinds_of image shard ≡ table_kind) where
+  -- the shard's root reaches the block
+  abbrev FromRoot : Block → ℕ → Type 0
+  FromRoot b kind = ReachFrom image (λ root. root ≡ shard) (kinds_of image) dict_links b kind
+
   -- the nodes of a path are reached where what the first link leads to is
   path_reach : (table : Block) (k at : ℕ) (bs : List Block) → ((b : Block) → Contains bs b → 0 < b.words) → IsPath (but table (LeadsAlone image shard)) image shard k at bs
-      → ((c : Block) → Leads image (image at) c → ReachIn image dict_links c node_kind) → (b : Block) → Contains bs b → ReachIn image dict_links b node_kind
+      → ((c : Block) → Leads image (image at) c → FromRoot c node_kind) → (b : Block) → Contains bs b → FromRoot b node_kind
   path_reach table k at [] some path start b h = absurd (in_none b h)
   path_reach table k at (c ∷ cs) some path start b h =
       let first = start c path.0.0.0 in
-      elim (head_or_rest c b cs h) as (λ _. ReachIn image dict_links b node_kind) [
-        | inl same ↦ subst (λ (x : Block). ReachIn image dict_links x node_kind) same first
+      elim (head_or_rest c b cs h) as (λ _. FromRoot b node_kind) [
+        | inl same ↦ subst (λ (x : Block). FromRoot x node_kind) same first
         | inr rest ↦ path_reach table k c.first_word cs (λ d hd. some d (in_rest c d cs hd)) path.3 (λ d leads.
             let at_zero : c.first_word ≡ c.first_word + 0 = omega arith in
             by_link c d node_kind node_kind first (record {
@@ -38,8 +42,8 @@ module _ (image : Image) (shard : ℕ) (small : shard < shards) (is_table : kind
             })) b rest
       ]
 
-  root_reached : (table : Block) → HasTable (LeadsAlone image shard) image shard table → ReachIn image dict_links table (kinds_of image shard)
-  root_reached table there = by_start table (kinds_of image shard) (record { root = shard; below = omega arith; is_chosen = tt; kind_is = refl; leads = there.leads_there.0 })
+  root_reached : (table : Block) → HasTable (LeadsAlone image shard) image shard table → FromRoot table (kinds_of image shard)
+  root_reached table there = by_start table (kinds_of image shard) (record { root = shard; below = omega arith; is_chosen = refl; kind_is = refl; leads = there.leads_there.0 })
 
   node_some : (table : Block) (k at : ℕ) (bs : List Block) → IsPath (but table (LeadsAlone image shard)) image shard k at bs → (b : Block) → Contains bs b → 0 < b.words
   node_some table k at bs path b h =
@@ -47,7 +51,7 @@ module _ (image : Image) (shard : ℕ) (small : shard < shards) (is_table : kind
       let fits = found.1.fits in omega arith
 
   -- what the map stands on is reached
-  pub used_in_image : (b : Block) → IsUsed (LeadsAlone image shard) image shard b → (kind : ℕ) × ReachIn image dict_links b kind
+  pub used_in_image : (b : Block) → IsUsed (LeadsAlone image shard) image shard b → (kind : ℕ) × ReachFrom image (λ root. root ≡ shard) (kinds_of image) dict_links b kind
   used_in_image b (as_table there) = (kinds_of image shard, root_reached b there)
   used_in_image b (as_node table nodes k there chains below h) = (
     node_kind,

@@ -9,7 +9,6 @@ pub mod RecoveredLemmas
 pub mod RoomLemmas
 pub mod SaidLemmas
 pub mod ScrambleLemmas
-pub mod ShardReachLemmas
 pub mod SpendLemmas
 pub mod StandsLemmas
 pub mod TakenLemmas

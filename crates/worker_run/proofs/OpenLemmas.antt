@@ -22,7 +22,7 @@ use Rattle.dict_seat.proofs.GrownLemmas.{are_placed, reached_held, link_own}
 use Rattle.dict_seat.proofs.TrailLemmas.{settled_in}
 use Rattle.run_model.specs.Opened.{IsOpenedOver, IsReachedFrom}
 use Rattle.run_model.specs.Stands.{IsOwnOther, HasOthers}
-use Rattle.worker_run.proofs.ShardReachLemmas.{block_lists, used_in_image, reached_alone}
+use Rattle.dict_seat.proofs.ShardReachLemmas.{block_lists, used_in_image, reached_alone}
 
 -- a word is a pointer to one of the blocks, or to none
 led_or_not : (word : ℕ) (bs : List Block) → ((b : Block) × Contains bs b × IsPointerTo word (8 * b.first_word)) ⊎ ((b : Block) → Contains bs b → IsPointerTo word (8 * b.first_word) → ⊥)
