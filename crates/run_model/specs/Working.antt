@@ -1,14 +1,16 @@
--- How far a run has come in its trace, where it was stopped, and the room that there is for the values that it reads.
-use Rattle.std.specs.Prelude.{◌≡◌, ℕ, ◌+◌, ◌*◌, ◌<◌, ◌≤◌, Bool, true, List, [], ◌∷◌, ◌++◌, length, map, Option, Some, Contains}
+-- How far a run has come in its trace, where it was stopped, the room that there is for the values that it reads, and what each request did.
+use Rattle.std.specs.Prelude.{◌≡◌, ℕ, ◌+◌, ◌*◌, ◌<◌, ◌≤◌, ◌⊎◌, Bool, true, List, [], ◌∷◌, ◌++◌, length, map, Option, Some, Contains}
 use Rattle.heap_model.specs.Image.{Image}
+use Rattle.heap_seat.specs.declared.fault.Looks.{Looks}
 use Rattle.heap_seat.specs.View.{View}
 use Rattle.heap_seat.specs.Rows.{IsRow}
 use Rattle.heap_seat.specs.Sound.{IsSeat}
 use Rattle.dict_model.specs.Links.{shards}
-use Rattle.dict_model.specs.Nodes.{largest_value, shard_of}
+use Rattle.dict_model.specs.Nodes.{largest_value, shard_of, node_bytes, table_bytes}
 use Rattle.dict_model.specs.Requests.{Request, put, get, del, Reply, full}
 use Rattle.dict_model.specs.Shards.{Map, MapOf}
 use Rattle.dict_seat.specs.Maps.{GivesMap}
+use Rattle.dict_seat.specs.Puts.{WasTurnedDown}
 use Rattle.dict_seat.specs.Walks.{ListsKeys}
 use Rattle.run_model.specs.Workers.{Replies, shard_asked}
 use Rattle.run_model.specs.Progress.{Answers, MayAnswer, HasAnswered}
@@ -73,14 +75,27 @@ pub record MakesCalls (request : Request) (v w : View) : Type 0 where
   pub most : ℕ
   pub row : (keys : List ℕ) → ListsKeys v (shard_asked request) keys → IsRow (33280 + 4 * length keys) 3 most v w
 
+-- a request may ask the heap for so many bytes: those of its put's node, or of a table
+abbrev pub AsksFor : Request → ℕ → Type 0
+AsksFor (put key value) bytes = (bytes ≡ node_bytes (length value)) ⊎ (bytes ≡ table_bytes)
+AsksFor (get key) bytes = ⊥
+AsksFor (del key) bytes = ⊥
+
+-- the heap turned down one request for a block that this request made to it, and no other
+pub record WasRefused {S : Type 0} (view : S → View) (keeps : S → S → Type 0) (has_none : S → S → ℕ → Looks → Type 0) (request : Request) (s t : S) : Type 0 where
+  pub once : (view t).refusals ≡ (view s).refusals + 1
+  pub asked : AsksFor request (view t).refused_bytes
+  pub none : WasTurnedDown keeps has_none (view t).refused_bytes (view t).refused_looks s t
+
 -- a request went from one state of a seat to the next: its reply is right, and what every call keeps was kept; one that was told full had a request for a block refused
-pub record TakesRequest {S : Type 0} (view : S → View) (keeps : S → S → Type 0) (request : Request) (reply : Reply) (s t : S) : Type 0 where
+pub record TakesRequest {S : Type 0} (view : S → View) (keeps : S → S → Type 0) (has_none : S → S → ℕ → Looks → Type 0) (request : Request) (reply : Reply)
+    (s t : S) : Type 0 where
   pub answers : Answers request reply (view s) (view t)
   pub may : MayAnswer request (view s) (view t)
   pub keeps_it : keeps s t
-  pub refused : reply ≡ full → (view t).refusals ≡ (view s).refusals + 1
+  pub refused : reply ≡ full → WasRefused view keeps has_none request s t
 
 -- and so request by request
-abbrev pub TakesRequests : {S : Type 0} → (S → View) → (S → S → Type 0) → List (Request × Reply) → S → S → Type 0
-TakesRequests view keeps [] s t = t ≡ s
-TakesRequests {S} view keeps (r ∷ rs) s t = (u : S) × TakesRequest view keeps r.0 r.1 s u × TakesRequests view keeps rs u t
+abbrev pub TakesRequests : {S : Type 0} → (S → View) → (S → S → Type 0) → (S → S → ℕ → Looks → Type 0) → List (Request × Reply) → S → S → Type 0
+TakesRequests view keeps has_none [] s t = t ≡ s
+TakesRequests {S} view keeps has_none (r ∷ rs) s t = (u : S) × TakesRequest view keeps has_none r.0 r.1 s u × TakesRequests view keeps has_none rs u t

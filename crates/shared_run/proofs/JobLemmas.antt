@@ -23,7 +23,7 @@ use Rattle.seat_view.proofs.HeldLemmas.{seat_law}
 use Rattle.thread_cache.specs.Keeps.{IsNew, KeepsHeap}
 use Rattle.worker_run.proofs.ProgressLemmas.{begins, still}
 use Rattle.shared_run.specs.Jobs.{IsOpenedFor, IsPartOf}
-use Rattle.shared_run.specs.Parts.{IsUnused}
+use Rattle.shared_run.specs.Parts.{IsUnused, TurnsAway}
 use Rattle.shared_run.specs.Settling.{HasSettled, WasQuieted}
 use Rattle.shared_run.proofs.PartLemmas.{part_emptied, part_ended, part_few, part_full, part_kept, part_steps, part_stops, part_taken, settled_costs}
 
@@ -79,7 +79,7 @@ module _ (shared : SharedView) (requests : List Request) (workers worker : ℕ) 
       → HasTakenFew (worker_requests workers worker requests) (answered (worker_requests workers worker requests) replies) (unanswered (worker_requests workers worker requests) replies) (heap_view s) (heap_view u)
       → ((keys : List ℕ) → ListsKeysOf (slice_index s.view.setup.opened) keys
       → MakeFew (length (worker_requests workers worker requests)) (33280 + 4 * (length keys + length (worker_requests workers worker requests))) (heap_view s) (heap_view u))
-      → ((x : CacheState) × TakesRequests heap_view KeepsHeap (answered (worker_requests workers worker requests) replies) s x × KeepsHeap x u)
+      → ((x : CacheState) × TakesRequests heap_view KeepsHeap TurnsAway (answered (worker_requests workers worker requests) replies) s x × KeepsHeap x u)
       → IsPartOf shared requests workers worker last replies after
   whole_part kept worked stopped cause full taken calls steps = record {
     seat_of = of_last;

@@ -17,7 +17,7 @@ use Rattle.run_model.specs.Runs.{answered, unanswered}
 use Rattle.run_model.specs.Progress.{HasAnswered}
 use Rattle.run_model.specs.Spending.{AreFullRightly, HasTakenFew, MakeFew}
 use Rattle.run_model.specs.Working.{HasEnded, HasStopped, HasWorked, TakesRequests, at_end, in_one}
-use Rattle.shared_run.specs.Parts.{IsUnused, SpendsFew}
+use Rattle.shared_run.specs.Parts.{IsUnused, SpendsFew, TurnsAway}
 use Rattle.shared_run.specs.Settling.{HasSettled, WasQuieted, had_stopped, is_empty, stops_now}
 
 -- emptied caches cost one large call at most, take nothing and forget nothing of the mark
@@ -96,8 +96,8 @@ module _ (image : Image) (mine : List Request) (replies : Replies) (before after
   pub part_taken : HasTakenFew mine (answered mine replies) (unanswered mine replies) (heap_view s) (heap_view u) → HasTakenFew mine (answered mine replies) (unanswered mine replies) (heap_view s) (heap_view t)
   part_taken few = record { taken = let a = few.taken in let b = costs.taken in omega (arith, a, b) }
 
-  pub part_steps : (x : CacheState) × TakesRequests heap_view KeepsHeap (answered mine replies) s x × KeepsHeap x u
-      → (x : CacheState) × TakesRequests heap_view KeepsHeap (answered mine replies) s x × KeepsHeap x t
+  pub part_steps : (x : CacheState) × TakesRequests heap_view KeepsHeap TurnsAway (answered mine replies) s x × KeepsHeap x u
+      → (x : CacheState) × TakesRequests heap_view KeepsHeap TurnsAway (answered mine replies) s x × KeepsHeap x t
   part_steps steps = (steps.0, steps.1, keeps_row_law steps.0 u t steps.2 costs.kept)
 
   pub part_stops : (before ≡ true → (ticket : ℕ) × (u.view.stopped ≡ Some ticket)) → (after ≡ true) ↔ (t.view.stopped ≢ None)

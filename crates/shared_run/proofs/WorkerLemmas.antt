@@ -15,13 +15,13 @@ use Rattle.run_model.specs.Runs.{answered, unanswered, worker_answered, worker_u
 use Rattle.run_model.specs.Needs.{shards_put_into}
 use Rattle.run_model.specs.Workers.{Replies, worker_requests}
 use Rattle.run_model.specs.Working.{TakesRequests}
-use Rattle.shared_run.specs.Parts.{IsUnused}
+use Rattle.shared_run.specs.Parts.{IsUnused, TurnsAway}
 use Rattle.shared_run.specs.Together.{HaveWorked}
 use Rattle.shared_run.proofs.CountLemmas.{answered_padded, unanswered_padded}
 use Rattle.run_model.proofs.SumLemmas.{sum_over, total_over}
 
 -- requests that were taken one by one keep what each call keeps
-pub keeps_over : (rs : List (Request × Reply)) (s t : CacheState) → TakesRequests heap_view KeepsHeap rs s t → KeepsHeap s t
+pub keeps_over : (rs : List (Request × Reply)) (s t : CacheState) → TakesRequests heap_view KeepsHeap TurnsAway rs s t → KeepsHeap s t
 keeps_over [] s t same = subst (λ (u : CacheState). KeepsHeap s u) (sym same) (keeps_none_law s)
 keeps_over (r ∷ rs) s t takes = keeps_row_law s takes.0 t takes.1.keeps_it (keeps_over rs takes.0 t takes.2)
 

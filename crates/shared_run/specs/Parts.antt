@@ -3,15 +3,21 @@ use Rattle.std.specs.Prelude.{◌≡◌, ◌≢◌, ℕ, ◌+◌, ◌*◌, ◌<�
 use Rattle.heap_model.specs.Geometry.{roots}
 use Rattle.heap_model.specs.Image.{Image}
 use Rattle.core_model.specs.Opening.{HasDoneNothing}
+use Rattle.heap_seat.specs.declared.fault.Looks.{Looks}
 use Rattle.dict_model.specs.Requests.{Request}
 use Rattle.seat_view.specs.CacheState.{CacheState, heap_view}
 use Rattle.thread_cache.specs.Keeps.{KeepsHeap}
 use Rattle.thread_cache.specs.Quiet.{HasEmptyCaches}
+use Rattle.thread_cache.specs.Serving.{IsTurnedAway}
 use Rattle.run_model.specs.Workers.{Replies, root_owner, worker_requests}
 use Rattle.run_model.specs.Needs.{ListsKeysOf}
 use Rattle.run_model.specs.Runs.{answered, unanswered}
 use Rattle.run_model.specs.Spending.{AreFullRightly, HasTakenFew}
 use Rattle.run_model.specs.Working.{HasEnded, TakesRequests}
+
+-- a request for so many bytes was turned away from one state of a seat to the next, with these looks
+abbrev pub TurnsAway : CacheState → CacheState → ℕ → Looks → Type 0
+TurnsAway = λ s t bytes looks. IsTurnedAway bytes looks s.view t.view
 
 -- a seat of an opened heap that has made no call
 pub record IsUnused (s : CacheState) : Type 0 where
@@ -36,6 +42,6 @@ pub record IsPart (image : Image) (workers : ℕ) (requests : List Request) (wor
       (answered (worker_requests workers worker requests) replies) s t
   pub taken : HasTakenFew (worker_requests workers worker requests) (answered (worker_requests workers worker requests) replies)
       (unanswered (worker_requests workers worker requests) replies) (heap_view s) (heap_view t)
-  pub steps : (u : CacheState) × TakesRequests heap_view KeepsHeap (answered (worker_requests workers worker requests) replies) s u × KeepsHeap u t
+  pub steps : (u : CacheState) × TakesRequests heap_view KeepsHeap TurnsAway (answered (worker_requests workers worker requests) replies) s u × KeepsHeap u t
   pub stops : (stopped ≡ true) ↔ (t.view.stopped ≢ None)
   pub emptied : stopped ≡ false → HasEmptyCaches t

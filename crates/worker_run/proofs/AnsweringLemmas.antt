@@ -13,9 +13,9 @@ use Rattle.dict_seat.specs.Maps.{GivesMap}
 use Rattle.dict_seat.proofs.DelLemmas.{gives_same, without_missing}
 use Rattle.run_model.specs.Spending.{TakesFew, for_node as only_node, with_table, HadNoRoom}
 use Rattle.run_model.specs.Workers.{shard_asked}
-use Rattle.run_model.specs.Working.{Fits, Replied, MakesCalls}
+use Rattle.run_model.specs.Working.{Fits, Replied, MakesCalls, AsksFor, WasRefused}
 use Rattle.dict_seat.specs.Gets.{IsAnswer, Gets, ReadsFew, words_of}
-use Rattle.dict_seat.specs.Puts.{IsRefused, PutRefused, of_node, of_node_behind_table, of_table, PutTakes, for_node, for_both}
+use Rattle.dict_seat.specs.Puts.{IsRefused, PutRefused, WasTurnedDown, of_node, of_node_behind_table, of_table, PutTakes, for_node, for_both}
 use Rattle.dict_seat.specs.Removal.{IsShard}
 use Rattle.heap_model.specs.Sizes.{span_of}
 use Rattle.heap_seat.specs.declared.fault.Looks.{Looks}
@@ -59,10 +59,25 @@ pub none_spent : (q : Request) (v w : View) → w.taken ≤ v.taken + 0 → MayT
 none_spent q v w takes_none = may_node (omega arith)
 
 -- a put that was told full had one request for a block refused
-pub refused_once : (bytes shard : ℕ) (looks : Looks) (v w : View) → PutRefused bytes shard looks v w → w.refusals ≡ v.refusals + 1
+refused_once : (bytes shard : ℕ) (looks : Looks) (v w : View) → PutRefused bytes shard looks v w → w.refusals ≡ v.refusals + 1
 refused_once bytes shard looks v w (of_node set refused) = refused.count
 refused_once bytes shard looks v w (of_node_behind_table null set refused) = refused.count
 refused_once bytes shard looks v w (of_table null refused) = refused.count
+
+-- of the bytes of its node, or of a table
+asks_for : (key : ℕ) (value : List ℕ) (looks : Looks) (v w : View) → PutRefused (node_bytes (length value)) (shard_of key) looks v w → AsksFor (put key value) w.refused_bytes
+asks_for key value looks v w (of_node set refused) = inl refused.bytes_are
+asks_for key value looks v w (of_node_behind_table null set refused) = inl refused.bytes_are
+asks_for key value looks v w (of_table null refused) = inr refused.bytes_are
+
+pub was_refused : {S : Type 0} (view : S → View) (keeps : S → S → Type 0) (has_none : S → S → ℕ → Looks → Type 0) (key : ℕ) (value : List ℕ) (looks : Looks) (s t : S)
+    → PutRefused (node_bytes (length value)) (shard_of key) looks (view s) (view t) → WasTurnedDown keeps has_none (view t).refused_bytes (view t).refused_looks s t
+    → WasRefused view keeps has_none (put key value) s t
+was_refused view keeps has_none key value looks s t refused down = record {
+  once = refused_once (node_bytes (length value)) (shard_of key) looks (view s) (view t) refused;
+  asked = asks_for key value looks (view s) (view t) refused;
+  none = down;
+}
 
 -- one that was refused may have made one too
 full_takes : (key : ℕ) (value : List ℕ) (looks : Looks) (v w : View) → PutRefused (node_bytes (length value)) (shard_of key) looks v w → TakesFew (put key value) full v w

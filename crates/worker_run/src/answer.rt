@@ -7,7 +7,7 @@ ghost use Rattle.dict_model.specs.Requests.{put, get, del, full};
 ghost use Rattle.dict_seat.specs.Removal.{IsShard};
 ghost use Rattle.run_model.specs.Progress.{MayAnswer};
 ghost use Rattle.run_model.specs.Workers.{shard_asked};
-ghost use Rattle.run_model.specs.Working.{Fits, Replied, MakesCalls};
+ghost use Rattle.run_model.specs.Working.{Fits, Replied, MakesCalls, WasRefused};
 ghost use Rattle.worker_run.specs.Said.{request_of, reply_of, IsShort};
 ghost use Rattle.worker_run.specs.Taking.{MayTake};
 
@@ -26,7 +26,7 @@ fn put_reply<H: HeapSeat>(seat: &mut H, key: u64, value: &[u8]) -> Result<Reply,
         (H.view seat.old) (H.view seat.new)) }
     ensures runs { OnOk result (Runs (H.view seat.old) (H.view seat.new)) }
     ensures refused { IfOk result (λ reply. reply_of reply ≡ Some full
-        → (H.view seat.new).refusals ≡ (H.view seat.old).refusals + 1) }
+        → WasRefused H.view H.keeps H.has_none (put key value.now) seat.old seat.new) }
     ensures cause { IfErr result (λ e. Stops e.step (H.view seat.old) (H.view seat.new)) }
 
     // At every exit.
@@ -51,7 +51,7 @@ fn get_reply<H: HeapSeat>(seat: &mut H, key: u64, mut room: Vec<u8>) -> Result<R
         (H.view seat.old) (H.view seat.new)) }
     ensures runs { OnOk result (Runs (H.view seat.old) (H.view seat.new)) }
     ensures refused { IfOk result (λ reply. reply_of reply ≡ Some full
-        → (H.view seat.new).refusals ≡ (H.view seat.old).refusals + 1) }
+        → WasRefused H.view H.keeps H.has_none (get key) seat.old seat.new) }
     ensures cause { IfErr result (λ e. Stops e.step (H.view seat.old) (H.view seat.new)) }
 
     // At every exit.
@@ -75,7 +75,7 @@ fn del_reply<H: HeapSeat>(seat: &mut H, key: u64) -> Result<Reply, Stopped>
         (H.view seat.old) (H.view seat.new)) }
     ensures runs { OnOk result (Runs (H.view seat.old) (H.view seat.new)) }
     ensures refused { IfOk result (λ reply. reply_of reply ≡ Some full
-        → (H.view seat.new).refusals ≡ (H.view seat.old).refusals + 1) }
+        → WasRefused H.view H.keeps H.has_none (del key) seat.old seat.new) }
     ensures cause { IfErr result (λ e. Stops e.step (H.view seat.old) (H.view seat.new)) }
 
     // At every exit.
@@ -102,7 +102,7 @@ pub(crate) fn answer<H: HeapSeat>(
         (H.view seat.old) (H.view seat.new)) }
     ensures runs { OnOk result (Runs (H.view seat.old) (H.view seat.new)) }
     ensures refused { IfOk result (λ reply. reply_of reply ≡ Some full
-        → (H.view seat.new).refusals ≡ (H.view seat.old).refusals + 1) }
+        → WasRefused H.view H.keeps H.has_none (request_of request.now) seat.old seat.new) }
     ensures cause { IfErr result (λ e. Stops e.step (H.view seat.old) (H.view seat.new)) }
 
     // At every exit.

@@ -68,7 +68,7 @@ pub fn work_off<H: HeapSeat, G: Gate>(
         (length (worker_requests worker.workers worker.number (requests_of requests.now)))
         (33280 + 4 * (length keys + length (worker_requests worker.workers worker.number
         (requests_of requests.now)))) (H.view seat.old) (H.view seat.new) }
-    ensures steps { (u : H) × TakesRequests H.view H.keeps
+    ensures steps { (u : H) × TakesRequests H.view H.keeps H.has_none
         (answered (worker_requests worker.workers worker.number (requests_of requests.now))
         (replies_of replies.new.items)) seat.old u × H.keeps u seat.new }
     ensures roots { (H.view seat.new).roots ≡ (H.view seat.old).roots }

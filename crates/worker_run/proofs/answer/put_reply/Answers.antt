@@ -4,7 +4,7 @@ use Rattle.heap_model.specs.Sizes.{span_of}
 use Rattle.dict_model.specs.Nodes.{shard_of, value_words, node_bytes, table_bytes}
 use Rattle.dict_model.specs.Requests.{put}
 use Rattle.dict_seat.specs.Puts.{PutAnswers}
-use Rattle.worker_run.proofs.AnsweringLemmas.{calls_few, put_spends, refused_once, replied_put, replied_full}
+use Rattle.worker_run.proofs.AnsweringLemmas.{calls_few, put_spends, was_refused, replied_put, replied_full}
 use Rattle.worker_run.proofs.answer.put_reply.Goals as goal
 
 pub returns-in-Ok-clause-ok : goal.returns-in-Ok-clause-ok
@@ -49,4 +49,5 @@ returns-in-Err-Full-clause-refused g c = λ told.
     let v = g.H.HeapSeat.view c.args.seat.now in
     let w = g.H.HeapSeat.view c.put.new.seat in
     let why = subst (λ (fault : AllocFault). PutAnswers (node_bytes (length c.args.value.now)) (shard_of c.args.key) fault v w) c.in-Err-Full.field-0-is c.in-Err-Full.ensures.cause in
-    refused_once (node_bytes (length c.args.value.now)) (shard_of c.args.key) _ v w why.0
+    was_refused g.H.HeapSeat.view g.H.HeapSeat.keeps g.H.HeapSeat.has_none c.args.key c.args.value.now _ c.args.seat.now c.put.new.seat why.0
+    (c.in-Err-Full.ensures.none _ c.in-Err-Full.field-0-is)

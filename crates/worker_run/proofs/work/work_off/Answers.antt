@@ -27,8 +27,8 @@ loop-request-init g c =
       full = subst (λ rs. AreFullRightly g.H.HeapSeat.view g.H.HeapSeat.keeps qs (answered qs (replies_of rs)) c.args.seat.now c.args.seat.now) (sym empty)
           (subst (λ rs. AreFullRightly g.H.HeapSeat.view g.H.HeapSeat.keeps qs rs c.args.seat.now c.args.seat.now) (sym (answered_none qs)) (refused_none g.H.HeapSeat.view g.H.HeapSeat.keeps qs c.args.seat.now c.args.seat.now));
       calls = λ keys lists. subst (λ rs. MakeFew (length rs) (33280 + 4 * (length keys + length qs)) v v) (sym empty) (few_none (33280 + 4 * (length keys + length qs)) v);
-      steps = subst (λ rs. TakesRequests g.H.HeapSeat.view g.H.HeapSeat.keeps (answered qs (replies_of rs)) c.args.seat.now c.args.seat.now) (sym empty)
-          (subst (λ rs. TakesRequests g.H.HeapSeat.view g.H.HeapSeat.keeps rs c.args.seat.now c.args.seat.now) (sym (answered_none qs)) refl);
+      steps = subst (λ rs. TakesRequests g.H.HeapSeat.view g.H.HeapSeat.keeps g.H.HeapSeat.has_none (answered qs (replies_of rs)) c.args.seat.now c.args.seat.now) (sym empty)
+          (subst (λ rs. TakesRequests g.H.HeapSeat.view g.H.HeapSeat.keeps g.H.HeapSeat.has_none rs c.args.seat.now c.args.seat.now) (sym (answered_none qs)) refl);
       roots = refl;
       going = λ none. none;
       kept = g.met.H.HeapSeat.keeps_none c.args.seat.now;
@@ -212,8 +212,8 @@ loop-request-preserved-in-Ok g c =
       calls = λ keys lists. subst (λ n. MakeFew n (33280 + 4 * (length keys + length mine)) start w) one_more
           (few_next (length told) (33280 + 4 * (length keys + length mine)) image mine rest q (replies_of told) start v w keys refl
           c.requires.1.1.1.1.1.0 next.owned next.worked lists c.answer-answered.ensures.calls (c.loop-request.invariant.calls keys lists));
-      steps = subst (λ rs. TakesRequests g.H.HeapSeat.view g.H.HeapSeat.keeps rs c.args.seat.now c.answer-answered.new.seat) (sym now)
-          (takes_push g.H.HeapSeat.view g.H.HeapSeat.keeps (answered mine (replies_of told)) q replied.reply c.args.seat.now c.loop-request.seat c.answer-answered.new.seat c.loop-request.invariant.steps
+      steps = subst (λ rs. TakesRequests g.H.HeapSeat.view g.H.HeapSeat.keeps g.H.HeapSeat.has_none rs c.args.seat.now c.answer-answered.new.seat) (sym now)
+          (takes_push g.H.HeapSeat.view g.H.HeapSeat.keeps g.H.HeapSeat.has_none (answered mine (replies_of told)) q replied.reply c.args.seat.now c.loop-request.seat c.answer-answered.new.seat c.loop-request.invariant.steps
           (record {
             answers = replied.answers;
             may = c.answer-answered.ensures.crash;

@@ -24,7 +24,7 @@ invariant-loop-request g l = record {
   calls : (keys : List ℕ) → ListsKeysOf g.image keys
       → MakeFew (length l.replies.items) (33280 + 4 * (length keys + length (worker_requests l.fn.worker.workers l.fn.worker.number (requests_of l.fn.requests))))
       (g.H.HeapSeat.view l.initial.seat) (g.H.HeapSeat.view l.seat);
-  steps : TakesRequests g.H.HeapSeat.view g.H.HeapSeat.keeps (answered (worker_requests l.fn.worker.workers l.fn.worker.number (requests_of l.fn.requests)) (replies_of l.replies.items)) l.initial.seat l.seat;
+  steps : TakesRequests g.H.HeapSeat.view g.H.HeapSeat.keeps g.H.HeapSeat.has_none (answered (worker_requests l.fn.worker.workers l.fn.worker.number (requests_of l.fn.requests)) (replies_of l.replies.items)) l.initial.seat l.seat;
   roots : (g.H.HeapSeat.view l.seat).roots ≡ (g.H.HeapSeat.view l.initial.seat).roots;
   going : (g.H.HeapSeat.view l.initial.seat).stopped ≡ None → (g.H.HeapSeat.view l.seat).stopped ≡ None;
   kept : g.H.HeapSeat.keeps l.initial.seat l.seat;
