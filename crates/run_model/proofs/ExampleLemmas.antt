@@ -1,5 +1,5 @@
--- Worked examples of replies that workers may have given, and of such that they may not; of runs that are as one thread's, and of such that aren't.
-use Rattle.std.proofs.Common.{◌≡◌, ℕ, zero, suc, ◌+◌, ◌<◌, List, [], ◌∷◌, None, Some, inl, inr, refl, sym, ◌∙◌, arith}
+-- Worked examples of replies that workers may have given, and of such that they may not; of runs that are as one thread's, and of such that aren't; and of the room for a get.
+use Rattle.std.proofs.Common.{◌≡◌, ℕ, zero, suc, ◌+◌, ◌<◌, ◌≤◌, List, [], ◌∷◌, length, None, Some, inl, inr, refl, subst, sym, ◌∙◌, arith}
 use Rattle.std.specs.Prelude.{cond, nat_lt}
 use Rattle.std.proofs.Math.Nat.{mod-lt}
 use Rattle.std.proofs.lemmas.Bool.{cond-true, cond-false, lt-ltb, le-ltb}
@@ -8,11 +8,12 @@ use Rattle.heap_model.specs.Image.{Image}
 use Rattle.heap_model.proofs.MemberLemmas.{in_none, head_or_rest}
 use Rattle.dict_model.specs.Nodes.{shard_of}
 use Rattle.dict_model.specs.Requests.{put, get, done, full, none, IsReply, get_none}
-use Rattle.dict_model.specs.Shards.{Map, no_keys, is_empty}
-use Rattle.run_model.specs.Examples.{mixed, one_missing}
+use Rattle.dict_model.specs.Shards.{Map, MapOf, no_keys, is_empty}
+use Rattle.run_model.specs.Examples.{mixed, one_missing, two_puts, two_bytes}
 use Rattle.run_model.specs.OneMap.{IsWholeMap, NoneIsFull, IsAsOneThread}
 use Rattle.run_model.specs.Runs.{AnswersInOrder, AnswerInOrder}
 use Rattle.run_model.specs.Workers.{worker_requests, worker_replies}
+use Rattle.run_model.specs.Working.{IsLengthFor, of_none, of_image, of_trace, IsRoomFor}
 use Rattle.run_model.proofs.OneMapLemmas.{one_whole}
 
 -- a reply may stand behind a missing one that was another worker's
@@ -96,3 +97,16 @@ not_forgotten image left is = not_there _ 5 [] refl is.right.1.0
 -- and is left
 pub not_lost : IsAsOneThread bare (put 5 [] ∷ []) (Some done ∷ []) bare → ⊥
 not_lost is = let e : Some [] ≡ None = one_whole bare _ no_keys is.leaves no_keys_at_all 5 in absurd (cc)
+
+-- over an image that has no value of the key, the room for a get is as long as the longest value that the trace puts
+module _ (image : Image) (no_value : (shard : ℕ) (map : Map) → MapOf image shard map → map 5 ≡ None) where
+  at_most_two : (n : ℕ) → IsLengthFor image two_puts 5 n → n ≤ 2
+  at_most_two _ of_none = omega arith
+  at_most_two _ (of_image shard map value small is found) = let e : None ≡ Some value = sym (no_value shard map is) ∙ found in absurd (cc)
+  at_most_two _ (of_trace value (zero, below, is)) = let same : (97 ∷ 98 ∷ []) ≡ value = cc in subst (λ (xs : List ℕ). length xs ≤ 2) same (omega arith)
+  at_most_two _ (of_trace value (suc zero, below, is)) = absurd (cc)
+  at_most_two _ (of_trace value (suc (suc zero), below, is)) = let same : [] ≡ value = cc in subst (λ (xs : List ℕ). length xs ≤ 2) same (omega arith)
+  at_most_two _ (of_trace value (suc (suc (suc k)), below, is)) = absurd (omega (arith, below))
+
+  pub room_for_two : (room : ℕ) → IsRoomFor image two_puts 5 room → room ≡ 2
+  room_for_two room is = let enough = is.enough 2 (two_bytes image) in let needed = at_most_two room is.needed in omega (arith, enough, needed)

@@ -1,5 +1,7 @@
--- Worked examples by computation: what is a worker's of a trace and of its replies, what traces need, bounds of steps, runs that answer a first part, what workers took, and what one map answers.
+-- Worked examples by computation: what is a worker's of a trace and of its replies, what traces need, bounds of steps, runs that answer a first part, what workers took, what one map answers, what a put asks the heap for, and the room for a get.
 use Rattle.std.specs.Prelude.{◌≡◌, List, [], ◌∷◌, map, sum_by, None, Some, refl}
+use Rattle.std.proofs.Common.{arith, inl, inr}
+use Rattle.heap_model.specs.Image.{Image}
 use Rattle.heap_model.specs.Sizes.{span_of}
 use Rattle.dict_model.specs.Nodes.{node_bytes}
 use Rattle.dict_model.specs.Requests.{Request, put, get, del, done, full, none, found, after, AreReplies, put_done, get_none, del_none}
@@ -7,6 +9,7 @@ use Rattle.dict_model.specs.Shards.{no_keys}
 use Rattle.run_model.specs.Needs.{superblocks_needed, shards_put_into, step_bound}
 use Rattle.run_model.specs.Runs.{answered, unanswered, of_shard, AnswersInOrder, span_taken, first_span, worker_answered, worker_unanswered, worker_span, spans_beside}
 use Rattle.run_model.specs.Workers.{Replies, root_owner, worker_requests, worker_replies, worker_numbers}
+use Rattle.run_model.specs.Working.{AsksFor, IsLengthFor, of_trace}
 
 -- a put, a get, a del and a get of one key
 abbrev pub four : List Request
@@ -129,3 +132,14 @@ one_map = (put_done 5 (97 ∷ 98 ∷ []), (get_none 6 refl, (put_done 14 [], (de
 -- and that map after it, which has keys of both shards
 both_shards : map (after no_keys (answered mixed all_told)) (5 ∷ 14 ∷ 13 ∷ []) ≡ Some (97 ∷ 98 ∷ []) ∷ Some [] ∷ None ∷ []
 both_shards = refl
+
+-- a put of two bytes asks for the four words of its node, or for a table of 128 words
+asked_by_put : AsksFor (put 5 (97 ∷ 98 ∷ [])) 32 × AsksFor (put 5 (97 ∷ 98 ∷ [])) 1024
+asked_by_put = (inl refl, inr refl)
+
+-- a trace that puts two values under one key; a get of it may answer the longer one
+abbrev pub two_puts : List Request
+two_puts = put 5 (97 ∷ 98 ∷ []) ∷ get 5 ∷ put 5 [] ∷ []
+
+pub two_bytes : (image : Image) → IsLengthFor image two_puts 5 2
+two_bytes image = of_trace (97 ∷ 98 ∷ []) (0, omega arith, refl)

@@ -37,14 +37,20 @@ pub data HasEnded (image : Image) (requests : List Request) (replies : Replies) 
   at_end : HasWorked image requests [] replies v → HasEnded image requests replies stopped v
   in_one : stopped ≡ true → HasStopped image requests replies v → HasEnded image requests replies stopped v
 
--- no value that the key has in the image, or that the trace puts, is longer than this, and this is no more than the longest that there may be
+-- so long an answer to a get of the key may be: no value, one that the key has in the image, or one that the trace puts under it
+pub data IsLengthFor (image : Image) (requests : List Request) (key : ℕ) : ℕ → Type 0 where
+  of_none : IsLengthFor image requests key 0
+  of_image : (shard : ℕ) (map : Map) (value : List ℕ) → shard < shards → MapOf image shard map → map key ≡ Some value
+      → IsLengthFor image requests key (length value)
+  of_trace : (value : List ℕ) → Contains requests (put key value) → IsLengthFor image requests key (length value)
+
+-- the room is as long as the longest of these, which is no more than the longest value that there may be
 pub record IsRoomFor (image : Image) (requests : List Request) (key room : ℕ) : Type 0 where
   pub short : room ≤ largest_value
-  pub of_image : (shard : ℕ) (map : Map) (value : List ℕ) → shard < shards → MapOf image shard map → map key ≡ Some value
-      → length value ≤ room
-  pub of_trace : (value : List ℕ) → Contains requests (put key value) → length value ≤ room
+  pub enough : (long : ℕ) → IsLengthFor image requests key long → long ≤ room
+  pub needed : IsLengthFor image requests key room
 
--- there is room for each get's value
+-- the room is as long as a get's value may be
 abbrev pub HasRoom : Image → List Request → Request → ℕ → Type 0
 HasRoom image requests (get key) room = IsRoomFor image requests key room
 HasRoom image requests (put key value) room = Unit {0}

@@ -5,9 +5,9 @@ use Rattle.std.specs.Option.{unwrap_or}
 use Rattle.std.specs.BTreeMap.{BTreeMap, get}
 use Rattle.std.specs.Ordering.{nat_cmp}
 use Rattle.std.proofs.Math.Seq.{take-suc}
-use Rattle.std.proofs.lemmas.Bool.{cases_eq, cond-true, cond-false, ne_eqb, eq-eqb}
+use Rattle.std.proofs.lemmas.Bool.{cases_eq, cases_lt, cond-true, cond-false, ne_eqb, eq-eqb}
 use Rattle.std.proofs.lemmas.List.{map-append, length-take}
-use Rattle.std.proofs.lemmas.List.Elements.{Contains-append_cases, filter-append}
+use Rattle.std.proofs.lemmas.List.Elements.{Contains-append_cases, Contains-append_left, Contains-append_right, filter-append}
 use Rattle.std.proofs.lemmas.Option.{get_or_from_slice_get}
 use Rattle.std.proofs.Math.Nat.{mod-lt}
 use Rattle.std.specs.Prelude.{◌/◌}
@@ -23,8 +23,8 @@ use Rattle.dict_model.specs.Requests.{Request, put}
 use Rattle.trace_text.specs.declared.request.Request.TheVariants.{Put, Get, Del}
 use Rattle.run_model.specs.Spending.{IsPut}
 use Rattle.run_model.specs.Workers.{is_of_worker, worker_requests}
-use Rattle.run_model.specs.Working.{IsRoomFor, HasRoom, HaveRoom}
-use Rattle.worker_run.specs.Rooms.{length_at, length_of, length_in as length_in_map, Raises, AreLongest}
+use Rattle.run_model.specs.Working.{IsLengthFor, of_none, of_image, of_trace, IsRoomFor, HasRoom, HaveRoom}
+use Rattle.worker_run.specs.Rooms.{length_at, length_of, length_in as length_in_map, IsPutLength, Raises, AreLongest}
 use Rattle.worker_run.specs.Said.{Line, request_of, requests_of}
 
 -- what is in a list with one more
@@ -33,6 +33,11 @@ more_or_last xs x y h = elim (Contains-append_cases xs (x ∷ []) y h) as (λ _.
   | inl among ↦ inl among
   | inr rest ↦ elim (head_or_rest x y [] rest) as (λ _. Contains xs y ⊎ (x ≡ y)) [ inl same ↦ inr same | inr none ↦ absurd (in_none y none) ]
 ]
+
+-- a put's length is one among more requests
+put_length_more : (qs rest : List Request) (key n : ℕ) → IsPutLength qs key n → IsPutLength (qs ++ rest) key n
+put_length_more qs rest key n (inl none) = inl none
+put_length_more qs rest key n (inr one) = inr (one.0, Contains-append_left qs rest (put key one.0) one.1, one.2)
 
 module _ (qs : List Request) (old new : BTreeMap ℕ ℕ) (key : ℕ) (value : List ℕ) (are : AreLongest qs old) (short : length value ≤ largest_value) (raises : Raises key (length value) old new) where
   at_key : length_at new key ≡ max (length value) (length_at old key)
@@ -49,6 +54,22 @@ module _ (qs : List Request) (old new : BTreeMap ℕ ℕ) (key : ℕ) (value : L
     | inr other ↦ let at = at_other q other in omega arith
   ]
 
+  -- the length at a key is that of a value that was put there
+  longest_put : (q : ℕ) → IsPutLength (qs ++ (put key value ∷ [])) q (length_at new q)
+  longest_put q = elim (cases_eq key q) as (λ _. IsPutLength (qs ++ (put key value ∷ [])) q (length_at new q)) [
+    | inl same ↦ elim (cases_lt (length value) (length_at old q)) as (λ _. IsPutLength (qs ++ (put key value ∷ [])) q (length_at new q)) [
+      | inl less ↦ from_before (subst (λ k. length_at new k ≡ length_at old k) same (let at = at_key in let more : length value < length_at old key = subst (λ k. length value < length_at old k) (sym same) less in omega arith))
+      | inr least ↦ inr (
+        value,
+        subst (λ k. Contains (qs ++ (put key value ∷ [])) (put k value)) same (Contains-append_right qs (put key value ∷ []) (put key value) (in_head (put key value) [])),
+        subst (λ k. length_at new k ≡ length value) same (let at = at_key in let most : length_at old key ≤ length value = subst (λ k. length_at old k ≤ length value) (sym same) least in omega arith),
+      )
+    ]
+    | inr other ↦ from_before (at_other q other)
+  ] where
+    from_before : length_at new q ≡ length_at old q → IsPutLength (qs ++ (put key value ∷ [])) q (length_at new q)
+    from_before same = subst (IsPutLength (qs ++ (put key value ∷ [])) q) (sym same) (put_length_more qs (put key value ∷ []) q (length_at old q) (are.needed q))
+
   -- one put more
   pub longest_next : AreLongest (qs ++ (put key value ∷ [])) new
   longest_next = record {
@@ -63,6 +84,7 @@ module _ (qs : List Request) (old new : BTreeMap ℕ ℕ) (key : ℕ) (value : L
       | inl same ↦ subst (λ k. length_at new k ≤ largest_value) same (let at = at_key in let before = are.short key in omega arith)
       | inr other ↦ let at = at_other q other in let before = are.short q in omega arith
     ];
+    needed = longest_put;
   }
 
 -- another request
@@ -73,6 +95,7 @@ longest_same qs q longest are not = record {
     | inr last ↦ absurd (not (subst IsPut (sym last) tt))
   ];
   short = are.short;
+  needed = λ k. put_length_more qs (q ∷ []) k (length_at longest k) (are.needed k);
 }
 
 -- one room more
@@ -140,14 +163,30 @@ module _ (image : Image) (requests : List Request) (maps : List (BTreeMap ℕ (L
       let is_map : MapOf image (shard_of key) (get nat_cmp m) = subst (λ (x : BTreeMap ℕ (List ℕ)). MapOf image (shard_of key) (get nat_cmp x)) same there.2 in
       record {
         short = let puts = are.short key in let opened = opened_short (get nat_cmp m key) refl is_map in omega arith;
-        of_image = λ shard other value small is_other found.
+        enough = fits is_map;
+        needed = elim (cases_lt (length_in_map m key) (length_at longest key)) as (λ _. IsLengthFor image requests key room) [
+          | inl less ↦ elim (are.needed key) as (λ _. IsLengthFor image requests key room) [
+            | inl none ↦ absurd (omega arith)
+            | inr one ↦ let same_length : length one.0 ≡ room = let is = one.2 in omega arith in subst (IsLengthFor image requests key) same_length (of_trace one.0 one.1)
+          ]
+          | inr least ↦ let same_length : length_in_map m key ≡ room = omega arith in subst (IsLengthFor image requests key) same_length (opened_length (get nat_cmp m key) refl is_map)
+        ];
+      } where
+        fits : MapOf image (shard_of key) (get nat_cmp m) → (n : ℕ) → IsLengthFor image requests key n → n ≤ room
+        fits is_map _ of_none = omega arith
+        fits is_map _ (of_image shard other value small is_other found) =
             let is_value = map_value (LeadsAlone image shard) image shard other key value is_other.is_map found in
             let here : MapOf image (shard_of key) other = subst (λ n. MapOf image n other) (sym is_value.in_shard) is_other in
             let one : get nat_cmp m key ≡ Some value = one_map_of image (shard_of key) (get nat_cmp m) other is_map here key ∙ found in
             let known : length_in_map m key ≡ length value = ap length_of one in
-            omega arith;
-        of_trace = λ value among. let puts = are.holds key value among in omega arith;
-      } where
+            omega arith
+        fits is_map _ (of_trace value among) = let puts = are.holds key value among in omega arith
+
+        opened_length : (o : Option (List ℕ)) → get nat_cmp m key ≡ o → MapOf image (shard_of key) (get nat_cmp m) → IsLengthFor image requests key (length_of (get nat_cmp m key))
+        opened_length None is is_map = subst (λ o. IsLengthFor image requests key (length_of o)) (sym is) of_none
+        opened_length (Some value) is is_map =
+            subst (λ o. IsLengthFor image requests key (length_of o)) (sym is) (of_image (shard_of key) (get nat_cmp m) value (mod-lt key (omega arith)) is_map is)
+
         opened_short : (o : Option (List ℕ)) → get nat_cmp m key ≡ o → MapOf image (shard_of key) (get nat_cmp m) → length_of (get nat_cmp m key) ≤ largest_value
         opened_short None is is_map = let none : length_of (get nat_cmp m key) ≡ 0 = ap length_of is in omega arith
         opened_short (Some value) is is_map =

@@ -17,7 +17,7 @@ use Rattle.run_model.specs.Opened.{HasMaps}
 use Rattle.run_model.specs.Progress.{Answers, MayAnswer, HasAnswered}
 use Rattle.run_model.specs.Runs.{of_shard}
 use Rattle.run_model.specs.Workers.{Replies, shard_asked}
-use Rattle.run_model.specs.Working.{HasWorked, HasRoom, Fits, Replied}
+use Rattle.run_model.specs.Working.{HasWorked, of_image, of_trace, HasRoom, Fits, Replied}
 use Rattle.worker_run.specs.Said.{Told, reply_of, replies_of}
 use Rattle.dict_seat.specs.Removal.{IsShard}
 use Rattle.run_model.proofs.OneMapLemmas.{small_shard}
@@ -81,9 +81,9 @@ module _ (image : Image) (all requests : List Request) (maps : HasMaps image) (a
         let now = worked.answered.gives shard first.0 small owned first.1 in
         let same = same_map v seat shard (after first.0 (of_shard shard worked.rs)) m now gives key in
         elim (all_where shard first.0 worked.rs key value (same ∙ is)) as (λ _. length value ≤ room) [
-          | inl old ↦ has.of_image shard first.0 value small first.1 old
-          | inr by_put ↦ has.of_trace value (among (put key value) (subst (λ (qs : List Request). Contains qs (put key value)) (sym worked.requests_are)
-              (Contains-append_left (map (λ r. r.0) worked.rs) left (put key value) by_put)))
+          | inl old ↦ has.enough (length value) (of_image shard first.0 value small first.1 old)
+          | inr by_put ↦ has.enough (length value) (of_trace value (among (put key value) (subst (λ (qs : List Request). Contains qs (put key value)) (sym worked.requests_are)
+              (Contains-append_left (map (λ r. r.0) worked.rs) left (put key value) by_put))))
         ],
   )
   room_fits (put key value) left replies v room seat owned worked has = tt

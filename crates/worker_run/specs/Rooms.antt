@@ -1,5 +1,5 @@
 -- How long the values may be that a trace reads.
-use Rattle.std.specs.Prelude.{◌≡◌, ℕ, ◌≤◌, List, length, Option, None, Some, Contains, cond, nat_eq, max}
+use Rattle.std.specs.Prelude.{◌≡◌, ℕ, ◌≤◌, ◌⊎◌, List, length, Option, None, Some, Contains, cond, nat_eq, max}
 use Rattle.std.specs.Option.{unwrap_or}
 use Rattle.std.specs.BTreeMap.{BTreeMap, get}
 use Rattle.std.specs.Ordering.{nat_cmp}
@@ -19,10 +19,15 @@ length_of (Some value) = length value
 abbrev pub length_in : BTreeMap ℕ (List ℕ) → ℕ → ℕ
 length_in map key = length_of (get nat_cmp map key)
 
--- no value that the requests put under a key is longer than the length there, and that is no more than the longest that there may be
+-- the length of a value that the requests put under the key, or 0
+abbrev pub IsPutLength : List Request → ℕ → ℕ → Type 0
+IsPutLength requests key n = (n ≡ 0) ⊎ ((value : List ℕ) × Contains requests (put key value) × (n ≡ length value))
+
+-- the length at a key is that of the longest value that the requests put under it, and no more than the longest that there may be; 0 where they put none
 pub record AreLongest (requests : List Request) (longest : BTreeMap ℕ ℕ) : Type 0 where
   pub holds : (key : ℕ) (value : List ℕ) → Contains requests (put key value) → length value ≤ length_at longest key
   pub short : (key : ℕ) → length_at longest key ≤ largest_value
+  pub needed : (key : ℕ) → IsPutLength requests key (length_at longest key)
 
 -- the length at the key is this one or the longer one from before, and at other keys it stays
 pub record Raises (key length : ℕ) (old new : BTreeMap ℕ ℕ) : Type 0 where

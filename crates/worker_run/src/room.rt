@@ -80,8 +80,9 @@ fn make_room(
     Ok(Bytes::from_vec(vec![in alloc; 0; room]?))
 }
 
-/// A room for each of the worker's requests, in which a get's value fits: the key's in the maps,
-/// and each that the trace puts. `longest` has those, as `longest_puts` tells them.
+/// A room for each of the worker's requests. That of a get is as long as the longest value that it
+/// may find: the key's in the maps, and each that the trace puts. `longest` has the latter ones, as
+/// `longest_puts` tells them.
 pub fn make_rooms(
     alloc: Global,
     maps: &[BTreeMap<u64, Bytes>],
