@@ -249,3 +249,14 @@ pub fn word(image: &[u8], place: &str) -> Result<u64, Fail> {
     };
     Ok(bytes.iter().rev().fold(0u64, |word, byte| word.wrapping_mul(256) | u64::from(*byte)))
 }
+
+/// The worker, of so many, to which a request belongs.
+pub fn worker_of(request: &str, workers: u64) -> u64 {
+    shard_of(request).checked_rem(workers).unwrap_or(0)
+}
+
+/// The shard that a request is about.
+pub fn shard_of(request: &str) -> u64 {
+    let key = request.split(' ').nth(1).unwrap_or("");
+    key.parse::<u64>().unwrap_or(0) % 8
+}

@@ -5,10 +5,9 @@ use crate::harness::{
 use line_memory::ConstantChance;
 use std::alloc::{AllocError, Global};
 use std::process::Abort;
-use std::sync::atomic::{AtomicU64, Ordering};
 use std::test::Fail;
 use std::thread::Threads;
-use tool_ports::{Chances, FailedPut, Gate, MapStore, OpenGate, SeededChances};
+use tool_ports::{Chances, FailedPut, MapStore, OpenGate, SeededChances};
 
 /// A stopped run of a trace over the image of the store: what it prints.
 fn stopped_run<C: Chances>(
@@ -236,70 +235,4 @@ fn requests_left_unanswered_are_run_on_what_a_stop_left(rt: HostRuntime) -> Resu
         budget = next_step(budget, 100);
     }
     Err("it never closes".into())
-}
-
-/// Counts what it is told: each request in order, before it and behind it.
-#[derive(Drop)]
-struct Recorder {
-    told: AtomicU64,
-}
-
-/// What a recorder counts up to where it was told something out of order.
-const OUT_OF_ORDER: u64 = 1 << 40;
-
-impl Recorder {
-    fn tell(&self, worker: usize, number: u64) {
-        let before = self.told.load(Ordering::SeqCst);
-        let next = if worker == 0 && before == number {
-            number.wrapping_add(1)
-        } else {
-            OUT_OF_ORDER
-        };
-        self.told.store(next, Ordering::SeqCst);
-    }
-}
-
-impl Gate for Recorder {
-    fn pass(&self, worker: usize, request: usize) {
-        self.tell(worker, (request as u64).wrapping_mul(2));
-    }
-
-    fn done(&self, worker: usize, request: usize) {
-        self.tell(worker, (request as u64).wrapping_mul(2).wrapping_add(1));
-    }
-}
-
-/// How much a recorder is told of a run over the store.
-fn told_by_run(
-    rt: &(impl AllocGlobal + Threads + Sync),
-    images: &mut MapStore,
-    line: &str,
-) -> Result<u64, AllocError> {
-    let gate = Recorder {
-        told: AtomicU64::new(0),
-    };
-    let call = plain(line, b"put 5 6162\nget 5\ndel 5\nget 5\nput 1 aa\n");
-    make(rt, call, images, &gate, &mut SeededChances::new())?;
-    Ok(gate.told.load(Ordering::SeqCst))
-}
-
-/// How much a recorder is told of a run, which leaves an image.
-fn told_gate(
-    rt: &(impl Abort + AllocGlobal + Threads + Sync),
-    image: &[u8],
-    line: &str,
-) -> Result<u64, Fail> {
-    let mut images = store_with(rt.alloc(), image, NO_CALL, FailedPut::LeavesOld)?;
-    let told = told_by_run(rt, &mut images, line)?;
-    must_hold(rt, !images.image("h").unwrap_or(&[]).is_empty(), line);
-    Ok(told)
-}
-
-#[test]
-fn the_gate_is_told_of_each_request_in_order(rt: HostRuntime) -> Result<(), Fail> {
-    let image = image_after(&rt, "2", "")?;
-    let all = told_gate(&rt, &image, "run h --workers 1")?;
-    let first = told_gate(&rt, &image, "run h --workers 1 --stop 0")?;
-    must_hold(&rt, all == 10 && first == 2, "each is told");
-    Ok(())
 }
