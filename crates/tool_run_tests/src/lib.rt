@@ -5,6 +5,8 @@
 #![tactic(auto)]
 
 #[cfg(test)]
+mod contended;
+#[cfg(test)]
 mod damage;
 #[cfg(test)]
 mod faults;

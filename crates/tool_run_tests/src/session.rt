@@ -72,7 +72,7 @@ fn push_input(input: &mut String, line: &str) -> Result<(), AllocError> {
 }
 
 /// The input of the call.
-fn input_of(alloc: Global, turn: &str) -> Result<String, AllocError> {
+pub fn input_of(alloc: Global, turn: &str) -> Result<String, AllocError> {
     let mut input = String::new(alloc);
     for line in turn.split('\n') {
         push_input(&mut input, line)?;

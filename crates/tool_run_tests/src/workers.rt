@@ -1,13 +1,11 @@
-//! Runs by several workers: what is told whatever their steps come to, and a heap that is too small
-//! for them all.
-use crate::harness::{NO_CALL, image_in, make_plain, must_hold, runs, shows, store, store_with};
-use crate::images::image_bytes;
+//! Runs by several workers: what is told whatever their steps come to.
+use crate::harness::{joined, make_plain, must_hold, runs, store};
 use crate::session::play;
-use std::alloc::{AllocError, Global};
+use std::alloc::AllocError;
 use std::process::Abort;
 use std::test::Fail;
 use std::thread::Threads;
-use tool_ports::{FailedPut, MapStore};
+use tool_ports::MapStore;
 
 /// Requests to all shards, with so many workers in place of N. Only the map tells how many there
 /// were.
@@ -153,67 +151,123 @@ fn the_requests_to_one_shard_are_one_workers(rt: HostRuntime) -> Result<(), Fail
     Ok(())
 }
 
-/// The bytes behind the first line that is this one.
-fn behind_line<'a>(text: &'a [u8], line: &[u8]) -> &'a [u8] {
-    for at in 0..text.len() {
-        let Some(rest) = text.get(at..) else {
-            return &[];
-        };
-        if let Some(behind) = rest.strip_prefix(line) {
-            return behind;
-        }
-    }
-    &[]
+/// A put that finds no room, a deletion, and the same put, by one of two workers; and the same with
+/// a deletion by the other worker, in a run of its own.
+const ROOM_AGAIN: &str = "
+$ format h 2
+> formatted 2 bytes 147904
+$ run h --workers 1 --sum
+<0 0 14312
+<0 1 14312
+<0 8 14312
+<0 9 14312
+<
+> requests 4 ok 4 none 0 value 0 full 0 unanswered 0
+> run closed
+> heap 2 clean
+> keys 4 bytes 57248
+> held 1024 2
+> held 14336 4
+$ run h --workers 2 --sum
+< get 3
+<0 16 14312
+< del 0
+<0 16 14312
+<
+> requests 4 ok 2 none 1 value 0 full 1 unanswered 0
+> run closed
+> heap 2 clean
+> keys 4 bytes 57248
+> held 1024 2
+> held 14336 4
+$ run h --workers 2 --sum
+<0 0 14312
+<
+> requests 1 ok 0 none 0 value 0 full 1 unanswered 0
+> run closed
+> heap 2 clean
+> keys 4 bytes 57248
+> held 1024 2
+> held 14336 4
+$ run h --workers 2 --sum
+< del 1
+< get 4
+<
+> requests 2 ok 1 none 1 value 0 full 0 unanswered 0
+> run closed
+> heap 2 clean
+> keys 3 bytes 42936
+> held 1024 2
+> held 14336 3
+$ run h --workers 2 --sum
+<0 0 14312
+<
+> requests 1 ok 1 none 0 value 0 full 0 unanswered 0
+> run closed
+> heap 2 clean
+> keys 4 bytes 57248
+> held 1024 2
+> held 14336 4
+";
+
+#[test]
+fn a_put_finds_the_room_of_a_deletion(rt: HostRuntime) {
+    play(&rt, &mut store(rt.alloc()), ROOM_AGAIN);
 }
 
-/// Puts of values of which a superblock has room for four, two to each of four shards.
-fn large_puts(alloc: Global) -> Result<String, AllocError> {
-    let mut trace = String::new(alloc);
-    for key in ["0", "1", "2", "3", "8", "9", "10", "11"] {
-        trace.push_str("put ")?;
-        trace.push_str(key)?;
-        trace.push_str(" ")?;
-        for _ in 0..14_312 {
-            trace.push_str("ab")?;
-        }
-        trace.push_str("\n")?;
-    }
-    Ok(trace)
-}
+/// Runs over one heap, each with its options and its requests. What a stopped one was asked for is
+/// asked once more by the next number of workers.
+const CHAIN: &str = "
+1: put 0 aa, put 1 bb, put 2 cc, put 11 dd, put 20 ee
+8 --stop 9000: put 0 -, del 1, put 3 0102, put 4 ff, put 14 03, del 20, put 7 04, put 9 05
+2: put 0 -, del 1, put 3 0102, put 4 ff, put 14 03, del 20, put 7 04, put 9 05, put 12 06
+4 --stop 3000: del 2, put 1 07, put 3 -, put 12 08, del 7, put 18446744073709551615 09
+3: del 2, put 1 07, put 3 -, put 12 08, del 7, put 18446744073709551615 09, del 11, put 8 0a";
 
-/// What a run of these puts by four workers prints.
-fn contended_run(
+/// The map that is left.
+const CHAINED: &str = "
+heap 24 clean
+key 0 -
+key 1 07
+key 3 -
+key 4 ff
+key 8 0a
+key 9 05
+key 12 08
+key 14 03
+key 18446744073709551615 09
+held 32 9
+held 1024 7
+";
+
+/// Makes a run of the chain.
+fn go_on(
     rt: &(impl Abort + AllocGlobal + Threads + Sync),
     images: &mut MapStore,
-) -> Result<Vec<u8>, AllocError> {
-    let trace = large_puts(rt.alloc())?;
-    let (status, printed) = make_plain(rt, images, "run h --workers 4", trace.as_bytes())?;
-    must_hold(rt, status == 0, "it ends with status 0");
-    Ok(printed)
-}
-
-/// Shows the image that is left: the report is that of the run.
-fn is_shown_again(
-    rt: &(impl Abort + AllocGlobal + Threads + Sync),
-    images: &MapStore,
-    report: &[u8],
+    row: &str,
 ) -> Result<(), Fail> {
-    let left = image_in(rt.alloc(), images)?;
-    let report = String::from_utf8(Vec::from_slice(rt.alloc(), report)?).map_err(|_| "no text")?;
-    shows(rt, &left, "show h", 0, &report)
+    let (options, requests) = row.split_once(": ").unwrap_or((row, ""));
+    let line = joined(rt.alloc(), &["run h --workers ", options])?;
+    let trace = requests.replace(rt.alloc(), ", ", "\n")?;
+    let (_, printed) = make_plain(rt, images, &line, trace.as_bytes())?;
+    let printed = String::from_utf8(printed).map_err(|_| "no text")?;
+    let wanted = if options.contains("stop") {
+        "run stopped\n"
+    } else {
+        "run closed\n"
+    };
+    must_hold(rt, printed.contains(wanted), row);
+    Ok(())
 }
 
 #[test]
-fn workers_without_room_are_told_so(rt: HostRuntime) -> Result<(), Fail> {
-    let image = image_bytes(rt.alloc(), "2")?;
-    let mut images = store_with(rt.alloc(), &image, NO_CALL, FailedPut::LeavesOld)?;
-    let printed = contended_run(&rt, &mut images)?;
-    must_hold(
-        &rt,
-        !behind_line(&printed, b"full\n").is_empty(),
-        "some are full",
-    );
-    let report = behind_line(&printed, b"run closed\n");
-    must_hold(&rt, report.starts_with(b"heap 2 clean\n"), "it is closed");
-    is_shown_again(&rt, &images, report)
+fn runs_by_other_numbers_of_workers_follow_one_another(rt: HostRuntime) -> Result<(), Fail> {
+    let mut images = store(rt.alloc());
+    let made = "formatted 24 bytes 1591104\n";
+    runs(&rt, &mut images, "format h 24", b"", 0, made);
+    for row in CHAIN.trim().split('\n') {
+        go_on(&rt, &mut images, row)?;
+    }
+    runs(&rt, &mut images, "show h", b"", 0, CHAINED.trim_start());
+    Ok(())
 }
