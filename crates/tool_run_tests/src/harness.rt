@@ -250,6 +250,15 @@ pub fn word(image: &[u8], place: &str) -> Result<u64, Fail> {
     Ok(bytes.iter().rev().fold(0u64, |word, byte| word.wrapping_mul(256) | u64::from(*byte)))
 }
 
+/// Whether two images have the same words, from the first number of the range up to the second.
+pub fn same_words(one: &[u8], other: &[u8], range: &str) -> Result<bool, Fail> {
+    let (from, to) = range.split_once(' ').ok_or("no range")?;
+    let (from, to) = (number(from)? as usize, number(to)? as usize);
+    let (from, to) = (from.saturating_mul(8), to.saturating_mul(8));
+    let words = one.get(from..to);
+    Ok(words.is_some() && words == other.get(from..to))
+}
+
 /// The worker, of so many, to which a request belongs.
 pub fn worker_of(request: &str, workers: u64) -> u64 {
     shard_of(request).checked_rem(workers).unwrap_or(0)

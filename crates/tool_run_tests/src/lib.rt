@@ -29,6 +29,8 @@ mod seeds;
 #[cfg(test)]
 mod session;
 #[cfg(test)]
+mod shared_stops;
+#[cfg(test)]
 mod shows;
 #[cfg(test)]
 mod stops;

@@ -9,15 +9,35 @@ use std::test::Fail;
 use std::thread::Threads;
 use tool_ports::{Chances, FailedPut, MapStore, OpenGate, SeededChances};
 
+/// How a run is stopped: its line, without the step, and how far the steps that are tried lie apart
+/// behind the first ones.
+#[derive(Clone, Copy)]
+struct Stops {
+    line: &'static str,
+    apart: u64,
+}
+
+/// A run by one worker.
+const BY_ONE: Stops = Stops {
+    line: "run h --workers 1 --stop ",
+    apart: 509,
+};
+
+/// A run by two workers.
+const BY_TWO: Stops = Stops {
+    line: "run h --workers 2 --stop ",
+    apart: 37,
+};
+
 /// A stopped run of a trace over the image of the store: what it prints.
 fn stopped_run<C: Chances>(
     rt: &(impl AllocGlobal + Threads + Sync),
     images: &mut MapStore,
-    trace: &str,
+    (line, trace): (&str, &str),
     budget: u64,
     chances: &mut C,
 ) -> Result<Vec<u8>, AllocError> {
-    let line = numbered(rt.alloc(), "run h --workers 1 --stop ", budget)?;
+    let line = numbered(rt.alloc(), line, budget)?;
     let call = plain(&line, trace.as_bytes());
     Ok(make(rt, call, images, &OpenGate, chances)?.1)
 }
@@ -85,10 +105,11 @@ fn seen_in(printed: &[u8]) -> Result<Seen, Fail> {
 fn seen_at<C: Chances>(
     rt: &(impl AllocGlobal + Threads + Sync),
     images: &mut MapStore,
+    line: &str,
     budget: u64,
     chances: &mut C,
 ) -> Result<Seen, Fail> {
-    let printed = stopped_run(rt, images, "put 0 bb", budget, chances)?;
+    let printed = stopped_run(rt, images, (line, "put 0 bb"), budget, chances)?;
     seen_in(&printed)
 }
 
@@ -96,11 +117,12 @@ fn seen_at<C: Chances>(
 fn stop_put<C: Chances>(
     rt: &(impl Abort + AllocGlobal + Threads + Sync),
     image: &[u8],
+    line: &str,
     budget: u64,
     chances: &mut C,
 ) -> Result<Seen, Fail> {
     let mut images = store_with(rt.alloc(), image, NO_CALL, FailedPut::LeavesOld)?;
-    let seen = seen_at(rt, &mut images, budget, chances)?;
+    let seen = seen_at(rt, &mut images, line, budget, chances)?;
     if seen != Seen::Closed {
         let trace = b"put 0 bb".as_slice();
         runs(rt, &mut images, "run h --workers 1", trace, 0, CLOSED);
@@ -121,8 +143,8 @@ fn may_follow(before: Seen, seen: Seen) -> bool {
 
 /// The next step that is tried: each of so many first ones, and few of those behind, in which a
 /// worker empties its caches.
-fn next_step(budget: u64, each: u64) -> u64 {
-    budget.saturating_add(if budget < each { 1 } else { 509 })
+fn next_step(budget: u64, each: u64, stops: &Stops) -> u64 {
+    budget.saturating_add(if budget < each { 1 } else { stops.apart })
 }
 
 /// Stops the put at one step after the other until it is closed: the old value is there up to some
@@ -130,19 +152,20 @@ fn next_step(budget: u64, each: u64) -> u64 {
 fn replaces_at_one_step<C: Chances>(
     rt: &(impl Abort + AllocGlobal + Threads + Sync),
     image: &[u8],
+    stops: &Stops,
     chances: &mut C,
 ) -> Result<(), Fail> {
     let mut before = Seen::Old;
     let mut budget = 0u64;
     for _ in 0..1_000 {
-        let seen = stop_put(rt, image, budget, chances)?;
+        let seen = stop_put(rt, image, stops.line, budget, chances)?;
         must_hold(rt, may_follow(before, seen), "old, new, answered, closed");
         if seen == Seen::Closed {
             must_hold(rt, 40 < budget, "it takes steps");
             return Ok(());
         }
         before = seen;
-        budget = next_step(budget, 40);
+        budget = next_step(budget, 40, stops);
     }
     Err("it never closes".into())
 }
@@ -150,9 +173,15 @@ fn replaces_at_one_step<C: Chances>(
 #[test]
 fn a_replaced_value_is_old_or_new_at_each_stop(rt: HostRuntime) -> Result<(), Fail> {
     let image = image_after(&rt, "2", "put 0 aa")?;
-    replaces_at_one_step(&rt, &image, &mut ConstantChance(0))?;
-    replaces_at_one_step(&rt, &image, &mut ConstantChance(1))?;
-    replaces_at_one_step(&rt, &image, &mut SeededChances::new())
+    replaces_at_one_step(&rt, &image, &BY_ONE, &mut ConstantChance(0))?;
+    replaces_at_one_step(&rt, &image, &BY_ONE, &mut ConstantChance(1))?;
+    replaces_at_one_step(&rt, &image, &BY_ONE, &mut SeededChances::new())
+}
+
+#[test]
+fn a_value_is_replaced_by_one_of_two_workers(rt: HostRuntime) -> Result<(), Fail> {
+    let image = image_after(&rt, "2", "put 0 aa")?;
+    replaces_at_one_step(&rt, &image, &BY_TWO, &mut ConstantChance(0))
 }
 
 /// How many lines of the text come before the first that begins with `run`, and how many of these
@@ -206,7 +235,7 @@ fn stop_requests(
     budget: u64,
 ) -> Result<(usize, bool), AllocError> {
     let mut chance = ConstantChance(budget);
-    let printed = stopped_run(rt, images, REQUESTS, budget, &mut chance)?;
+    let printed = stopped_run(rt, images, (BY_ONE.line, REQUESTS), budget, &mut chance)?;
     Ok((answered(&printed), printed.ends_with(REPORT)))
 }
 
@@ -232,7 +261,7 @@ fn requests_left_unanswered_are_run_on_what_a_stop_left(rt: HostRuntime) -> Resu
         if go_on(&rt, &image, budget)? {
             return Ok(());
         }
-        budget = next_step(budget, 100);
+        budget = next_step(budget, 100, &BY_ONE);
     }
     Err("it never closes".into())
 }
