@@ -1,6 +1,9 @@
-//! What a seed decides: the value that a put leaves where it is stopped, and the seed that each
-//! command gives its chances.
-use crate::harness::{NO_CALL, image_after, joined, make, must_hold, plain, runs, store_with};
+//! What chance decides: the value that a put leaves where it is stopped, by several seeds; the seed
+//! that each command gives its chances; and the words that a crash leaves with any value.
+use crate::harness::{
+    NO_CALL, image_after, joined, make, must_hold, plain, runs, store_with, word,
+};
+use crate::images::image_bytes;
 use image_text::number;
 use line_memory::ConstantChance;
 use std::alloc::AllocError;
@@ -156,5 +159,65 @@ fn each_command_gives_its_chances_the_seed(rt: HostRuntime) -> Result<(), Fail> 
     for row in SEEDS.trim().split('\n') {
         gives_the_seed(&rt, &image, row)?;
     }
+    Ok(())
+}
+
+/// Chances that give the words of a crash the numbers from 1,000 on.
+#[derive(Drop)]
+struct NumberedWords {
+    given: u64,
+}
+
+impl Chances for NumberedWords {
+    type One = ConstantChance;
+
+    fn seed(&mut self, _: u64) {}
+
+    fn chance(&mut self, _: usize) -> ConstantChance {
+        ConstantChance(0)
+    }
+
+    fn word(&mut self) -> u64 {
+        self.given = self.given.saturating_add(1);
+        self.given.saturating_add(999)
+    }
+}
+
+/// The words of three superblocks that a crash leaves with any value, in their order: the heads of
+/// the lists, and each anchor with its link.
+const ANY_VALUE: &str = "16 17 18 19 20 21 22 23 24 25 26 27 28 29 30 31 32 33 34 35 36 \
+                         anchor:0 link:0 anchor:1 link:1 anchor:2 link:2";
+
+/// A run by two workers, over an empty heap of three superblocks: how many words chance gave.
+fn words_given(
+    rt: &(impl AllocGlobal + Threads + Sync),
+    images: &mut MapStore,
+    line: &str,
+) -> Result<u64, AllocError> {
+    let mut chances = NumberedWords { given: 0 };
+    let call = plain(line, b"put 0 aa\nput 1 bb\n");
+    make(rt, call, images, &OpenGate, &mut chances)?;
+    Ok(chances.given)
+}
+
+/// Asserts that the words of the image are numbered as they were given.
+fn are_numbered(rt: &impl Abort, image: &[u8]) -> Result<(), Fail> {
+    let mut number = 1_000u64;
+    for place in ANY_VALUE.split(' ') {
+        must_hold(rt, word(image, place)? == number, place);
+        number = number.saturating_add(1);
+    }
+    Ok(())
+}
+
+#[test]
+fn chance_gives_the_words_of_a_crash_in_their_order(rt: HostRuntime) -> Result<(), Fail> {
+    let image = image_bytes(rt.alloc(), "3")?;
+    let mut images = store_with(rt.alloc(), &image, NO_CALL, FailedPut::LeavesOld)?;
+    let given = words_given(&rt, &mut images, "run h --workers 2 --stop 9")?;
+    must_hold(&rt, given == 27, "a word for each");
+    are_numbered(&rt, images.image("h").unwrap_or(&[]))?;
+    let given = words_given(&rt, &mut images, "run h --workers 2")?;
+    must_hold(&rt, given == 0, "a close asks for none");
     Ok(())
 }
