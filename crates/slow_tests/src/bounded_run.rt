@@ -1,4 +1,5 @@
-//! A long trace, run without a bound on its steps and with one that it does not come to.
+//! A long trace, run by one worker and by eight, without a bound on its steps and with one that it
+//! does not come to.
 use crate::calls::{image_made, make, must_hold, store_with};
 use line_memory::ConstantChance;
 use std::alloc::{AllocError, Global};
@@ -29,7 +30,7 @@ fn run_twice(
 ) -> Result<(Vec<u8>, Vec<u8>), Fail> {
     let mut images = store_with(rt.alloc(), &image_made(rt, "format h 256")?)?;
     let first = printed_by(rt, &mut images, line, trace)?;
-    let second = printed_by(rt, &mut images, "run h --workers 1", trace)?;
+    let second = printed_by(rt, &mut images, line, trace)?;
     Ok((first, second))
 }
 
@@ -40,12 +41,22 @@ fn made_trace(rt: &(impl AllocGlobal + Threads + Sync), line: &str) -> Result<Ve
     Ok(make(rt, line, Vec::new(rt.alloc()), &mut none, chance)?.1)
 }
 
+/// The runs that print the same.
+const RUNS: [&str; 3] = [
+    "run h --workers 8",
+    "run h --workers 1 --stop 268435456",
+    "run h --workers 8 --stop 268435456",
+];
+
 #[test]
-fn a_long_trace_gives_the_same_within_its_bound(rt: HostRuntime) -> Result<(), Fail> {
+fn a_long_trace_gives_the_same_by_any_workers_within_its_bound(
+    rt: HostRuntime,
+) -> Result<(), Fail> {
     let trace = made_trace(&rt, "gen 20000 7")?;
-    let free = run_twice(&rt, "run h --workers 1", &trace)?;
-    let bounded = run_twice(&rt, "run h --workers 1 --stop 268435456", &trace)?;
-    must_hold(&rt, free == bounded, "the same");
-    must_hold(&rt, 100_000 < free.0.len(), "it is long");
+    let wanted = run_twice(&rt, "run h --workers 1", &trace)?;
+    for line in RUNS {
+        must_hold(&rt, run_twice(&rt, line, &trace)? == wanted, line);
+    }
+    must_hold(&rt, 100_000 < wanted.0.len(), "it is long");
     Ok(())
 }
