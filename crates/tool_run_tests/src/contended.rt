@@ -11,8 +11,8 @@ use std::test::Fail;
 use std::thread::Threads;
 use tool_ports::{FailedPut, MapStore};
 
-/// Runs over empty heaps of so many superblocks, by so many workers. The last number is how many puts
-/// find no room at least.
+/// Runs over empty heaps of so many superblocks, by so many workers. The last number is how many
+/// puts find no room at least.
 const RUNS: &str = "
 @ 2 4 4
 <0 0 14312

@@ -20,12 +20,12 @@ struct Recorder {
     wrong: AtomicU64,
 }
 
-/// What is kept of a request before which the gate was told of it by this worker, and behind which
-/// it was.
+/// What is kept of a request once this worker told of it before it.
 fn before(worker: usize) -> u64 {
     (worker as u64).saturating_mul(2).saturating_add(1)
 }
 
+/// What is kept of a request once this worker told of it behind it too.
 fn behind(worker: usize) -> u64 {
     before(worker).saturating_add(1)
 }

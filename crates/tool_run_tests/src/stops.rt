@@ -23,7 +23,7 @@ const BY_ONE: Stops = Stops {
     apart: 509,
 };
 
-/// A run by two workers.
+/// A run by two workers, of which the second has no request here and so takes no step.
 const BY_TWO: Stops = Stops {
     line: "run h --workers 2 --stop ",
     apart: 37,
