@@ -219,7 +219,7 @@ fn a_put_finds_the_room_of_a_deletion(rt: HostRuntime) {
 /// asked once more by the next number of workers.
 const CHAIN: &str = "
 1: put 0 aa, put 1 bb, put 2 cc, put 11 dd, put 20 ee
-8 --stop 9000: put 0 -, del 1, put 3 0102, put 4 ff, put 14 03, del 20, put 7 04, put 9 05
+8 --stop 3000: put 0 -, del 1, put 3 0102, put 4 ff, put 14 03, del 20, put 7 04, put 9 05
 2: put 0 -, del 1, put 3 0102, put 4 ff, put 14 03, del 20, put 7 04, put 9 05, put 12 06
 4 --stop 3000: del 2, put 1 07, put 3 -, put 12 08, del 7, put 18446744073709551615 09
 3: del 2, put 1 07, put 3 -, put 12 08, del 7, put 18446744073709551615 09, del 11, put 8 0a";
