@@ -8,7 +8,7 @@ use Rattle.clap.specs.declared.builder.command.Command.{Command}
 use Rattle.clap.specs.declared.parser.matches.ArgMatches.{ArgMatches}
 use Rattle.clap.specs.declared.parser.matches.Found.{Found}
 use Rattle.clap.proofs.WalkLemmas.{one_text-rows, first_value-rows}
-use Rattle.tool_command.specs.Command.{format_image, show_image, drain_image, gen_trace, run_image, rebuild_image, replay_image, texts, AsksToFormat, AsksToShow, AsksToDrain, AsksToGen, AsksToRun, AsksToRebuild, AsksToReplay, IsUsage}
+use Rattle.tool_command.specs.Command.{format_image, show_image, drain_image, gen_trace, run_image, rebuild_image, replay_image, conservative_image, texts, AsksToFormat, AsksToShow, AsksToDrain, AsksToGen, AsksToRun, AsksToRebuild, AsksToReplay, AsksToRecoverConservatively, IsUsage}
 use Rattle.image_run.specs.Running.{Options}
 use Rattle.tool_command.proofs.OneCommandLemmas.{first_word, letters, one_text_given, one_number, one_number_or, one_flag}
 use Rattle.tool_command.specs.CommandLine.{IsTaken, IsMatchedBy, HasText, HasNumber, HasNumberOr, HasFlag}
@@ -99,8 +99,8 @@ usage_format words first none (format_image image n) asks = none image n asks
 usage_format words first none other asks = other_name words _ _ first (first_word words other asks) (λ e. omega (arith, first_letters _ _ e))
 
 pub usage_show : (words : List (List ℕ)) → slice_get words 0 ≡ Some (codes "show")
-    → ((image : List ℕ) (flag : Bool) → AsksToShow words image flag → ⊥) → IsUsage words
-usage_show words first none (show_image image flag) asks = none image flag asks
+    → ((image : List ℕ) (with_map in_parallel : Bool) → AsksToShow words image with_map in_parallel → ⊥) → IsUsage words
+usage_show words first none (show_image image with_map in_parallel) asks = none image with_map in_parallel asks
 usage_show words first none other asks = other_name words _ _ first (first_word words other asks) (λ e. omega (arith, first_letters _ _ e))
 
 pub usage_drain : (words : List (List ℕ)) → slice_get words 0 ≡ Some (codes "drain")
@@ -128,16 +128,22 @@ pub usage_replay : (words : List (List ℕ)) → slice_get words 0 ≡ Some (cod
 usage_replay words first none (replay_image image seed) asks = none image seed asks
 usage_replay words first none other asks = other_name words _ _ first (first_word words other asks) (λ e. omega (arith, first_letters _ _ e))
 
+pub usage_conservative : (words : List (List ℕ)) → slice_get words 0 ≡ Some (codes "conservative")
+    → ((image : List ℕ) (with_map : Bool) → AsksToRecoverConservatively words image with_map → ⊥) → IsUsage words
+usage_conservative words first none (conservative_image image with_map) asks = none image with_map asks
+usage_conservative words first none other asks = other_name words _ _ first (first_word words other asks) (λ e. omega (arith, first_letters _ _ e))
+
 -- a word that names no command asks for none
 pub usage_other : (words : List (List ℕ)) (word : List ℕ) → slice_get words 0 ≡ Some word
-    → (word ≡ codes "format" → ⊥) → (word ≡ codes "show" → ⊥) → (word ≡ codes "drain" → ⊥) → (word ≡ codes "gen" → ⊥) → (word ≡ codes "run" → ⊥) → (word ≡ codes "rebuild" → ⊥) → (word ≡ codes "replay" → ⊥) → IsUsage words
-usage_other words word first format show drain gen run rebuild replay (format_image image n) asks = other_name words _ _ first asks.taken.named format
-usage_other words word first format show drain gen run rebuild replay (show_image image flag) asks = other_name words _ _ first asks.taken.named show
-usage_other words word first format show drain gen run rebuild replay (drain_image image n) asks = other_name words _ _ first asks.taken.named drain
-usage_other words word first format show drain gen run rebuild replay (gen_trace requests seed) asks = other_name words _ _ first asks.taken.named gen
-usage_other words word first format show drain gen run rebuild replay (run_image image options) asks = other_name words _ _ first asks.taken.named run
-usage_other words word first format show drain gen run rebuild replay (rebuild_image image budget seed) asks = other_name words _ _ first asks.taken.named rebuild
-usage_other words word first format show drain gen run rebuild replay (replay_image image seed) asks = other_name words _ _ first asks.taken.named replay
+    → (word ≡ codes "format" → ⊥) → (word ≡ codes "show" → ⊥) → (word ≡ codes "drain" → ⊥) → (word ≡ codes "gen" → ⊥) → (word ≡ codes "run" → ⊥) → (word ≡ codes "rebuild" → ⊥) → (word ≡ codes "replay" → ⊥) → (word ≡ codes "conservative" → ⊥) → IsUsage words
+usage_other words word first format show drain gen run rebuild replay conservative (format_image image n) asks = other_name words _ _ first asks.taken.named format
+usage_other words word first format show drain gen run rebuild replay conservative (show_image image with_map in_parallel) asks = other_name words _ _ first asks.taken.named show
+usage_other words word first format show drain gen run rebuild replay conservative (drain_image image n) asks = other_name words _ _ first asks.taken.named drain
+usage_other words word first format show drain gen run rebuild replay conservative (gen_trace requests seed) asks = other_name words _ _ first asks.taken.named gen
+usage_other words word first format show drain gen run rebuild replay conservative (run_image image options) asks = other_name words _ _ first asks.taken.named run
+usage_other words word first format show drain gen run rebuild replay conservative (rebuild_image image budget seed) asks = other_name words _ _ first asks.taken.named rebuild
+usage_other words word first format show drain gen run rebuild replay conservative (replay_image image seed) asks = other_name words _ _ first asks.taken.named replay
+usage_other words word first format show drain gen run rebuild replay conservative (conservative_image image with_map) asks = other_name words _ _ first asks.taken.named conservative
 
 no_name : (words : List (List ℕ)) (name : List ℕ) → words ≡ [] → slice_get words 0 ≡ Some name → ⊥
 no_name words name none first =

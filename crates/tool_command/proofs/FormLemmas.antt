@@ -1,4 +1,4 @@
--- Words in a form ask for its command: clap finds no fault in them, and its matches are the texts and numbers that they write. Here the forms with one option at most.
+-- Words in a form ask for its command: clap finds no fault in them, and its matches are the texts and numbers that they write. Here the forms with no option's number but a seed.
 use Rattle.std.proofs.Common.{◌≡◌, ◌∙◌, ◌≤◌, ◌<◌, ◌+◌, ◌-◌, ◌^◌, ℕ, Bool, true, false, List, [], ◌∷◌, ◌++◌, codes, Option, Some, None, refl, sym, ap, subst, min, true≢false, slice_index, inl, inr, arith}
 use Rattle.std.specs.Prelude.{decimal, unwrap_or, option_map, if◌then◌else◌, slice_get}
 use Rattle.clap.specs.Lexer.{usize_max}
@@ -11,9 +11,9 @@ use Rattle.heap_model.specs.Geometry.{largest_capacity_fits}
 use Rattle.super_block.proofs.ConstantLemmas.{largest_capacity_is}
 use Rattle.super_block.specs.declared.layout.TheConstants.{LARGEST_CAPACITY, LAST_CLASS}
 use Rattle.tool_command.specs.declared.trace_plan.TheConstants.{MOST_REQUESTS, GREATEST_SEED}
-use Rattle.tool_command.specs.CommandLine.{format_app, show_app, drain_app, gen_app, replay_app, image_id, capacity_id, class_id, map_id, requests_id, trace_seed_id, seed_id, word_rule, number_rule, option_rule, needed_option_rule, flag_rule, HasNumber, HasNumberOr, HasFlag, IsTaken}
-use Rattle.tool_command.specs.Command.{AsksToFormat, AsksToShow, AsksToDrain, AsksToGen, AsksToReplay}
-use Rattle.tool_command.specs.Forms.{IsImageWord, IsFormatForm, IsShowForm, IsDrainForm, IsGenForm, IsReplayForm, number_words, flag_words}
+use Rattle.tool_command.specs.CommandLine.{format_app, show_app, drain_app, gen_app, replay_app, conservative_app, image_id, capacity_id, class_id, map_id, requests_id, trace_seed_id, seed_id, par_id, word_rule, number_rule, option_rule, needed_option_rule, flag_rule, HasNumber, HasNumberOr, HasFlag, IsTaken}
+use Rattle.tool_command.specs.Command.{AsksToFormat, AsksToShow, AsksToDrain, AsksToGen, AsksToReplay, AsksToRecoverConservatively}
+use Rattle.tool_command.specs.Forms.{IsImageWord, IsFormatForm, IsShowForm, IsDrainForm, IsGenForm, IsReplayForm, IsConservativeForm, number_words, flag_words}
 use Rattle.tool_command.proofs.WalkingLemmas.{IsPositional, IsOption, IsFlag, Fits, Given, in_place, by_name, alone_by_name, words_of, AreTaken, are_new, ended, rows_with, no_fault, matches_are, text_is_plain, number_is_plain, number_is_read, number_passes}
 
 -- ---- arguments, and what they take
@@ -192,41 +192,83 @@ gen_asks words requests seed form =
       small = form.small;
     }
 
--- ---- 'show IMAGE [--map]'
+-- ---- 'show IMAGE [--map] [--par]' and 'conservative IMAGE [--map]'
 
 abbrev pub map_given : Bool → List Given
 map_given = flag_given (filled (flag_rule map_id)) (codes "--map") map_id
 
-abbrev show_given : Text → Bool → List Given
-show_given image with_map = image_given image ∷ (map_given with_map ++ [])
+abbrev par_given : Bool → List Given
+par_given = flag_given (filled (flag_rule par_id)) (codes "--par") par_id
 
-abbrev show_rows : Text → Bool → List Row
-show_rows image with_map = ended (built show_app).top (show_given image with_map)
+abbrev show_given : Text → Bool → Bool → List Given
+show_given image with_map in_parallel = image_given image ∷ (map_given with_map ++ (par_given in_parallel ++ []))
 
-show_whole : (image : Text) (with_map : Bool) → IsWhole show_app (show_given image with_map) (image ∷ flag_words (codes "--map") with_map)
+abbrev show_rows : Text → Bool → Bool → List Row
+show_rows image with_map in_parallel = ended (built show_app).top (show_given image with_map in_parallel)
+
+show_whole : (image : Text) (with_map in_parallel : Bool) → IsWhole show_app (show_given image with_map in_parallel) (image ∷ (flag_words (codes "--map") with_map ++ flag_words (codes "--par") in_parallel))
 unfolding defaults_fault
-show_whole image true = record { words_are = refl; new = refl; defaults = refl; checks = refl }
-show_whole image false = record { words_are = refl; new = refl; defaults = refl; checks = refl }
+show_whole image true true = record { words_are = refl; new = refl; defaults = refl; checks = refl }
+show_whole image true false = record { words_are = refl; new = refl; defaults = refl; checks = refl }
+show_whole image false true = record { words_are = refl; new = refl; defaults = refl; checks = refl }
+show_whole image false false = record { words_are = refl; new = refl; defaults = refl; checks = refl }
 
-show_found : (image : Text) (with_map : Bool) → (first_of image_id (show_rows image with_map) ≡ Some image) × (first_of map_id (show_rows image with_map) ≡ Some (bool_text with_map))
-show_found image true = (refl, refl)
-show_found image false = (refl, refl)
+show_found : (image : Text) (with_map in_parallel : Bool) → (first_of image_id (show_rows image with_map in_parallel) ≡ Some image)
+    × (first_of map_id (show_rows image with_map in_parallel) ≡ Some (bool_text with_map)) × (first_of par_id (show_rows image with_map in_parallel) ≡ Some (bool_text in_parallel))
+show_found image true true = (refl, refl, refl)
+show_found image true false = (refl, refl, refl)
+show_found image false true = (refl, refl, refl)
+show_found image false false = (refl, refl, refl)
 
-pub show_asks : (words : List Text) (image : Text) (with_map : Bool) → IsShowForm words image with_map → AsksToShow words image with_map
-show_asks words image with_map form =
+pub show_asks : (words : List Text) (image : Text) (with_map in_parallel : Bool) → IsShowForm words image with_map in_parallel → AsksToShow words image with_map in_parallel
+show_asks words image with_map in_parallel form =
     let s = (built show_app).top in
-    let given = show_given image with_map in
-    let rest = image ∷ flag_words (codes "--map") with_map in
+    let given = show_given image with_map in_parallel in
+    let rest = image ∷ (flag_words (codes "--map") with_map ++ flag_words (codes "--par") in_parallel) in
     let plain : IsPlainApp show_app = record { leaf = refl; binary = refl } in
-    let found = show_found image with_map in
-    let flag = flag_taken s 2 map_id (codes "--map") with_map [] (record { dashes = refl; long = refl; here = refl; bare = refl }) tt in
-    let taken = image_taken s image (map_given with_map ++ []) (record { here = refl; found = refl; single = refl; once = refl; closed = refl }) form.named flag in
-    let whole = show_whole image with_map in
+    let found = show_found image with_map in_parallel in
+    let par_taken = flag_taken s 2 par_id (codes "--par") in_parallel [] (record { dashes = refl; long = refl; here = refl; bare = refl }) tt in
+    let map_taken = flag_taken s 2 map_id (codes "--map") with_map (par_given in_parallel ++ []) (record { dashes = refl; long = refl; here = refl; bare = refl }) par_taken in
+    let taken = image_taken s image (map_given with_map ++ (par_given in_parallel ++ [])) (record { here = refl; found = refl; single = refl; once = refl; closed = refl }) form.named map_taken in
+    let whole = show_whole image with_map in_parallel in
     let matches = matched show_app given words rest plain form.words_are whole taken in
     record {
       taken = is_taken show_app given words rest plain form.words_are whole taken;
       named = ap (first_of image_id) matches ∙ found.0;
-      flagged = flag_found (matches_of show_app words) map_id with_map (ap (first_of map_id) matches ∙ found.1);
+      mapped = flag_found (matches_of show_app words) map_id with_map (ap (first_of map_id) matches ∙ found.1);
+      parallel = flag_found (matches_of show_app words) par_id in_parallel (ap (first_of par_id) matches ∙ found.2);
+    }
+
+abbrev conservative_given : Text → Bool → List Given
+conservative_given image with_map = image_given image ∷ (map_given with_map ++ [])
+
+abbrev conservative_rows : Text → Bool → List Row
+conservative_rows image with_map = ended (built conservative_app).top (conservative_given image with_map)
+
+conservative_whole : (image : Text) (with_map : Bool) → IsWhole conservative_app (conservative_given image with_map) (image ∷ flag_words (codes "--map") with_map)
+unfolding defaults_fault
+conservative_whole image true = record { words_are = refl; new = refl; defaults = refl; checks = refl }
+conservative_whole image false = record { words_are = refl; new = refl; defaults = refl; checks = refl }
+
+conservative_found : (image : Text) (with_map : Bool) → (first_of image_id (conservative_rows image with_map) ≡ Some image) × (first_of map_id (conservative_rows image with_map) ≡ Some (bool_text with_map))
+conservative_found image true = (refl, refl)
+conservative_found image false = (refl, refl)
+
+pub conservative_asks : (words : List Text) (image : Text) (with_map : Bool) → IsConservativeForm words image with_map → AsksToRecoverConservatively words image with_map
+conservative_asks words image with_map form =
+    let s = (built conservative_app).top in
+    let given = conservative_given image with_map in
+    let rest = image ∷ flag_words (codes "--map") with_map in
+    let plain : IsPlainApp conservative_app = record { leaf = refl; binary = refl } in
+    let found = conservative_found image with_map in
+    let flag = flag_taken s 2 map_id (codes "--map") with_map [] (record { dashes = refl; long = refl; here = refl; bare = refl }) tt in
+    let taken = image_taken s image (map_given with_map ++ []) (record { here = refl; found = refl; single = refl; once = refl; closed = refl }) form.named flag in
+    let whole = conservative_whole image with_map in
+    let matches = matched conservative_app given words rest plain form.words_are whole taken in
+    record {
+      taken = is_taken conservative_app given words rest plain form.words_are whole taken;
+      named = ap (first_of image_id) matches ∙ found.0;
+      mapped = flag_found (matches_of conservative_app words) map_id with_map (ap (first_of map_id) matches ∙ found.1);
     }
 
 -- ---- 'replay IMAGE [--seed X]'

@@ -6,8 +6,8 @@ use Rattle.std.proofs.Common.{◌∙◌, sym, ap, inl, inr, bytes_eq, arith}
 use Rattle.clap.specs.Walk.{row_text}
 use Rattle.clap.specs.Words.{Row, matches_of, first_of, one_of, read_as}
 use Rattle.image_run.specs.declared.options.TheConstants.{MOST_BUDGET}
-use Rattle.tool_command.specs.Command.{Command, Asks, format_image, show_image, drain_image, gen_trace, run_image, rebuild_image, replay_image}
-use Rattle.tool_command.specs.CommandLine.{format_app, drain_app, show_app, gen_app, run_app, rebuild_app, replay_app, image_id, capacity_id, class_id, map_id, requests_id, trace_seed_id, workers_id, stop_id, seed_id, sum_id, HasText, HasNumber, HasNumberOr, HasFlag}
+use Rattle.tool_command.specs.Command.{Command, Asks, format_image, show_image, drain_image, gen_trace, run_image, rebuild_image, replay_image, conservative_image}
+use Rattle.tool_command.specs.CommandLine.{format_app, drain_app, show_app, gen_app, run_app, rebuild_app, replay_app, conservative_app, image_id, capacity_id, class_id, map_id, requests_id, trace_seed_id, workers_id, stop_id, seed_id, sum_id, par_id, HasText, HasNumber, HasNumberOr, HasFlag}
 
 -- one number is written
 pub one_number : (rows : List Row) (id : List ℕ) (n m : ℕ) → HasNumber rows id n → HasNumber rows id m → n ≡ m
@@ -45,22 +45,24 @@ one_flag rows id false false has also = refl
 -- the word that names a command
 abbrev pub name_of : Command → List ℕ
 name_of (format_image image capacity) = codes "format"
-name_of (show_image image with_map) = codes "show"
+name_of (show_image image with_map in_parallel) = codes "show"
 name_of (drain_image image class) = codes "drain"
 name_of (gen_trace requests seed) = codes "gen"
 name_of (run_image image options) = codes "run"
 name_of (rebuild_image image budget seed) = codes "rebuild"
 name_of (replay_image image seed) = codes "replay"
+name_of (conservative_image image with_map) = codes "conservative"
 
 -- it is the first word
 pub first_word : (words : List (List ℕ)) (command : Command) → Asks words command → slice_get words 0 ≡ Some (name_of command)
 first_word words (format_image image capacity) asks = asks.taken.named
-first_word words (show_image image with_map) asks = asks.taken.named
+first_word words (show_image image with_map in_parallel) asks = asks.taken.named
 first_word words (drain_image image class) asks = asks.taken.named
 first_word words (gen_trace requests seed) asks = asks.taken.named
 first_word words (run_image image options) asks = asks.taken.named
 first_word words (rebuild_image image budget seed) asks = asks.taken.named
 first_word words (replay_image image seed) asks = asks.taken.named
+first_word words (conservative_image image with_map) asks = asks.taken.named
 
 -- the first three letters of a name tell it
 abbrev pub letters : List ℕ → ℕ
@@ -80,9 +82,10 @@ one_command words (drain_image image class) (drain_image other number) asks also
     let named = one_text_given (matches_of drain_app words) image_id image other asks.named also.named in
     let counted = one_number (matches_of drain_app words) class_id class number asks.counted also.counted in
     cc
-one_command words (show_image image flag) (show_image other set) asks also =
+one_command words (show_image image with_map in_parallel) (show_image other map parallel) asks also =
     let named = one_text_given (matches_of show_app words) image_id image other asks.named also.named in
-    let flagged = one_flag (matches_of show_app words) map_id flag set asks.flagged also.flagged in
+    let mapped = one_flag (matches_of show_app words) map_id with_map map asks.mapped also.mapped in
+    let parallel = one_flag (matches_of show_app words) par_id in_parallel parallel asks.parallel also.parallel in
     cc
 one_command words (gen_trace requests seed) (gen_trace count other) asks also =
     let counted = one_number (matches_of gen_app words) requests_id requests count asks.counted also.counted in
@@ -105,5 +108,9 @@ one_command words (rebuild_image image budget seed) (rebuild_image other limit b
 one_command words (replay_image image seed) (replay_image other begun) asks also =
     let named = one_text_given (matches_of replay_app words) image_id image other asks.named also.named in
     let seeded = one_number_or (matches_of replay_app words) seed_id 0 seed begun asks.seeded also.seeded in
+    cc
+one_command words (conservative_image image with_map) (conservative_image other map) asks also =
+    let named = one_text_given (matches_of conservative_app words) image_id image other asks.named also.named in
+    let mapped = one_flag (matches_of conservative_app words) map_id with_map map asks.mapped also.mapped in
     cc
 one_command words a b asks also = absurd (omega (arith, one_letter words a b asks also))

@@ -23,8 +23,8 @@ use Rattle.image_run.specs.Running.{Options}
 use Rattle.image_run.specs.declared.options.TheConstants.{MOST_WORKERS, MOST_BUDGET}
 use Rattle.super_block.specs.declared.layout.TheConstants.{LARGEST_CAPACITY, LAST_CLASS}
 use Rattle.tool_command.specs.declared.trace_plan.TheConstants.{MOST_REQUESTS, GREATEST_SEED}
-use Rattle.tool_command.specs.Command.{Command, format_image, show_image, drain_image, gen_trace, run_image, rebuild_image, replay_image, Asks, AsksToFormat, AsksToShow, AsksToDrain, AsksToGen, AsksToRun, AsksToRebuild, AsksToReplay, IsFaultless, IsUsage}
-use Rattle.tool_command.specs.CommandLine.{format_app, show_app, drain_app, gen_app, run_app, rebuild_app, replay_app, image_id, capacity_id, class_id, map_id, requests_id, trace_seed_id, workers_id, stop_id, seed_id, sum_id, option_rule, needed_option_rule, HasNumber, HasNumberOr, HasFlag, HasText, IsTaken}
+use Rattle.tool_command.specs.Command.{Command, format_image, show_image, drain_image, gen_trace, run_image, rebuild_image, replay_image, conservative_image, Asks, AsksToFormat, AsksToShow, AsksToDrain, AsksToGen, AsksToRun, AsksToRebuild, AsksToReplay, AsksToRecoverConservatively, IsFaultless, IsUsage}
+use Rattle.tool_command.specs.CommandLine.{format_app, show_app, drain_app, gen_app, run_app, rebuild_app, replay_app, conservative_app, image_id, capacity_id, class_id, map_id, requests_id, trace_seed_id, workers_id, stop_id, seed_id, sum_id, par_id, option_rule, needed_option_rule, HasNumber, HasNumberOr, HasFlag, HasText, IsTaken}
 use Rattle.tool_command.proofs.FormLemmas.{image_rule, number_at}
 use Rattle.tool_command.proofs.FaultlessLemmas.{AllPass, Passes, AllAlone, IsValued, both_faultless, settle_passes, walk_passes, defaults_pass}
 
@@ -270,11 +270,11 @@ module _ (words : List Text) where
       let capacity = number_given format_app words taken.faultless 1 2 capacity_id 1 LARGEST_CAPACITY refl refl refl in
       (image.0, capacity.number, record { taken = taken; named = image.1; counted = capacity.has; least = capacity.low; most = omega (arith, largest_capacity_is, capacity.high) })
 
-  pub show_asked : IsTaken show_app words → (image : Text) × (with_map : Bool) × AsksToShow words image with_map
+  pub show_asked : IsTaken show_app words → (image : Text) × (with_map in_parallel : Bool) × AsksToShow words image with_map in_parallel
   show_asked taken =
       let rows = matches_of show_app words in
       let image = image_given show_app words taken.faultless refl refl refl in
-      (image.0, flag_in map_id rows, record { taken = taken; named = image.1; flagged = has_flag_in rows map_id })
+      (image.0, flag_in map_id rows, flag_in par_id rows, record { taken = taken; named = image.1; mapped = has_flag_in rows map_id; parallel = has_flag_in rows par_id })
 
   pub drain_asked : IsTaken drain_app words → (image : Text) × (class : ℕ) × AsksToDrain words image class
   drain_asked taken =
@@ -325,29 +325,37 @@ module _ (words : List Text) where
       let seed = option_given_or replay_app words taken.faultless 1 seed_id 0 0 (2 ^ 64 - 1) refl refl (omega arith) (omega arith) (omega arith) in
       (image.0, seed.number, record { taken = taken; named = image.1; seeded = seed.has; fits = seed.fits })
 
+  pub conservative_asked : IsTaken conservative_app words → (image : Text) × (with_map : Bool) × AsksToRecoverConservatively words image with_map
+  conservative_asked taken =
+      let rows = matches_of conservative_app words in
+      let image = image_given conservative_app words taken.faultless refl refl refl in
+      (image.0, flag_in map_id rows, record { taken = taken; named = image.1; mapped = has_flag_in rows map_id })
+
 -- ---- the first word names the command
 
 pub faultless_asks : (words : List Text) → IsFaultless words → (command : Command) × Asks words command
 unfolding IsFaultless
 faultless_asks words faultless = elim faultless [
   | inl taken ↦ let asked = format_asked words taken in (format_image asked.0 asked.1, asked.2)
-  | inr (inl taken) ↦ let asked = show_asked words taken in (show_image asked.0 asked.1, asked.2)
+  | inr (inl taken) ↦ let asked = show_asked words taken in (show_image asked.0 asked.1 asked.2, asked.3)
   | inr (inr (inl taken)) ↦ let asked = drain_asked words taken in (drain_image asked.0 asked.1, asked.2)
   | inr (inr (inr (inl taken))) ↦ let asked = gen_asked words taken in (gen_trace asked.0 asked.1, asked.2)
   | inr (inr (inr (inr (inl taken)))) ↦ let asked = run_asked words taken in (run_image asked.0 asked.1, asked.2)
   | inr (inr (inr (inr (inr (inl taken))))) ↦ let asked = rebuild_asked words taken in (rebuild_image asked.0 asked.1 asked.2, asked.3)
-  | inr (inr (inr (inr (inr (inr taken))))) ↦ let asked = replay_asked words taken in (replay_image asked.0 asked.1, asked.2)
+  | inr (inr (inr (inr (inr (inr (inl taken)))))) ↦ let asked = replay_asked words taken in (replay_image asked.0 asked.1, asked.2)
+  | inr (inr (inr (inr (inr (inr (inr taken)))))) ↦ let asked = conservative_asked words taken in (conservative_image asked.0 asked.1, asked.2)
 ]
 
 pub asks_faultless : (words : List Text) (command : Command) → Asks words command → IsFaultless words
 unfolding IsFaultless
 asks_faultless words (format_image image capacity) asks = inl asks.taken
-asks_faultless words (show_image image with_map) asks = inr (inl asks.taken)
+asks_faultless words (show_image image with_map in_parallel) asks = inr (inl asks.taken)
 asks_faultless words (drain_image image class) asks = inr (inr (inl asks.taken))
 asks_faultless words (gen_trace requests seed) asks = inr (inr (inr (inl asks.taken)))
 asks_faultless words (run_image image options) asks = inr (inr (inr (inr (inl asks.taken))))
 asks_faultless words (rebuild_image image budget seed) asks = inr (inr (inr (inr (inr (inl asks.taken)))))
-asks_faultless words (replay_image image seed) asks = inr (inr (inr (inr (inr (inr asks.taken)))))
+asks_faultless words (replay_image image seed) asks = inr (inr (inr (inr (inr (inr (inl asks.taken))))))
+asks_faultless words (conservative_image image with_map) asks = inr (inr (inr (inr (inr (inr (inr asks.taken))))))
 
 pub usage_faulty : (words : List Text) → IsUsage words → IsFaultless words → ⊥
 usage_faulty words none faultless =

@@ -40,6 +40,9 @@ seed_id = codes "seed"
 abbrev pub sum_id : List ℕ
 sum_id = codes "sum"
 
+abbrev pub par_id : List ℕ
+par_id = codes "par"
+
 -- a word that has to be there
 abbrev pub word_rule : List ℕ → Rule
 word_rule id = record (new_rule id) { required = true }
@@ -64,9 +67,9 @@ flag_rule id = record (new_rule id) { long = Some id; action = Some SetTrue }
 abbrev pub format_app : App
 format_app = with_rule (with_rule (new_app (codes "format")) (word_rule image_id)) (number_rule capacity_id 1 LARGEST_CAPACITY)
 
--- 'show IMAGE [--map]'
+-- 'show IMAGE [--map] [--par]'
 abbrev pub show_app : App
-show_app = with_rule (with_rule (new_app (codes "show")) (word_rule image_id)) (flag_rule map_id)
+show_app = with_rule (with_rule (with_rule (new_app (codes "show")) (word_rule image_id)) (flag_rule map_id)) (flag_rule par_id)
 
 -- 'drain IMAGE CLASS'
 abbrev pub drain_app : App
@@ -96,6 +99,10 @@ rebuild_app = with_limits (with_rule (new_app (codes "rebuild")) (word_rule imag
 -- 'replay IMAGE [--seed X]'
 abbrev pub replay_app : App
 replay_app = with_rule (with_rule (new_app (codes "replay")) (word_rule image_id)) (option_rule seed_id 0 (2 ^ 64 - 1))
+
+-- 'conservative IMAGE [--map]'
+abbrev pub conservative_app : App
+conservative_app = with_rule (with_rule (new_app (codes "conservative")) (word_rule image_id)) (flag_rule map_id)
 
 -- the first word names the command, and clap finds no fault in the words behind it
 pub record IsTaken (app : App) (words : List (List ℕ)) : Type 0 where

@@ -2,12 +2,12 @@
 use Rattle.std.specs.Prelude.{◌≡◌, [], ◌∷◌, codes, true, false, refl}
 use Rattle.std.proofs.Common.{inl, inr, lit<, lit≤}
 use Rattle.clap.specs.Words.{fault_of}
-use Rattle.clap.specs.declared.error.kind.ErrorKind.TheVariants.{ValueValidation, ArgumentConflict, DisplayHelp, MissingRequiredArgument}
+use Rattle.clap.specs.declared.error.kind.ErrorKind.TheVariants.{ValueValidation, ArgumentConflict, DisplayHelp, MissingRequiredArgument, UnknownArgument}
 use Rattle.clap.proofs.OnLiterals.{clap_on_literals}
 use Rattle.heap_model.specs.Geometry.{largest_capacity}
 use Rattle.image_run.specs.declared.options.TheConstants.{MOST_BUDGET}
-use Rattle.tool_command.specs.Command.{Asks, format_image, show_image, drain_image, gen_trace, run_image, rebuild_image, replay_image}
-use Rattle.tool_command.specs.CommandLine.{format_app, drain_app, show_app, gen_app, run_app, rebuild_app, IsNumber}
+use Rattle.tool_command.specs.Command.{Asks, format_image, show_image, drain_image, gen_trace, run_image, rebuild_image, replay_image, conservative_image}
+use Rattle.tool_command.specs.CommandLine.{format_app, drain_app, show_app, gen_app, run_app, rebuild_app, conservative_app, IsNumber}
 
 -- a leading zero changes nothing
 number_one : IsNumber (codes "01") 1
@@ -23,14 +23,33 @@ format_one = record {
   most = lit≤ tt;
 }
 
-show_one : Asks (codes "show" ∷ codes "h" ∷ []) (show_image (codes "h") false)
+show_one : Asks (codes "show" ∷ codes "h" ∷ []) (show_image (codes "h") false false)
 unfolding clap_on_literals
-show_one = record { taken = record { named = refl; faultless = refl }; named = refl; flagged = (λ e. cc, λ e. cc) }
+show_one = record {
+  taken = record { named = refl; faultless = refl };
+  named = refl;
+  mapped = (λ e. cc, λ e. cc);
+  parallel = (λ e. cc, λ e. cc);
+}
 
--- an option stands anywhere behind the command
-show_map : Asks (codes "show" ∷ codes "--map" ∷ codes "h" ∷ []) (show_image (codes "h") true)
+-- options stand anywhere behind the command, in any order
+show_map : Asks (codes "show" ∷ codes "--map" ∷ codes "h" ∷ []) (show_image (codes "h") true false)
 unfolding clap_on_literals
-show_map = record { taken = record { named = refl; faultless = refl }; named = refl; flagged = (λ e. refl, λ e. refl) }
+show_map = record {
+  taken = record { named = refl; faultless = refl };
+  named = refl;
+  mapped = (λ e. refl, λ e. refl);
+  parallel = (λ e. cc, λ e. cc);
+}
+
+show_all : Asks (codes "show" ∷ codes "--par" ∷ codes "h" ∷ codes "--map" ∷ []) (show_image (codes "h") true true)
+unfolding clap_on_literals
+show_all = record {
+  taken = record { named = refl; faultless = refl };
+  named = refl;
+  mapped = (λ e. refl, λ e. refl);
+  parallel = (λ e. refl, λ e. refl);
+}
 
 drain_one : Asks (codes "drain" ∷ codes "h" ∷ codes "01" ∷ []) (drain_image (codes "h") 1)
 unfolding clap_on_literals
@@ -114,6 +133,20 @@ replay_plain = record {
   seeded = inr (refl, refl);
   fits = lit< tt;
 }
+
+-- recovery with no filter
+conservative_plain : Asks (codes "conservative" ∷ codes "h" ∷ []) (conservative_image (codes "h") false)
+unfolding clap_on_literals
+conservative_plain = record { taken = record { named = refl; faultless = refl }; named = refl; mapped = (λ e. cc, λ e. cc) }
+
+conservative_map : Asks (codes "conservative" ∷ codes "--map" ∷ codes "h" ∷ []) (conservative_image (codes "h") true)
+unfolding clap_on_literals
+conservative_map = record { taken = record { named = refl; faultless = refl }; named = refl; mapped = (λ e. refl, λ e. refl) }
+
+-- it has no threads
+conservative_in_parallel : fault_of conservative_app (codes "conservative" ∷ codes "h" ∷ codes "--par" ∷ []) ≡ UnknownArgument ∷ []
+unfolding clap_on_literals
+conservative_in_parallel = refl
 
 -- no number of workers
 workers_missing : fault_of run_app (codes "run" ∷ codes "h" ∷ []) ≡ MissingRequiredArgument ∷ []

@@ -4,7 +4,7 @@ use Rattle.std.specs.Fmt.{digits}
 use Rattle.std.proofs.Common.{arith, lit<, lit≤}
 use Rattle.heap_model.specs.Geometry.{largest_capacity}
 use Rattle.image_run.specs.declared.options.TheConstants.{MOST_BUDGET}
-use Rattle.tool_command.specs.Command.{format_image, show_image, drain_image, gen_trace, run_image, rebuild_image, replay_image}
+use Rattle.tool_command.specs.Command.{format_image, show_image, drain_image, gen_trace, run_image, rebuild_image, replay_image, conservative_image}
 use Rattle.tool_command.specs.Forms.{IsForm, IsImageWord}
 
 named_h : IsImageWord (codes "h")
@@ -14,10 +14,10 @@ format_most : IsForm (codes "format" ∷ codes "h" ∷ codes "4096" ∷ []) (for
 unfolding digits largest_capacity
 format_most = record { words_are = refl; named = named_h; least = lit≤ tt; most = lit≤ tt }
 
-show_without : IsForm (codes "show" ∷ codes "h" ∷ []) (show_image (codes "h") false)
+show_without : IsForm (codes "show" ∷ codes "h" ∷ []) (show_image (codes "h") false false)
 show_without = record { words_are = refl; named = named_h }
 
-show_with : IsForm (codes "show" ∷ codes "h" ∷ codes "--map" ∷ []) (show_image (codes "h") true)
+show_with : IsForm (codes "show" ∷ codes "h" ∷ codes "--map" ∷ codes "--par" ∷ []) (show_image (codes "h") true true)
 show_with = record { words_are = refl; named = named_h }
 
 drain_last : IsForm (codes "drain" ∷ codes "h" ∷ codes "20" ∷ []) (drain_image (codes "h") 20)
@@ -93,6 +93,12 @@ replay_without = record { seed = None; words_are = refl; named = named_h; seeded
 replay_with : IsForm (codes "replay" ∷ codes "h" ∷ codes "--seed" ∷ codes "5" ∷ []) (replay_image (codes "h") 5)
 unfolding digits
 replay_with = record { seed = Some 5; words_are = refl; named = named_h; seeded = refl; fits = lit< tt }
+
+conservative_without : IsForm (codes "conservative" ∷ codes "h" ∷ []) (conservative_image (codes "h") false)
+conservative_without = record { words_are = refl; named = named_h }
+
+conservative_with : IsForm (codes "conservative" ∷ codes "h" ∷ codes "--map" ∷ []) (conservative_image (codes "h") true)
+conservative_with = record { words_are = refl; named = named_h }
 
 -- no image's word: an option, and the empty word
 option_word : IsImageWord (codes "--map") → ⊥

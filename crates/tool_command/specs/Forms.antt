@@ -5,7 +5,7 @@ use Rattle.heap_model.specs.Sizes.{IsClass}
 use Rattle.image_run.specs.Running.{Options}
 use Rattle.image_run.specs.declared.options.TheConstants.{MOST_WORKERS, MOST_BUDGET}
 use Rattle.tool_command.specs.declared.trace_plan.TheConstants.{MOST_REQUESTS, GREATEST_SEED}
-use Rattle.tool_command.specs.Command.{Command, format_image, show_image, drain_image, gen_trace, run_image, rebuild_image, replay_image}
+use Rattle.tool_command.specs.Command.{Command, format_image, show_image, drain_image, gen_trace, run_image, rebuild_image, replay_image, conservative_image}
 
 -- a name that is not empty, and does not begin with a hyphen (45)
 pub record IsImageWord (word : List ℕ) : Type 0 where
@@ -28,9 +28,9 @@ pub record IsFormatForm (words : List (List ℕ)) (image : List ℕ) (capacity :
   pub least : 1 ≤ capacity
   pub most : capacity ≤ largest_capacity
 
--- 'show IMAGE [--map]'
-pub record IsShowForm (words : List (List ℕ)) (image : List ℕ) (with_map : Bool) : Type 0 where
-  pub words_are : words ≡ codes "show" ∷ image ∷ flag_words (codes "--map") with_map
+-- 'show IMAGE [--map] [--par]'
+pub record IsShowForm (words : List (List ℕ)) (image : List ℕ) (with_map in_parallel : Bool) : Type 0 where
+  pub words_are : words ≡ codes "show" ∷ image ∷ (flag_words (codes "--map") with_map ++ flag_words (codes "--par") in_parallel)
   pub named : IsImageWord image
 
 -- 'drain IMAGE CLASS'
@@ -79,12 +79,18 @@ pub record IsReplayForm (words : List (List ℕ)) (image : List ℕ) (chance_see
   pub seeded : chance_seed ≡ unwrap_or seed 0
   pub fits : chance_seed < 2 ^ 64
 
+-- 'conservative IMAGE [--map]'
+pub record IsConservativeForm (words : List (List ℕ)) (image : List ℕ) (with_map : Bool) : Type 0 where
+  pub words_are : words ≡ codes "conservative" ∷ image ∷ flag_words (codes "--map") with_map
+  pub named : IsImageWord image
+
 -- the words are of the form of this command: the parts in the order of the table, numbers in their ranges and without leading zeros
 abbrev pub IsForm : List (List ℕ) → Command → Type 0
 IsForm words (format_image image capacity) = IsFormatForm words image capacity
-IsForm words (show_image image with_map) = IsShowForm words image with_map
+IsForm words (show_image image with_map in_parallel) = IsShowForm words image with_map in_parallel
 IsForm words (drain_image image class) = IsDrainForm words image class
 IsForm words (gen_trace requests seed) = IsGenForm words requests seed
 IsForm words (run_image image options) = IsRunForm words image options
 IsForm words (rebuild_image image budget seed) = IsRebuildForm words image budget seed
 IsForm words (replay_image image seed) = IsReplayForm words image seed
+IsForm words (conservative_image image with_map) = IsConservativeForm words image with_map

@@ -2,12 +2,13 @@
 ghost use Rattle.std.specs.Prelude.{◌≡◌, ◌≢◌, ℕ, List, [], Some, codes, slice_get, IfOk, IsErrOf};
 ghost use Rattle.clap.specs.Words.{fault_of};
 ghost use Rattle.tool_command.specs.Command.{Asks, IsFaultless, IsUsage, texts, image_name};
-ghost use Rattle.tool_command.specs.CommandLine.{format_app, show_app, drain_app, gen_app, run_app, rebuild_app, replay_app, IsTaken, IsMatchedBy};
+ghost use Rattle.tool_command.specs.CommandLine.{format_app, show_app, drain_app, gen_app, run_app, rebuild_app, replay_app, conservative_app, IsTaken, IsMatchedBy};
 ghost use Rattle.tool_command.specs.Invocations.{command_of};
 
 use crate::command_line::{
-    Refusal, drain_command, format_command, gen_command, has_flag, match_words, number_of,
-    number_or, rebuild_command, replay_command, run_command, show_command, text_of,
+    Refusal, conservative_command, drain_command, format_command, gen_command, has_flag,
+    match_words, number_of, number_or, rebuild_command, replay_command, run_command, show_command,
+    text_of,
 };
 use crate::trace_plan::TracePlan;
 use clap::ArgMatches;
@@ -26,6 +27,7 @@ pub enum Invocation<'a> {
     Show {
         image: &'a str,
         with_map: bool,
+        in_parallel: bool,
     },
     Drain {
         image: &'a str,
@@ -47,6 +49,10 @@ pub enum Invocation<'a> {
         image: &'a str,
         seed: u64,
     },
+    Conservative {
+        image: &'a str,
+        with_map: bool,
+    },
 }
 
 impl<'a> Invocation<'a> {
@@ -56,7 +62,11 @@ impl<'a> Invocation<'a> {
     {
         match self {
             Invocation::Format { image, layout: _ } => image,
-            Invocation::Show { image, with_map: _ } => image,
+            Invocation::Show {
+                image,
+                with_map: _,
+                in_parallel: _,
+            } => image,
             Invocation::Drain { image, class: _ } => image,
             Invocation::Gen { plan: _ } => "",
             Invocation::Run { image, options: _ } => image,
@@ -66,6 +76,7 @@ impl<'a> Invocation<'a> {
                 seed: _,
             } => image,
             Invocation::Replay { image, seed: _ } => image,
+            Invocation::Conservative { image, with_map: _ } => image,
         }
     }
 }
@@ -114,6 +125,9 @@ fn parse_command<'a>(
     }
     if command == "replay" {
         return parse_replay(alloc, words);
+    }
+    if command == "conservative" {
+        return parse_conservative(alloc, words);
     }
     Err(Refusal::Usage)
 }
@@ -188,6 +202,16 @@ fn parse_replay<'a>(alloc: Global, words: &'a [String]) -> Result<Invocation<'a>
     Ok(read_replay(&matches))
 }
 
+fn parse_conservative<'a>(alloc: Global, words: &'a [String]) -> Result<Invocation<'a>, Refusal>
+    requires { slice_get (texts words.now) 0 ≡ Some (codes "conservative") }
+    ensures ok { IfOk result (λ invocation. Asks (texts words.entry.now) (command_of invocation)) }
+    ensures err { IsErrOf result Refusal.Usage
+        → fault_of conservative_app (texts words.entry.now) ≢ [] }
+{
+    let matches = match_words(conservative_command(alloc), words)?;
+    Ok(read_conservative(&matches))
+}
+
 // What the matches ask for, of words that clap took as those of the command: each argument that has
 // to be there is, and each number lies in its bounds.
 fn read_format<'a>(matches: &ArgMatches<'a>) -> Invocation<'a>
@@ -209,7 +233,12 @@ fn read_show<'a>(matches: &ArgMatches<'a>) -> Invocation<'a>
 {
     let image = text_of(matches, "IMAGE");
     let with_map = has_flag(matches, "map");
-    Invocation::Show { image, with_map }
+    let in_parallel = has_flag(matches, "par");
+    Invocation::Show {
+        image,
+        with_map,
+        in_parallel,
+    }
 }
 
 fn read_drain<'a>(matches: &ArgMatches<'a>) -> Invocation<'a>
@@ -276,4 +305,15 @@ fn read_replay<'a>(matches: &ArgMatches<'a>) -> Invocation<'a>
     let image = text_of(matches, "IMAGE");
     let seed = number_or(matches, "seed", 0);
     Invocation::Replay { image, seed }
+}
+
+fn read_conservative<'a>(matches: &ArgMatches<'a>) -> Invocation<'a>
+    requires { (words : List (List ℕ)) × IsTaken conservative_app words
+        × IsMatchedBy conservative_app words matches.now }
+    ensures { (words : List (List ℕ)) → IsTaken conservative_app words
+        → IsMatchedBy conservative_app words matches.now → Asks words (command_of result) }
+{
+    let image = text_of(matches, "IMAGE");
+    let with_map = has_flag(matches, "map");
+    Invocation::Conservative { image, with_map }
 }

@@ -4,7 +4,12 @@
 pub const USAGE: &str = "\
 usage: heap_tool COMMAND
   format IMAGE S       put an empty heap of S superblocks of 64 KiB (1 to 4096)
-  show IMAGE [--map]   recover the heap and print a report; with --map its superblocks too
+  show IMAGE [--map] [--par]
+                       recover the heap and print a report; with --map its superblocks too;
+                       with --par by threads, and the same report
+  conservative IMAGE [--map]
+                       recover the heap with no filter: every word that names a block keeps
+                       it; print the report without keys; the image stays as it is
   run IMAGE --workers N [--stop K] [--seed X] [--sum] [--map]
                        work off the requests on standard input, put the heap that is left,
                        and print the replies and a report; N is 1 to 8

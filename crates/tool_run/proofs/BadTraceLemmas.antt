@@ -28,7 +28,7 @@ by_image : (contents : Contents) (name : List ℕ) (options : Options) (get_fail
 by_image contents name options get_failed status Memory has is why = inr (inl is)
 by_image contents name options get_failed status ReadFault has is why = inr (inr is)
 by_image contents name options get_failed status fault has is why =
-    elim (refused (show_image name false) contents (Some []) ⊥ status has (λ never. never) fault is why) as (λ _. IsRefusal status) [
+    elim (refused (show_image name false false) contents (Some []) ⊥ status has (λ never. never) fault is why) as (λ _. IsRefusal status) [
       | inl e ↦ absurd (omega arith)
       | inr e ↦ inr (inl e)
     ]

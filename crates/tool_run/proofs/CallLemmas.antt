@@ -1,16 +1,18 @@
 -- From the contracts of the two steps of a command to the command, and to the status of the call.
-use Rattle.std.proofs.Common.{◌≡◌, ℕ, ◌≤◌, List, Option, Result, Ok, Err, OnOk, IfErr, IsErrOf, inl, inr, refl, sym, ap, ◌∙◌, subst, arith}
+use Rattle.std.proofs.Common.{◌≡◌, ℕ, ◌≤◌, List, Option, Some, Result, Ok, Err, OnOk, IfErr, IsErrOf, inl, inr, refl, sym, ap, ◌∙◌, subst, arith}
 use Rattle.tool_ports.specs.Causes.{Rose}
 use Rattle.tool_ports.specs.Contents.{Contents}
 use Rattle.tool_ports.specs.Calls.{with_get, with_put}
 use Rattle.tool_ports.specs.declared.store_calls.StoreCalls.{StoreCalls}
 use Rattle.tool_run.specs.Calls.{get_limit, with_making, with_putting, with_command, with_status}
-use Rattle.tool_command.specs.Command.{Command, format_image, show_image, drain_image, gen_trace, run_image, rebuild_image, replay_image, image_name}
+use Rattle.tool_command.specs.Command.{Command, format_image, show_image, drain_image, gen_trace, run_image, rebuild_image, replay_image, conservative_image, image_name}
 use Rattle.tool_run.specs.declared.fault.Fault.{Fault}
 use Rattle.tool_run.specs.declared.fault.Fault.TheVariants.{Usage, Memory, ReadFault, WriteFault, Absent, Malformed, Outside, BadShard, BadLine, BadStep, TooLong}
 use Rattle.tool_run.specs.Inside.{DeliveryFails, IsStopped, Refuses, RefusesEither, status_of}
-use Rattle.tool_run.specs.Making.{Makes, GetsImage, PutsBack}
+use Rattle.dict_model.specs.Links.{kind_count}
+use Rattle.tool_run.specs.Making.{Makes, GetsImage, FollowsLinks, PutsBack, kinds_checked}
 use Rattle.tool_run.specs.Outcome.{IsCutOff, while_putting, while_printing}
+use Rattle.tool_run.proofs.FilterLemmas.{follows_gets, follows_checks}
 
 -- a count that rose after an earlier moment rose since then, and before a later one too
 pub rose_since : (before mid now later : ℕ) → before ≤ mid → now ≤ later → Rose mid now → Rose before later
@@ -62,10 +64,24 @@ if_error P Q (Ok x) is next = tt
 if_error P Q (Err e) is next = next e is
 
 -- what a failed recovery is for the command that asked for it
-pub refuses : (command : Command) (name : List ℕ) (contents : Contents) (get_failed : Type 0) (fault cause : Fault) → fault ≡ cause → GetsImage command → image_name command ≡ name
-    → ((other : Command) → GetsImage other → image_name other ≡ name → Refuses other contents get_failed cause) → Refuses command contents get_failed fault
-refuses command name contents get_failed fault cause is gets named why =
-    subst (λ (f : Fault). Refuses command contents get_failed f) (sym is) (why command gets named)
+pub refuses : (command : Command) (name : List ℕ) (contents : Contents) (get_failed : Type 0) (fault cause : Fault) → fault ≡ cause → FollowsLinks command → image_name command ≡ name
+    → ((other : Command) → FollowsLinks other → image_name other ≡ name → Refuses other contents get_failed cause) → Refuses command contents get_failed fault
+refuses command name contents get_failed fault cause is follows named why =
+    subst (λ (f : Fault). Refuses command contents get_failed f) (sym is) (why command follows named)
+
+-- and what a failed get, or a bad header, is for a command that gets the image under this limit
+pub refuses_within : (limit : Option ℕ) (name : List ℕ) (contents : Contents) (get_failed : Type 0) (fault cause : Fault) → fault ≡ cause
+    → ((other : Command) → GetsImage other → kinds_checked other ≡ limit → image_name other ≡ name → Refuses other contents get_failed cause)
+    → (command : Command) → GetsImage command → kinds_checked command ≡ limit → image_name command ≡ name → Refuses command contents get_failed fault
+refuses_within limit name contents get_failed fault cause is why command gets checks named =
+    subst (λ (f : Fault). Refuses command contents get_failed f) (sym is) (why command gets checks named)
+
+-- so for one that follows links
+pub refuses_links : (name : List ℕ) (contents : Contents) (get_failed : Type 0) (fault cause : Fault) → fault ≡ cause
+    → ((other : Command) → GetsImage other → kinds_checked other ≡ Some kind_count → image_name other ≡ name → Refuses other contents get_failed cause)
+    → (command : Command) → FollowsLinks command → image_name command ≡ name → Refuses command contents get_failed fault
+refuses_links name contents get_failed fault cause is why command follows named =
+    refuses_within (Some kind_count) name contents get_failed fault cause is why command (follows_gets command follows) (follows_checks command follows) named
 
 -- a command that was refused has made no more calls than to get its image
 pub calls_refused : (command : Command) (contents : Contents) (left : Option (List ℕ)) (A B : Type 0) (before : StoreCalls) (fault : Fault) → RefusesEither command contents left A B fault
@@ -83,23 +99,25 @@ other_fault result fault other is also differ = differ (cc)
 putting_made : (command : Command) (contents : Contents) (left put : Option (List ℕ)) (text : List ℕ) (before : StoreCalls) → Makes command contents left put text
     → with_putting put (with_making command before) ≡ with_command command before
 putting_made (format_image image capacity) contents left put text before made = ap (λ p. with_putting p before) made.image_is
-putting_made (show_image image with_map) contents left put text before made = ap (λ p. with_putting p (with_get get_limit before)) made.0
+putting_made (show_image image with_map in_parallel) contents left put text before made = ap (λ p. with_putting p (with_get get_limit before)) made.0
 putting_made (drain_image image class) contents left put text before made = ap (λ p. with_putting p (with_get get_limit before)) made.0
 putting_made (gen_trace requests seed) contents left put text before made = ap (λ p. with_putting p before) made.0
 putting_made (run_image image options) contents left put text before made = ap (λ p. with_putting p (with_get get_limit before)) made.put_is
 putting_made (rebuild_image image budget seed) contents left put text before made = ap (λ p. with_putting p (with_get get_limit before)) made.put_is
 putting_made (replay_image image seed) contents left put text before made = ap (λ p. with_putting p (with_get get_limit before)) made.0
+putting_made (conservative_image image with_map) contents left put text before made = ap (λ p. with_putting p (with_get get_limit before)) made.0
 
 -- a command that puts an image back gets once, and puts once where it is carried out
 pub put_back : (command : Command) (before : StoreCalls) → PutsBack command
     → (with_making command before ≡ with_get get_limit before) × (with_command command before ≡ with_put (with_get get_limit before))
 put_back (format_image image capacity) before puts = absurd puts
-put_back (show_image image with_map) before puts = absurd puts
+put_back (show_image image with_map in_parallel) before puts = absurd puts
 put_back (drain_image image class) before puts = absurd puts
 put_back (gen_trace requests seed) before puts = absurd puts
 put_back (run_image image options) before puts = (refl, refl)
 put_back (rebuild_image image budget seed) before puts = (refl, refl)
 put_back (replay_image image seed) before puts = absurd puts
+put_back (conservative_image image with_map) before puts = absurd puts
 
 module _ (command : Command) (contents : Contents) (left image : Option (List ℕ)) (text : List ℕ) (before mid after : StoreCalls) (made : Makes command contents left image text)
     (first : mid ≡ with_making command before) where

@@ -4,13 +4,13 @@ use Rattle.tool_ports.specs.Contents.{Contents}
 use Rattle.tool_run.specs.Making.{image_in}
 use Rattle.dict_model.specs.Shards.{BadShard as IsBadShard}
 use Rattle.dict_model.proofs.ShardLemmas.{no_bad_shard}
-use Rattle.tool_command.specs.Command.{Command, format_image, show_image, drain_image, gen_trace, run_image, rebuild_image, replay_image, image_name, Asks}
+use Rattle.tool_command.specs.Command.{Command, format_image, show_image, drain_image, gen_trace, run_image, rebuild_image, replay_image, conservative_image, image_name, Asks}
 use Rattle.tool_run.specs.declared.fault.Fault.{Fault}
 use Rattle.tool_run.specs.declared.fault.Fault.TheVariants.{Usage, Memory, ReadFault, WriteFault, Absent, Malformed, Outside, BadShard, BadLine, BadStep, TooLong}
 use Rattle.tool_command.proofs.OneCommandLemmas.{one_command}
 use Rattle.tool_run.specs.Inside.{Refuses, IsTraceFault, IsReplayFault, DeliveryFails, IsStopped, status_of}
-use Rattle.tool_run.specs.Making.{GetsImage, Reads, RunsATrace, ReplaysASchedule, ReadsSource, PointsOutside, HasBadStep, HasTooMuch, fault_of, longest_trace}
-use Rattle.tool_run.specs.Outcome.{HoldsGood, HoldsMaps, HoldsTrace, HoldsSchedule, HoldsReplay, CanBeDone, IsCutOff, while_putting, while_printing}
+use Rattle.tool_run.specs.Making.{GetsImage, FollowsLinks, kinds_checked, Reads, RunsATrace, ReplaysASchedule, ReadsSource, PointsOutside, HasBadStep, HasTooMuch, fault_within, longest_trace}
+use Rattle.tool_run.specs.Outcome.{HoldsFormed, HoldsGood, HoldsMaps, HoldsTrace, HoldsSchedule, HoldsReplay, CanBeDone, IsCutOff, while_putting, while_printing}
 use Rattle.tool_run.specs.Status.{done, out_of_memory}
 use Rattle.trace_text.specs.Trace.{lines_of, AreLines}
 use Rattle.trace_text.specs.Schedule.{IsSchedule}
@@ -20,41 +20,55 @@ use Rattle.tool_run.proofs.OutsideLemmas.{of_told, same_bytes}
 use Rattle.tool_run.proofs.TraceLemmas.{of_left}
 
 -- what the store has for such a command
-good_of : (command : Command) (contents : Contents) (left : Option (List ℕ)) → GetsImage command → CanBeDone command contents left → HoldsGood contents (image_name command)
-good_of (format_image image capacity) contents left gets can = absurd gets
-good_of (show_image image with_map) contents left gets can = record { bytes = can.bytes; held = can.held; good = can.good; inside = can.inside }
-good_of (drain_image image class) contents left gets can = can
-good_of (gen_trace requests seed) contents left gets can = absurd gets
-good_of (rebuild_image image budget seed) contents left gets can = can
-good_of (replay_image image seed) contents left gets can = can.image
-good_of (run_image image options) contents left gets can = record { bytes = can.0.bytes; held = can.0.held; good = can.0.good; inside = can.0.inside }
+formed_of : (command : Command) (contents : Contents) (left : Option (List ℕ)) → GetsImage command → CanBeDone command contents left → HoldsFormed (kinds_checked command) contents (image_name command)
+formed_of (format_image image capacity) contents left gets can = absurd gets
+formed_of (show_image image with_map in_parallel) contents left gets can = record { bytes = can.bytes; held = can.held; good = can.good }
+formed_of (drain_image image class) contents left gets can = record { bytes = can.bytes; held = can.held; good = can.good }
+formed_of (gen_trace requests seed) contents left gets can = absurd gets
+formed_of (rebuild_image image budget seed) contents left gets can = record { bytes = can.bytes; held = can.held; good = can.good }
+formed_of (replay_image image seed) contents left gets can = record { bytes = can.image.bytes; held = can.image.held; good = can.image.good }
+formed_of (run_image image options) contents left gets can = record { bytes = can.0.bytes; held = can.0.held; good = can.0.good }
+formed_of (conservative_image image with_map) contents left gets can = can
+
+good_of : (command : Command) (contents : Contents) (left : Option (List ℕ)) → FollowsLinks command → CanBeDone command contents left → HoldsGood contents (image_name command)
+good_of (format_image image capacity) contents left follows can = absurd follows
+good_of (show_image image with_map in_parallel) contents left follows can = record { bytes = can.bytes; held = can.held; good = can.good; inside = can.inside }
+good_of (drain_image image class) contents left follows can = can
+good_of (gen_trace requests seed) contents left follows can = absurd follows
+good_of (rebuild_image image budget seed) contents left follows can = can
+good_of (replay_image image seed) contents left follows can = can.image
+good_of (run_image image options) contents left follows can = record { bytes = can.0.bytes; held = can.0.held; good = can.0.good; inside = can.0.inside }
+good_of (conservative_image image with_map) contents left follows can = absurd follows
 
 maps_of : (command : Command) (contents : Contents) (left : Option (List ℕ)) → Reads command → CanBeDone command contents left → HoldsMaps contents (image_name command)
 maps_of (format_image image capacity) contents left reads can = absurd reads
-maps_of (show_image image with_map) contents left reads can = can
+maps_of (show_image image with_map in_parallel) contents left reads can = can
 maps_of (drain_image image class) contents left reads can = absurd reads
 maps_of (gen_trace requests seed) contents left reads can = absurd reads
 maps_of (run_image image options) contents left reads can = can.0
 maps_of (rebuild_image image budget seed) contents left reads can = absurd reads
 maps_of (replay_image image seed) contents left reads can = absurd reads
+maps_of (conservative_image image with_map) contents left reads can = absurd reads
 
 trace_of : (command : Command) (contents : Contents) (left : Option (List ℕ)) → RunsATrace command → CanBeDone command contents left → HoldsTrace left
 trace_of (format_image image capacity) contents left runs can = absurd runs
-trace_of (show_image image with_map) contents left runs can = absurd runs
+trace_of (show_image image with_map in_parallel) contents left runs can = absurd runs
 trace_of (drain_image image class) contents left runs can = absurd runs
 trace_of (gen_trace requests seed) contents left runs can = absurd runs
 trace_of (run_image image options) contents left runs can = can.1
 trace_of (rebuild_image image budget seed) contents left runs can = absurd runs
 trace_of (replay_image image seed) contents left runs can = absurd runs
+trace_of (conservative_image image with_map) contents left runs can = absurd runs
 
 replay_of : (command : Command) (contents : Contents) (left : Option (List ℕ)) → ReplaysASchedule command → CanBeDone command contents left → HoldsReplay contents (image_name command) left
 replay_of (format_image image capacity) contents left replays can = absurd replays
-replay_of (show_image image with_map) contents left replays can = absurd replays
+replay_of (show_image image with_map in_parallel) contents left replays can = absurd replays
 replay_of (drain_image image class) contents left replays can = absurd replays
 replay_of (gen_trace requests seed) contents left replays can = absurd replays
 replay_of (run_image image options) contents left replays can = absurd replays
 replay_of (rebuild_image image budget seed) contents left replays can = absurd replays
 replay_of (replay_image image seed) contents left replays can = can
+replay_of (conservative_image image with_map) contents left replays can = absurd replays
 
 -- the trace is not refused
 trace_good : (left : Option (List ℕ)) (read_failed : Type 0) (status : ℕ) (fault : Fault) → HoldsTrace left → (read_failed → ⊥) → status ≡ status_of fault → IsTraceFault left read_failed fault
@@ -110,14 +124,14 @@ module _ (command : Command) (contents : Contents) (left : Option (List ℕ)) (g
   refused ReadFault is why = absurd (works why.1)
   refused WriteFault is why = absurd why
   refused Absent is why =
-      let has = good_of command contents left why.0 can in
+      let has = formed_of command contents left why.0 can in
       let none : Some has.bytes ≡ None = of_told (λ image. image ≡ None) contents (image_name command) (image_name command) (Some has.bytes) (λ i. image_name command) why.1 has.held in
       absurd (cc)
   refused (Malformed cause) is why =
-      let has = good_of command contents left why.0 can in
+      let has = formed_of command contents left why.0 can in
       let same : why.1.bytes ≡ has.bytes = same_bytes contents (image_name command) (image_name command) why.1.bytes has.bytes (λ i. image_name command) why.1.held has.held in
-      let bad : fault_of has.bytes ≡ Some cause = subst (λ (l : List ℕ). fault_of l ≡ Some cause) same why.1.fault in
-      let good : fault_of has.bytes ≡ None = has.good in
+      let bad : fault_within (kinds_checked command) has.bytes ≡ Some cause = subst (λ (l : List ℕ). fault_within (kinds_checked command) l ≡ Some cause) same why.1.fault in
+      let good : fault_within (kinds_checked command) has.bytes ≡ None = has.good in
       absurd (cc)
   refused (Outside at value) is why =
       let has = good_of command contents left why.0 can in

@@ -22,7 +22,7 @@ use Rattle.tool_run.specs.declared.fault.Fault.TheVariants.{Malformed}
 use Rattle.tool_run.specs.Calls.{get_limit}
 use Rattle.tool_command.specs.Command.{Command, image_name}
 use Rattle.tool_run.specs.Inside.{Refuses, fault_of_recovery, fault_of_get}
-use Rattle.tool_run.specs.Making.{GetsImage, fault_of, image_in, Shows, IsMalformed, HasOutside, PointsOutside}
+use Rattle.tool_run.specs.Making.{GetsImage, FollowsLinks, kinds_checked, fault_of, fault_within, image_in, Shows, IsMalformed, HasOutside, PointsOutside}
 use Rattle.tool_run.specs.Recovering.{IsGoodImage, HoldsImage, IsRecoveredHeapOf, IsRecoveredFrom, IsRecoveredHeap, IsRecoveryFault, IsTextOf, words_in_bytes}
 use Rattle.std.specs.BTreeMap.{BTreeMap}
 use Rattle.heap_model.specs.Rest.{IsReady}
@@ -70,19 +70,19 @@ long_fault limit m n image other false same long longer is =
     ) refl
 
 -- the first bytes have the fault that all have
-first_fault : (bytes : List ℕ) → fault_of (take get_limit bytes) ≡ fault_of bytes
-first_fault bytes = elim (cases_lt (length bytes) get_limit) [
-  | inl short ↦ ap fault_of (take_all get_limit bytes (omega arith))
+first_fault : (limit : Option ℕ) (bytes : List ℕ) → fault_within limit (take get_limit bytes) ≡ fault_within limit bytes
+first_fault limit bytes = elim (cases_lt (length bytes) get_limit) [
+  | inl short ↦ ap (fault_within limit) (take_all get_limit bytes (omega arith))
   | inr long ↦
-      long_fault (Some kind_count) (length (take get_limit bytes)) (length bytes) (image_of_bytes (take get_limit bytes)) (image_of_bytes bytes) _ (first_words bytes)
+      long_fault limit (length (take get_limit bytes)) (length bytes) (image_of_bytes (take get_limit bytes)) (image_of_bytes bytes) _ (first_words bytes)
       (omega (arith, length-take-le get_limit bytes long)) long refl
 ]
 
 -- The bytes that a store gave are the first of those of an image which, where the store tells, is the one it has.
-record IsGot (contents : Contents) (name got : List ℕ) : Type 0 where
+record IsGot (limit : Option ℕ) (contents : Contents) (name got : List ℕ) : Type 0 where
   bytes : List ℕ
   held : Holds contents name bytes
-  fault_is : fault_of got ≡ fault_of bytes
+  fault_is : fault_within limit got ≡ fault_within limit bytes
   same : SameHeader (image_of_bytes got) (image_of_bytes bytes)
 
 held_image : (image : Option (List ℕ)) (got : List ℕ) → IsSomeAnd image (λ held. got ≡ take get_limit held)
@@ -90,14 +90,14 @@ held_image : (image : Option (List ℕ)) (got : List ℕ) → IsSomeAnd image (�
 held_image None got first = absurd first
 held_image (Some bytes) got first = (bytes, refl, first)
 
-got_image : (contents : Contents) (name got : List ℕ) → HoldsFirst contents name get_limit got → IsGot contents name got
-got_image None name got first = record { bytes = got; held = tt; fault_is = refl; same = λ i below. refl }
-got_image (Some image_of) name got first =
+got_image : (limit : Option ℕ) (contents : Contents) (name got : List ℕ) → HoldsFirst contents name get_limit got → IsGot limit contents name got
+got_image limit None name got first = record { bytes = got; held = tt; fault_is = refl; same = λ i below. refl }
+got_image limit (Some image_of) name got first =
     let at = held_image (image_of name) got first in
     record {
       bytes = at.0;
       held = at.1;
-      fault_is = ap fault_of at.2 ∙ first_fault at.0;
+      fault_is = ap (fault_within limit) at.2 ∙ first_fault limit at.0;
       same = subst (λ (l : List ℕ). SameHeader (image_of_bytes l) (image_of_bytes at.0)) (sym at.2) (first_words at.0);
     }
 
@@ -109,37 +109,37 @@ short_whole bytes short = elim (cases_lt (length bytes) get_limit) as (λ _. len
 ]
 
 -- an image with a good header is shorter than what is got at most
-good_short : (bytes : ℕ) (image : Image) → HasGoodHeader (Some kind_count) bytes image → bytes < get_limit
-good_short bytes image (inl old) = let long = old.length_is in let short = fits true (image 2) old.small in omega arith
-good_short bytes image (inr (new, kinds)) = let long = new.length_is in let short = fits false (image 2) new.small in omega arith
+good_short : (limit : Option ℕ) (bytes : ℕ) (image : Image) → HasGoodHeader limit bytes image → bytes < get_limit
+good_short limit bytes image (inl old) = let long = old.length_is in let short = fits true (image 2) old.small in omega arith
+good_short limit bytes image (inr (new, kinds)) = let long = new.length_is in let short = fits false (image 2) new.small in omega arith
 
-pub whole_image : (contents : Contents) (name got : List ℕ) → HoldsFirst contents name get_limit got → HasGoodHeader (Some kind_count) (length got) (image_of_bytes got)
-    → IsGoodImage contents name got
-whole_image None name got first good = record { is_there = tt; good = no_fault (Some kind_count) (length got) (image_of_bytes got) good }
-whole_image (Some image_of) name got first good =
+pub whole_image : (limit : Option ℕ) (contents : Contents) (name got : List ℕ) → HoldsFirst contents name get_limit got → HasGoodHeader limit (length got) (image_of_bytes got)
+    → IsGoodImage limit contents name got
+whole_image limit None name got first good = record { is_there = tt; good = no_fault limit (length got) (image_of_bytes got) good }
+whole_image limit (Some image_of) name got first good =
     let at = held_image (image_of name) got first in
-    let cut : length (take get_limit at.0) < get_limit = subst (λ (l : List ℕ). length l < get_limit) at.2 (good_short (length got) (image_of_bytes got) good) in
+    let cut : length (take get_limit at.0) < get_limit = subst (λ (l : List ℕ). length l < get_limit) at.2 (good_short limit (length got) (image_of_bytes got) good) in
     let whole : got ≡ at.0 = at.2 ∙ take_all get_limit at.0 (short_whole at.0 cut) in
-    record { is_there = at.1 ∙ ap (λ (l : List ℕ). Some l) (sym whole); good = no_fault (Some kind_count) (length got) (image_of_bytes got) good }
+    record { is_there = at.1 ∙ ap (λ (l : List ℕ). Some l) (sym whole); good = no_fault limit (length got) (image_of_bytes got) good }
 
 -- the same, where the header of other bytes that are these was looked at
-pub whole_shown : (contents : Contents) (name got shown : List ℕ) → HoldsFirst contents name get_limit got → shown ≡ got
-    → HasGoodHeader (Some kind_count) (length shown) (image_of_bytes shown) → IsGoodImage contents name got
-whole_shown contents name got shown first are good =
-    whole_image contents name got first (subst (λ (l : List ℕ). HasGoodHeader (Some kind_count) (length l) (image_of_bytes l)) are good)
+pub whole_shown : (limit : Option ℕ) (contents : Contents) (name got shown : List ℕ) → HoldsFirst contents name get_limit got → shown ≡ got
+    → HasGoodHeader limit (length shown) (image_of_bytes shown) → IsGoodImage limit contents name got
+whole_shown limit contents name got shown first are good =
+    whole_image limit contents name got first (subst (λ (l : List ℕ). HasGoodHeader limit (length l) (image_of_bytes l)) are good)
 
--- what the tool tells of a recovery that failed, where a command gets the image
+-- what the tool tells of a recovery that failed, where a command follows the links of the image
 pub is_refused : (contents : Contents) (name got shown : List ℕ) (get_failed : Type 0) (cause : RecoverFault) (fault : Fault)
-    → fault ≡ fault_of_recovery cause → IsGoodImage contents name got → shown ≡ got → IsRecoveryFault (image_in shown) cause
-    → (command : Command) → GetsImage command → image_name command ≡ name → Refuses command contents get_failed fault
-is_refused contents name got shown get_failed (Header cause) fault is whole are why command gets named = absurd why
-is_refused contents name got shown get_failed RecoverMemory fault is whole are why command gets named =
+    → fault ≡ fault_of_recovery cause → IsGoodImage (Some kind_count) contents name got → shown ≡ got → IsRecoveryFault (image_in shown) cause
+    → (command : Command) → FollowsLinks command → image_name command ≡ name → Refuses command contents get_failed fault
+is_refused contents name got shown get_failed (Header cause) fault is whole are why command follows named = absurd why
+is_refused contents name got shown get_failed RecoverMemory fault is whole are why command follows named =
     subst (λ (f : Fault). Refuses command contents get_failed f) (sym is) tt
-is_refused contents name got shown get_failed (OutsideFound at value) fault is whole are why command gets named =
+is_refused contents name got shown get_failed (OutsideFound at value) fault is whole are why command follows named =
     let here : PointsOutside (image_in got) at = subst (λ (l : List ℕ). PointsOutside (image_in l) at) are why.0 in
     let there : value ≡ image_in got at = why.1 ∙ ap (λ (l : List ℕ). image_in l at) are in
     let has : HasOutside contents name at value = record { bytes = got; is_there = whole.is_there; good = whole.good; points = here; value_is = there } in
-    subst (λ (f : Fault). Refuses command contents get_failed f) (sym is) (gets, subst (λ (n : List ℕ). HasOutside contents n at value) (sym named) has)
+    subst (λ (f : Fault). Refuses command contents get_failed f) (sym is) (follows, subst (λ (n : List ℕ). HasOutside contents n at value) (sym named) has)
 
 -- the same of a failed get
 pub is_not_got : (contents : Contents) (name : List ℕ) (get_failed : Type 0) (cause : GetFault) (fault : Fault)
@@ -153,7 +153,7 @@ is_not_got contents name get_failed GetMemory fault is lacks failed command gets
     subst (λ (f : Fault). Refuses command contents get_failed f) (sym is) tt
 
 -- an image that was recovered
-pub is_recovered : (contents : Contents) (name got shown : List ℕ) (recovered : Recovered) → IsGoodImage contents name got → shown ≡ got
+pub is_recovered : (contents : Contents) (name got shown : List ℕ) (recovered : Recovered) → IsGoodImage (Some kind_count) contents name got → shown ≡ got
     → IsRecoveredHeap (image_in shown) recovered → ((at : ℕ) → PointsOutside (image_in shown) at → ⊥) → HoldsImage shown → IsRecoveredHeapOf contents name recovered
 is_recovered contents name got shown recovered whole are is inside formed = record {
   bytes = got;
@@ -165,7 +165,7 @@ is_recovered contents name got shown recovered whole are is inside formed = reco
 }
 
 -- and its words beside it
-pub is_recovered_from : (contents : Contents) (name got shown words : List ℕ) (recovered : Recovered) → IsGoodImage contents name got → shown ≡ got
+pub is_recovered_from : (contents : Contents) (name got shown words : List ℕ) (recovered : Recovered) → IsGoodImage (Some kind_count) contents name got → shown ≡ got
     → IsRecoveredHeap (image_in shown) recovered → ((at : ℕ) → PointsOutside (image_in shown) at → ⊥) → HoldsImage shown
     → words ≡ current_words (words_in_bytes shown) first_kinds → length recovered.heap.words ≡ length words → IsRecoveredFrom contents name words recovered
 unfolding is_recovered
@@ -191,10 +191,11 @@ shows contents name text maps with_map recovered is ready are text_is =
     }
 
 -- the cause of a bad header, where a command gets the image
-pub is_malformed : (contents : Contents) (name got shown : List ℕ) (get_failed : Type 0) (cause : BadHeader) (fault : Fault) → fault ≡ Malformed cause
-    → HoldsFirst contents name get_limit got → shown ≡ got → Some cause ≡ fault_of shown
-    → (command : Command) → GetsImage command → image_name command ≡ name → Refuses command contents get_failed fault
-is_malformed contents name got shown get_failed cause fault is first are at command gets named =
-    let image : IsGot contents name got = got_image contents name got first in
-    let bad : IsMalformed contents name cause = record { bytes = image.bytes; held = image.held; fault = sym image.fault_is ∙ ap fault_of (sym are) ∙ sym at } in
-    subst (λ (f : Fault). Refuses command contents get_failed f) (sym is) (gets, subst (λ (n : List ℕ). IsMalformed contents n cause) (sym named) bad)
+pub is_malformed : (limit : Option ℕ) (contents : Contents) (name got shown : List ℕ) (get_failed : Type 0) (cause : BadHeader) (fault : Fault) → fault ≡ Malformed cause
+    → HoldsFirst contents name get_limit got → shown ≡ got → Some cause ≡ fault_within limit shown
+    → (command : Command) → GetsImage command → kinds_checked command ≡ limit → image_name command ≡ name → Refuses command contents get_failed fault
+is_malformed limit contents name got shown get_failed cause fault is first are at command gets checks named =
+    let image : IsGot limit contents name got = got_image limit contents name got first in
+    let bad : IsMalformed limit contents name cause = record { bytes = image.bytes; held = image.held; fault = sym image.fault_is ∙ ap (fault_within limit) (sym are) ∙ sym at } in
+    let here : IsMalformed (kinds_checked command) contents name cause = subst (λ l. IsMalformed l contents name cause) (sym checks) bad in
+    subst (λ (f : Fault). Refuses command contents get_failed f) (sym is) (gets, subst (λ (n : List ℕ). IsMalformed (kinds_checked command) contents n cause) (sym named) here)

@@ -1,7 +1,9 @@
+pub mod FilterLemmas
 pub mod PrintLemmas
 pub mod DeliveryLemmas
 pub mod ImageLemmas
 pub mod RecoveryLemmas
+pub mod ConservativeLemmas
 pub mod OffsetLemmas
 pub mod DrainLemmas
 pub mod OpenedLemmas

@@ -5,7 +5,7 @@ use Rattle.std.proofs.lemmas.Bool.{ne_eqb}
 use Rattle.tool_ports.specs.Calls.{with_get, with_put}
 use Rattle.tool_ports.specs.declared.store_calls.StoreCalls.{StoreCalls}
 use Rattle.tool_run.specs.Calls.{get_limit, with_making, with_command, with_status}
-use Rattle.tool_command.specs.Command.{Command, format_image, show_image, drain_image, gen_trace, run_image, rebuild_image, replay_image, Asks}
+use Rattle.tool_command.specs.Command.{Command, format_image, show_image, drain_image, gen_trace, run_image, rebuild_image, replay_image, conservative_image, Asks}
 use Rattle.tool_run.specs.declared.fault.Fault.{Fault}
 use Rattle.tool_run.specs.declared.fault.Fault.TheVariants.{Memory}
 use Rattle.tool_command.proofs.OneCommandLemmas.{one_command}
@@ -34,12 +34,13 @@ put_once words command before after status fault asked calls is name asks (inr c
 look_once : (command : Command) (before : StoreCalls) → GetsImage command → ¬ (PutsBack command)
     → (with_making command before ≡ with_get get_limit before) × (with_command command before ≡ with_get get_limit before)
 look_once (format_image image capacity) before gets none = absurd gets
-look_once (show_image image with_map) before gets none = (refl, refl)
+look_once (show_image image with_map in_parallel) before gets none = (refl, refl)
 look_once (drain_image image class) before gets none = (refl, refl)
 look_once (gen_trace requests seed) before gets none = absurd gets
 look_once (run_image image options) before gets none = absurd (none tt)
 look_once (rebuild_image image budget seed) before gets none = absurd (none tt)
 look_once (replay_image image seed) before gets none = (refl, refl)
+look_once (conservative_image image with_map) before gets none = (refl, refl)
 
 either : {A : Type 0} (b : Bool) (x y z : A) → x ≡ z → y ≡ z → (if b then x else y) ≡ z
 either true x y z first second = first

@@ -1,5 +1,5 @@
 -- What recovery of an image's words says of its bytes.
-use Rattle.std.proofs.Common.{◌≡◌, ◌↔◌, ℕ, ◌*◌, ◌<◌, inr, List, All, length, slice_index, Result, Ok, Err, Some, None, IfErr, sym, ap, ◌∙◌, subst}
+use Rattle.std.proofs.Common.{◌≡◌, ◌↔◌, ℕ, ◌*◌, ◌<◌, inr, List, All, length, slice_index, Option, Result, Ok, Err, Some, None, IfErr, sym, ap, ◌∙◌, subst}
 use Rattle.heap_model.specs.declared.block.Block.{Block}
 use Rattle.heap_model.specs.Geometry.{roots, clean, version, version_word}
 use Rattle.heap_model.specs.Image.{Image, image_of_bytes}
@@ -33,6 +33,12 @@ recovered_heap image other answer same held free words was kinds =
     subst (λ (i : Image). IsRecoveredHeap i answer) same
     (record { recovers = record { held_are = held; free_are = free; words_are = words }; was = was; kinds = kinds })
 
+-- the header of the words in the bytes is good where that of the bytes is
+pub good_in_words : (limit : Option ℕ) (words bytes : List ℕ) → AreWordsOf words bytes → HasGoodHeader limit (length bytes) (image_of_bytes bytes)
+    → HasGoodHeader limit (8 * length words) (slice_index words)
+good_in_words limit words bytes of good = subst (λ n. HasGoodHeader limit n (slice_index words)) (sym of.count)
+    (subst (λ (image : Image). HasGoodHeader limit (length bytes) image) (sym (image_of_words words bytes of)) good)
+
 module _ (words kinds bytes : List ℕ) (count : length kinds ≡ roots) (kinds_are : (i : ℕ) → slice_index kinds i ≡ root_kind i) (of : AreWordsOf words bytes) where
   -- the words in the new version are those in the bytes
   pub current_in : current_words words kinds ≡ current_words (words_in_bytes bytes) first_kinds
@@ -44,10 +50,8 @@ module _ (words kinds bytes : List ℕ) (count : length kinds ≡ roots) (kinds_
   pub formed_in : IsWellFormed (8 * length (current_words words kinds)) (slice_index (current_words words kinds)) → HoldsImage bytes
   formed_in formed = subst (λ (ws : List ℕ). IsWellFormed (8 * length ws) (slice_index ws)) current_in formed
 
-  -- the header of the words is that of the bytes
-  pub good_words : HasGoodHeader (Some kind_count) (length bytes) (image_of_bytes bytes) → HasGoodHeader (Some kind_count) (8 * length words) (slice_index words)
-  good_words good = subst (λ n. HasGoodHeader (Some kind_count) n (slice_index words)) (sym of.count)
-      (subst (λ (image : Image). HasGoodHeader (Some kind_count) (length bytes) image) (sym (image_of_words words bytes of)) good)
+  good_words : HasGoodHeader (Some kind_count) (length bytes) (image_of_bytes bytes) → HasGoodHeader (Some kind_count) (8 * length words) (slice_index words)
+  good_words good = good_in_words (Some kind_count) words bytes of good
 
   -- why the bytes are not recovered
   pub recovery_fault : (result : Result Recovered RecoverFault) → HasGoodHeader (Some kind_count) (length bytes) (image_of_bytes bytes)

@@ -3,7 +3,7 @@ use Rattle.std.proofs.Common.{◌≡◌, ◌⊎◌, ℕ, zero, suc, ◌<◌, ◌
 use Rattle.tool_ports.specs.Causes.{Rose}
 use Rattle.tool_ports.specs.Contents.{Contents}
 use Rattle.tool_ports.specs.Taken.{TakesPart}
-use Rattle.tool_command.specs.Command.{Command, format_image, show_image, drain_image, gen_trace, run_image, rebuild_image, replay_image, image_name, Asks}
+use Rattle.tool_command.specs.Command.{Command, format_image, show_image, drain_image, gen_trace, run_image, rebuild_image, replay_image, conservative_image, image_name, Asks}
 use Rattle.tool_run.specs.declared.fault.Fault.{Fault}
 use Rattle.tool_run.specs.declared.fault.Fault.TheVariants.{Usage, Memory, ReadFault, WriteFault, Absent, Malformed, Outside, BadShard, BadLine, BadStep, TooLong}
 use Rattle.tool_run.specs.Inside.{IsStopped, IsBeforeReading, status_of, line_of}
@@ -36,21 +36,23 @@ tells_since line first second third taken mid new low same (inr (rose, part)) =
 -- words that ask for a command that runs a trace ask for a run
 pub for_run : (words : List (List ℕ)) (command : Command) → RunsATrace command → Asks words command → AsksForRun words (image_name command)
 for_run words (format_image image capacity) runs asked = absurd runs
-for_run words (show_image image with_map) runs asked = absurd runs
+for_run words (show_image image with_map in_parallel) runs asked = absurd runs
 for_run words (drain_image image class) runs asked = absurd runs
 for_run words (gen_trace requests seed) runs asked = absurd runs
 for_run words (rebuild_image image budget seed) runs asked = absurd runs
 for_run words (replay_image image seed) runs asked = absurd runs
+for_run words (conservative_image image with_map) runs asked = absurd runs
 for_run words (run_image image options) runs asked = record { options = options; asked = asked }
 
 -- and those for one that replays a schedule ask for a replay
 pub for_replay : (words : List (List ℕ)) (command : Command) → ReplaysASchedule command → Asks words command → AsksForReplay words (image_name command)
 for_replay words (format_image image capacity) replays asked = absurd replays
-for_replay words (show_image image with_map) replays asked = absurd replays
+for_replay words (show_image image with_map in_parallel) replays asked = absurd replays
 for_replay words (drain_image image class) replays asked = absurd replays
 for_replay words (gen_trace requests seed) replays asked = absurd replays
 for_replay words (run_image image options) replays asked = absurd replays
 for_replay words (rebuild_image image budget seed) replays asked = absurd replays
+for_replay words (conservative_image image with_map) replays asked = absurd replays
 for_replay words (replay_image image seed) replays asked = record { seed = seed; asked = asked }
 
 -- those for one that reads the source
@@ -116,7 +118,7 @@ module _ (words : List (List ℕ)) (command : Command) (old new : Contents) (lef
       → Tells (line_of fault name) second third mid final
       → status ≡ outside → IsOutsideAt words old left (λ line. Tells line first third taken final)
   is_outside (Outside at value) name stopped is told eight = elim stopped.cause [
-    | inl (inl why, same) ↦ in_image (image_name command) at value (record { command = command; asked = asked; gets = why.0; is_named = refl }) why.1
+    | inl (inl why, same) ↦ in_image (image_name command) at value (record { command = command; asked = asked; follows = why.0; is_named = refl }) why.1
         (tells_since (line_of (Outside at value) name) first second third taken mid final low same.sink told)
     | inl (inr (inl trace), same) ↦ absurd trace.why
     | inl (inr (inr replay), same) ↦ in_image_left (image_name command) at value (for_replay words command replay.replays asked) replay.why

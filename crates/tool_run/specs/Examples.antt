@@ -1,16 +1,19 @@
 -- Worked examples: the lines that are printed, and how often the store is called.
-use Rattle.std.specs.Prelude.{◌≡◌, [], ◌∷◌, ◌++◌, codes, Some, None, false, refl}
+use Rattle.std.specs.Prelude.{◌≡◌, ℕ, Bool, List, Option, [], ◌∷◌, ◌++◌, codes, Some, None, true, false, refl}
 use Rattle.std.specs.Fmt.{digits}
 use Rattle.std.proofs.Common.{arith}
 use Rattle.heap_model.specs.Sizes.{size_of, class_sizes}
 use Rattle.heap_model.specs.Geometry.{largest_capacity}
 use Rattle.heap_model.specs.declared.header.BadHeader.TheVariants.{Length, Kind}
 use Rattle.trace_text.specs.Report.{line_feed}
-use Rattle.tool_command.specs.Command.{Command, run_image}
+use Rattle.dict_model.specs.Links.{kind_count}
+use Rattle.tool_command.specs.Command.{Command, show_image, run_image, conservative_image}
 use Rattle.tool_ports.specs.Calls.{no_calls, with_get, with_put}
 use Rattle.tool_run.specs.Calls.{get_limit, with_status}
 use Rattle.tool_run.specs.Lines.{no_image_line, bad_header_line, bad_line_line}
-use Rattle.tool_run.specs.Making.{formatted_line, drained_text, HasLeft, HasTooMuch}
+use Rattle.tool_ports.specs.Contents.{Contents}
+use Rattle.tool_run.specs.Making.{Makes, FollowsLinks, kinds_checked, formatted_line, drained_text, HasLeft, HasTooMuch}
+use Rattle.tool_run.specs.Outcome.{CanBeDone}
 use Rattle.tool_run.specs.Status.{own_line, usage, done, bad_header, write_fault, bad_trace}
 
 formatted_one : formatted_line 1 ≡ codes "formatted 1 bytes 82304" ++ line_feed
@@ -57,6 +60,25 @@ run_is_done = refl
 
 run_is_refused : with_status a_run bad_trace no_calls ≡ with_get get_limit no_calls
 run_is_refused = refl
+
+-- threads change nothing of what `show` makes, and of what can be shown
+made_by_threads : (image : List ℕ) (with_map : Bool) (contents : Contents) (left put : Option (List ℕ)) (text : List ℕ)
+    → Makes (show_image image with_map true) contents left put text → Makes (show_image image with_map false) contents left put text
+made_by_threads image with_map contents left put text made = made
+
+done_by_threads : (image : List ℕ) (with_map : Bool) (contents : Contents) (left : Option (List ℕ))
+    → CanBeDone (show_image image with_map false) contents left → CanBeDone (show_image image with_map true) contents left
+done_by_threads image with_map contents left can = can
+
+-- `show` asks for the dictionary's kinds, and `conservative` for none and for no links
+kinds_of_show : kinds_checked (show_image (codes "h") false true) ≡ Some kind_count
+kinds_of_show = refl
+
+no_kinds : kinds_checked (conservative_image (codes "h") false) ≡ None
+no_kinds = refl
+
+no_links : FollowsLinks (conservative_image (codes "h") true) → ⊥
+no_links follows = follows
 
 -- what a source has left, where it tells
 all_left : HasLeft (Some (codes "get 1")) (codes "get 1")

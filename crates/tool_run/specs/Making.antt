@@ -5,16 +5,18 @@ use Rattle.heap_model.specs.declared.header.BadHeader.{BadHeader}
 use Rattle.heap_model.specs.declared.block.Block.{Block}
 use Rattle.heap_model.specs.Blocks.{layout_of}
 use Rattle.heap_model.specs.Recovered.{IsDrained, AreAscending}
-use Rattle.dict_model.specs.Links.{shards}
+use Rattle.dict_model.specs.Links.{shards, kind_count}
 use Rattle.dict_model.specs.Shards.{Map, MapOf, BadShard}
 use Rattle.heap_model.specs.Geometry.{image_words}
-use Rattle.heap_model.specs.Image.{Image, bytes_of_words}
+use Rattle.heap_model.specs.Image.{Image, bytes_of_words, image_of_bytes}
 use Rattle.heap_model.specs.Sizes.{size_of}
-use Rattle.heap_model.specs.Header.{capacity_of, empty_words}
-pub use Rattle.image_run.specs.Reporting.{fault_of, image_in, IsKept, PointsOutside, Recovers, IsEntryOf, shown_text, Reports}
+use Rattle.heap_model.specs.Header.{capacity_of, empty_words, header_fault}
+pub use Rattle.image_run.specs.Reporting.{fault_of, words_in_bytes, image_in, IsKept, PointsOutside, Recovers, IsEntryOf, shown_text, Reports}
 pub use Rattle.image_rebuild.specs.Rebuilding.{Rebuilds}
 pub use Rattle.image_replay.specs.Replaying.{Replays, LeavesOutside}
 pub use Rattle.image_run.specs.Running.{Options, RunsRequests}
+use Rattle.image_conservative.specs.Telling.{TellsByWords}
+use Rattle.mixed_trace.specs.Conservative.{current_without_kinds}
 use Rattle.tool_ports.specs.Contents.{Contents, Holds}
 use Rattle.worker_run.specs.Said.{Line, requests_of}
 use Rattle.trace_text.specs.declared.schedule.Schedule.{Schedule}
@@ -22,7 +24,7 @@ use Rattle.trace_text.specs.Generated.{made_trace}
 use Rattle.trace_text.specs.Report.{line_feed}
 use Rattle.trace_text.specs.Schedule.{IsSchedule, IsFirstBad}
 use Rattle.trace_text.specs.Trace.{lines_of, AreLines, IsFirstOutside}
-use Rattle.tool_command.specs.Command.{Command, format_image, show_image, drain_image, gen_trace, run_image, rebuild_image, replay_image}
+use Rattle.tool_command.specs.Command.{Command, format_image, show_image, drain_image, gen_trace, run_image, rebuild_image, replay_image, conservative_image}
 
 -- what `format` prints: the capacity, and the length of the image in bytes
 abbrev pub formatted_line : ℕ → List ℕ
@@ -71,11 +73,26 @@ pub record TellsDrained (contents : Contents) (name : List ℕ) (class : ℕ) (t
   pub drained : AreAscending (λ offset. offset) (IsOffsetDrained (image_in bytes) class) offsets
   pub text_is : text ≡ drained_text class offsets
 
--- the bytes of a named image, whose header has this cause first
-pub record IsMalformed (contents : Contents) (name : List ℕ) (cause : BadHeader) : Type 0 where
+-- the first cause that makes the header of the bytes bad, where the kinds of roots have to lie below the limit, if there is one
+abbrev pub fault_within : Option ℕ → List ℕ → Option BadHeader
+fault_within limit bytes = header_fault limit (length bytes) (image_of_bytes bytes)
+
+-- the image in the bytes of a file, in the new version, whatever its roots' kinds: one of the old version gets the kind 0 for each root
+abbrev pub image_without_kinds : List ℕ → Image
+image_without_kinds bytes = slice_index (current_without_kinds (words_in_bytes bytes))
+
+-- the text on a named image that is recovered with no filter
+pub record ShowsByWords (contents : Contents) (name : List ℕ) (with_map : Bool) (text : List ℕ) : Type 0 where
+  pub bytes : List ℕ
+  pub is_there : Holds contents name bytes
+  pub good : fault_within None bytes ≡ None
+  pub tells : TellsByWords (image_without_kinds bytes) with_map text
+
+-- the bytes of a named image, whose header has this cause first, under this limit of kinds
+pub record IsMalformed (limit : Option ℕ) (contents : Contents) (name : List ℕ) (cause : BadHeader) : Type 0 where
   pub bytes : List ℕ
   pub held : Holds contents name bytes
-  pub fault : fault_of bytes ≡ Some cause
+  pub fault : fault_within limit bytes ≡ Some cause
 
 -- a word of a named image with a good header, which points outside
 pub record HasOutside (contents : Contents) (name : List ℕ) (at value : ℕ) : Type 0 where
@@ -199,62 +216,90 @@ pub record HasOutsideLeft (contents : Contents) (left : Option (List ℕ)) (name
 -- where the store holds this and the source has this left, the command is to put these bytes, if any, and to print this text
 abbrev pub Makes : Command → Contents → Option (List ℕ) → Option (List ℕ) → List ℕ → Type 0
 Makes (format_image image capacity) contents left put text = IsFormatted capacity put text
-Makes (show_image image with_map) contents left put text = (put ≡ None) × Shows contents image with_map text
+Makes (show_image image with_map in_parallel) contents left put text = (put ≡ None) × Shows contents image with_map text
 Makes (drain_image image class) contents left put text = (put ≡ None) × TellsDrained contents image class text
 Makes (gen_trace requests seed) contents left put text = (put ≡ None) × (text ≡ made_trace requests seed)
 Makes (run_image image options) contents left put text = RunsTrace contents left image options put text
 Makes (rebuild_image image budget seed) contents left put text = RebuildsNamed contents image budget put text
 Makes (replay_image image seed) contents left put text = (put ≡ None) × ReplaysNamed contents left image text
+Makes (conservative_image image with_map) contents left put text = (put ≡ None) × ShowsByWords contents image with_map text
 
 -- the command gets the image that it names
 abbrev pub GetsImage : Command → Type 0
 GetsImage (format_image image capacity) = ⊥
-GetsImage (show_image image with_map) = Unit {0}
+GetsImage (show_image image with_map in_parallel) = Unit {0}
 GetsImage (drain_image image class) = Unit {0}
 GetsImage (gen_trace requests seed) = ⊥
 GetsImage (run_image image options) = Unit {0}
 GetsImage (rebuild_image image budget seed) = Unit {0}
 GetsImage (replay_image image seed) = Unit {0}
+GetsImage (conservative_image image with_map) = Unit {0}
+
+-- the limit of the kinds of roots that the command checks the header of its image against, if it checks any
+abbrev pub kinds_checked : Command → Option ℕ
+kinds_checked (format_image image capacity) = None
+kinds_checked (show_image image with_map in_parallel) = Some kind_count
+kinds_checked (drain_image image class) = Some kind_count
+kinds_checked (gen_trace requests seed) = None
+kinds_checked (run_image image options) = Some kind_count
+kinds_checked (rebuild_image image budget seed) = Some kind_count
+kinds_checked (replay_image image seed) = Some kind_count
+kinds_checked (conservative_image image with_map) = None
+
+-- the command follows the links of the image that it names, as the filter lists them: one that points outside refuses it
+abbrev pub FollowsLinks : Command → Type 0
+FollowsLinks (format_image image capacity) = ⊥
+FollowsLinks (show_image image with_map in_parallel) = Unit {0}
+FollowsLinks (drain_image image class) = Unit {0}
+FollowsLinks (gen_trace requests seed) = ⊥
+FollowsLinks (run_image image options) = Unit {0}
+FollowsLinks (rebuild_image image budget seed) = Unit {0}
+FollowsLinks (replay_image image seed) = Unit {0}
+FollowsLinks (conservative_image image with_map) = ⊥
 
 -- the command reads the maps of the image that it names
 abbrev pub Reads : Command → Type 0
 Reads (format_image image capacity) = ⊥
-Reads (show_image image with_map) = Unit {0}
+Reads (show_image image with_map in_parallel) = Unit {0}
 Reads (drain_image image class) = ⊥
 Reads (gen_trace requests seed) = ⊥
 Reads (run_image image options) = Unit {0}
 Reads (rebuild_image image budget seed) = ⊥
 Reads (replay_image image seed) = ⊥
+Reads (conservative_image image with_map) = ⊥
 
 -- the command puts an image in the place of the one that it gets
 abbrev pub PutsBack : Command → Type 0
 PutsBack (format_image image capacity) = ⊥
-PutsBack (show_image image with_map) = ⊥
+PutsBack (show_image image with_map in_parallel) = ⊥
 PutsBack (drain_image image class) = ⊥
 PutsBack (gen_trace requests seed) = ⊥
 PutsBack (run_image image options) = Unit {0}
 PutsBack (rebuild_image image budget seed) = Unit {0}
 PutsBack (replay_image image seed) = ⊥
+PutsBack (conservative_image image with_map) = ⊥
 
 -- the command runs a trace
 abbrev pub RunsATrace : Command → Type 0
 RunsATrace (format_image image capacity) = ⊥
-RunsATrace (show_image image with_map) = ⊥
+RunsATrace (show_image image with_map in_parallel) = ⊥
 RunsATrace (drain_image image class) = ⊥
 RunsATrace (gen_trace requests seed) = ⊥
 RunsATrace (run_image image options) = Unit {0}
 RunsATrace (rebuild_image image budget seed) = ⊥
 RunsATrace (replay_image image seed) = ⊥
+RunsATrace (conservative_image image with_map) = ⊥
 
 -- the command replays a schedule
 abbrev pub ReplaysASchedule : Command → Type 0
 ReplaysASchedule (format_image image capacity) = ⊥
-ReplaysASchedule (show_image image with_map) = ⊥
+ReplaysASchedule (show_image image with_map in_parallel) = ⊥
 ReplaysASchedule (drain_image image class) = ⊥
 ReplaysASchedule (gen_trace requests seed) = ⊥
 ReplaysASchedule (run_image image options) = ⊥
 ReplaysASchedule (rebuild_image image budget seed) = ⊥
 ReplaysASchedule (replay_image image seed) = Unit {0}
+ReplaysASchedule (conservative_image image with_map) = ⊥
 
 -- the command reads the source
 abbrev pub ReadsSource : Command → Type 0

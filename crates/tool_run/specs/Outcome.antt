@@ -9,9 +9,9 @@ use Rattle.worker_run.specs.Said.{Line}
 use Rattle.trace_text.specs.declared.schedule.Schedule.{Schedule}
 use Rattle.trace_text.specs.Schedule.{IsSchedule, IsFirstBad}
 use Rattle.trace_text.specs.Trace.{lines_of, AreLines, IsFirstOutside}
-use Rattle.tool_command.specs.Command.{Command, format_image, show_image, drain_image, gen_trace, run_image, rebuild_image, replay_image, image_name, Asks, AsksToRun, AsksToReplay}
+use Rattle.tool_command.specs.Command.{Command, format_image, show_image, drain_image, gen_trace, run_image, rebuild_image, replay_image, conservative_image, image_name, Asks, AsksToRun, AsksToReplay}
 use Rattle.tool_run.specs.Lines.{Tells, write_line, no_image_line, bad_header_line, outside_line, bad_shard_line, bad_line_line, bad_step_line, too_long_line}
-use Rattle.tool_run.specs.Making.{Makes, GetsImage, Reads, PutsBack, ReadsSource, Options, IsMalformed, HasOutside, HasBadShard, HasMapped, HasBadLine, HasTooMuch, HasGood, HasBadStep, HasOutsideLeft, PointsOutside, fault_of, image_in, longest_trace}
+use Rattle.tool_run.specs.Making.{Makes, GetsImage, FollowsLinks, kinds_checked, Reads, PutsBack, ReadsSource, Options, IsMalformed, HasOutside, HasBadShard, HasMapped, HasBadLine, HasTooMuch, HasGood, HasBadStep, HasOutsideLeft, PointsOutside, fault_of, fault_within, image_in, longest_trace}
 use Rattle.dict_model.specs.Links.{shards}
 use Rattle.dict_model.specs.Shards.{Map, MapOf, BadShard}
 
@@ -65,6 +65,13 @@ pub record AsksToGet (words : List (List ℕ)) (name : List ℕ) : Type 0 where
   pub gets : GetsImage command
   pub is_named : image_name command ≡ name
 
+-- the words ask for a command that follows the links of the image of this name
+pub record AsksToFollow (words : List (List ℕ)) (name : List ℕ) : Type 0 where
+  pub command : Command
+  pub asked : Asks words command
+  pub follows : FollowsLinks command
+  pub is_named : image_name command ≡ name
+
 -- the words ask for a command that gets the image of this name, and puts none
 pub record AsksToLook (words : List (List ℕ)) (name : List ℕ) : Type 0 where
   pub command : Command
@@ -113,28 +120,34 @@ pub record IsAbsent (words : List (List ℕ)) (contents : Contents) (Told : List
   pub lacks : Lacks contents name
   pub told : Told (no_image_line name)
 
--- the words name an image with a malformed header
+-- the words name an image whose header is malformed for their command
 pub record IsBadHeader (words : List (List ℕ)) (contents : Contents) (Told : List ℕ → Type 0)
     : Type 0 where
   pub name : List ℕ
   pub asks : AsksToGet words name
   pub cause : BadHeader
-  pub malformed : IsMalformed contents name cause
+  pub malformed : IsMalformed (kinds_checked asks.command) contents name cause
   pub told : Told (bad_header_line cause)
 
--- a word points outside: in the image that the words name, or in the one that a crash leaves of the replay that they ask for
+-- a word points outside: in the image whose links the command follows, or in the one that a crash leaves of the replay that is asked for
 pub data IsOutsideAt (words : List (List ℕ)) (contents : Contents) (left : Option (List ℕ)) (Told : List ℕ → Type 0) : Type 0 where
-  in_image : (name : List ℕ) (at value : ℕ) → AsksToGet words name → HasOutside contents name at value
+  in_image : (name : List ℕ) (at value : ℕ) → AsksToFollow words name → HasOutside contents name at value
       → Told (outside_line at value) → IsOutsideAt words contents left Told
   in_image_left : (name : List ℕ) (at value : ℕ) → AsksForReplay words name → HasOutsideLeft contents left name at value
       → Told (outside_line at value) → IsOutsideAt words contents left Told
 
--- the store tells that it has a malformed image of this name
-pub record HoldsMalformed (contents : Contents) (name : List ℕ) : Type 0 where
+-- the store tells that it has an image of this name that is malformed under this limit of kinds
+pub record HoldsMalformed (limit : Option ℕ) (contents : Contents) (name : List ℕ) : Type 0 where
   pub bytes : List ℕ
   pub held : told_of contents name ≡ Some (Some bytes)
   pub cause : BadHeader
-  pub fault : fault_of bytes ≡ Some cause
+  pub fault : fault_within limit bytes ≡ Some cause
+
+-- the store tells that it has an image of this name whose header is good under this limit
+pub record HoldsFormed (limit : Option ℕ) (contents : Contents) (name : List ℕ) : Type 0 where
+  pub bytes : List ℕ
+  pub held : told_of contents name ≡ Some (Some bytes)
+  pub good : fault_within limit bytes ≡ None
 
 -- the store tells that it has an image of this name with a good header, in which the word points outside
 pub record HoldsOutside (contents : Contents) (name : List ℕ) (at : ℕ) : Type 0 where
@@ -247,9 +260,10 @@ pub record HoldsOutsideLeft (contents : Contents) (name : List ℕ) (left : Opti
 -- nothing in the store or the source stands against the command
 abbrev pub CanBeDone : Command → Contents → Option (List ℕ) → Type 0
 CanBeDone (format_image image capacity) contents left = Unit {0}
-CanBeDone (show_image image with_map) contents left = HoldsMaps contents image
+CanBeDone (show_image image with_map in_parallel) contents left = HoldsMaps contents image
 CanBeDone (drain_image image class) contents left = HoldsGood contents image
 CanBeDone (gen_trace requests seed) contents left = Unit {0}
 CanBeDone (run_image image options) contents left = HoldsMaps contents image × HoldsTrace left
 CanBeDone (rebuild_image image budget seed) contents left = HoldsGood contents image
 CanBeDone (replay_image image seed) contents left = HoldsReplay contents image left
+CanBeDone (conservative_image image with_map) contents left = HoldsFormed None contents image

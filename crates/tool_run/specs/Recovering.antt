@@ -1,5 +1,5 @@
 -- What recovery of an image gives the tool, and what draining a class of it gives.
-use Rattle.std.specs.Prelude.{◌≡◌, ◌≢◌, ℕ, ◌*◌, List, length, None, Contains, AllPairs, slice_index}
+use Rattle.std.specs.Prelude.{◌≡◌, ◌≢◌, ℕ, ◌*◌, List, length, Option, None, Contains, AllPairs, slice_index}
 use Rattle.heap_model.specs.declared.block.Block.{Block}
 use Rattle.heap_model.specs.Image.{Image}
 use Rattle.heap_model.specs.Header.{IsWellFormed, capacity_of, first_kinds}
@@ -15,12 +15,12 @@ use Rattle.std.specs.BTreeMap.{BTreeMap}
 use Rattle.dict_model.specs.Links.{shards}
 use Rattle.dictionary.specs.Reading.{RecoversTo, AreMaps}
 use Rattle.run_model.specs.Opened.{IsDictionary}
-use Rattle.tool_run.specs.Making.{PointsOutside, HasMapped, fault_of, image_in, drained_text}
+use Rattle.tool_run.specs.Making.{PointsOutside, HasMapped, fault_of, fault_within, image_in, drained_text}
 
--- the bytes are the image of this name, and their header is good
-pub record IsGoodImage (contents : Contents) (name bytes : List ℕ) : Type 0 where
+-- the bytes are the image of this name, and their header is good under this limit of kinds
+pub record IsGoodImage (limit : Option ℕ) (contents : Contents) (name bytes : List ℕ) : Type 0 where
   pub is_there : Holds contents name bytes
-  pub good : fault_of bytes ≡ None
+  pub good : fault_within limit bytes ≡ None
 
 -- the bytes hold an image with a good header, in the new version
 abbrev pub HoldsImage : List ℕ → Type 0

@@ -1,6 +1,7 @@
 //! The tool's top call: does what the words of a command line ask for, and answers a status.
 #![tactic(auto)]
 
+mod conservative;
 mod delivery;
 mod drained;
 mod draining;

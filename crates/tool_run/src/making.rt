@@ -7,14 +7,15 @@ ghost use Rattle.tool_command.specs.Invocations.{command_of};
 ghost use Rattle.tool_run.specs.Inside.{Refuses, RefusesEither, IsBeforeReading};
 ghost use Rattle.tool_command.specs.Command.{show_image, image_name};
 ghost use Rattle.tool_ports.specs.Left.{IsAtEnd};
-ghost use Rattle.tool_run.specs.Making.{Makes, GetsImage, ReadsSource, IsFormatted, Shows};
+ghost use Rattle.tool_run.specs.Making.{Makes, FollowsLinks, ReadsSource, IsFormatted, Shows};
 ghost use Rattle.tool_run.specs.Outcome.{HoldsOutside};
 
+use crate::conservative::tell_by_words;
 use crate::draining::drain_image;
 use crate::fault::Fault;
 use crate::generating::generate;
 use crate::rebuilding::rebuild_named;
-use crate::recovering::recover_image;
+use crate::recovering::recover_shown;
 use crate::replaying::replay_named;
 use crate::working::work_named;
 use dictionary::read_maps;
@@ -51,7 +52,7 @@ pub fn make<R: Threads + Sync, I: ImageStore, T: Source, G: Gate + Sync, C: Chan
         (Rose (T.faults trace.old) (T.faults trace.new))) }
     ensures unread { IfErr result (λ fault. IsBeforeReading (command_of command.entry) fault
         → trace.new ≡ trace.old) }
-    ensures image_first { (at : ℕ) → GetsImage (command_of command.entry)
+    ensures image_first { (at : ℕ) → FollowsLinks (command_of command.entry)
         → HoldsOutside (I.contents images.old) (image_name (command_of command.entry)) at
         → trace.new ≡ trace.old }
     ensures no_source { ¬ (ReadsSource (command_of command.entry)) → trace.new ≡ trace.old }
@@ -64,7 +65,11 @@ pub fn make<R: Threads + Sync, I: ImageStore, T: Source, G: Gate + Sync, C: Chan
 {
     match command {
         Invocation::Format { image: _, layout } => Ok(empty_image(alloc, layout)?),
-        Invocation::Show { image, with_map } => report(alloc, image, with_map, images),
+        Invocation::Show {
+            image,
+            with_map,
+            in_parallel,
+        } => report(rt, alloc, image, with_map, in_parallel, images),
         Invocation::Drain { image, class } => { drain_image(alloc, image, class, images, chances) }
         Invocation::Gen { plan } => Ok(generate(alloc, plan)?),
         Invocation::Run { image, options } => {
@@ -77,6 +82,9 @@ pub fn make<R: Threads + Sync, I: ImageStore, T: Source, G: Gate + Sync, C: Chan
         } => rebuild_named(alloc, image, budget, seed, images, chances),
         Invocation::Replay { image, seed } => {
             replay_named(alloc, image, seed, images, trace, chances)
+        }
+        Invocation::Conservative { image, with_map } => {
+            tell_by_words(alloc, image, with_map, images)
         }
     }
 }
@@ -98,22 +106,24 @@ fn empty_image(alloc: Global, layout: Geometry) -> Result<Product, AllocError>
     })
 }
 
-// The report on an image, recovered, and its map where that is asked for.
-fn report<I: ImageStore>(
+// The report on an image, recovered, by threads or by one, and its map where that is asked for.
+fn report<R: Threads + Sync, I: ImageStore>(
+    rt: &R,
     alloc: Global,
     name: &str,
     with_map: bool,
+    in_parallel: bool,
     images: &mut I,
 ) -> Result<Product, Fault>
     ensures ok { IfOk result (λ product. (product.image ≡ None)
         × Shows (I.contents images.old) name.now with_map product.text) }
-    ensures err { IfErr result (λ fault. Refuses (show_image name.now with_map)
+    ensures err { IfErr result (λ fault. Refuses (show_image name.now with_map in_parallel)
         (I.contents images.old) (Rose (I.faults images.old) (I.faults images.new)) fault) }
     ensures unchanged { I.contents images.new ≡ I.contents images.old }
     ensures later { I.faults images.old ≤ I.faults images.new }
     ensures calls { I.calls images.new ≡ with_get get_limit (I.calls images.old) }
 {
-    let recovered = recover_image(alloc, name, images)?;
+    let recovered = recover_shown(rt, alloc, name, in_parallel, images)?;
     let maps = read_maps(alloc, &recovered)?;
     let text = recovered_text(alloc, &recovered, &maps, false, with_map)?;
     Ok(Product { image: None, text })

@@ -5,7 +5,7 @@ ghost use Rattle.tool_ports.specs.Causes.{Rose};
 ghost use Rattle.tool_run.specs.Calls.{get_limit};
 ghost use Rattle.tool_command.specs.Command.{Command, image_name};
 ghost use Rattle.tool_run.specs.Inside.{Refuses};
-ghost use Rattle.tool_run.specs.Making.{RebuildsNamed, GetsImage};
+ghost use Rattle.tool_run.specs.Making.{RebuildsNamed, FollowsLinks};
 
 use crate::fault::Fault;
 use crate::making::Product;
@@ -26,7 +26,7 @@ pub fn rebuild_named<I: ImageStore, C: Chances>(
 ) -> Result<Product, Fault>
     ensures ok { IfOk result (λ product. RebuildsNamed (I.contents images.old) name.now budget
         product.image product.text) }
-    ensures err { IfErr result (λ fault. (command : Command) → GetsImage command
+    ensures err { IfErr result (λ fault. (command : Command) → FollowsLinks command
         → image_name command ≡ name.now → Refuses command (I.contents images.old)
         (Rose (I.faults images.old) (I.faults images.new)) fault) }
     ensures unchanged { I.contents images.new ≡ I.contents images.old }

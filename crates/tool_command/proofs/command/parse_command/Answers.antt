@@ -1,5 +1,5 @@
 use Rattle.std.proofs.Common.{◌≡◌, ◌∙◌, ap, rules, codes, List, ℕ, Some}
-use Rattle.tool_command.proofs.CommandLemmas.{usage_format, usage_show, usage_drain, usage_gen, usage_run, usage_rebuild, usage_replay}
+use Rattle.tool_command.proofs.CommandLemmas.{usage_format, usage_show, usage_drain, usage_gen, usage_run, usage_rebuild, usage_replay, usage_conservative}
 use Rattle.tool_command.proofs.command.parse_command.Goals as goal
 
 pub returns-then-eq-clause-err : goal.returns-then-eq-clause-err
@@ -10,7 +10,7 @@ returns-then-eq-clause-err c is =
 pub returns-then-eq-2-clause-err : goal.returns-then-eq-2-clause-err
 returns-then-eq-2-clause-err c is =
     let word : c.args.command.now ≡ codes "show" = search rules in
-    usage_show _ (c.requires ∙ ap (λ (w : List ℕ). Some w) word) (λ image with_map asks. c.parse_show.ensures.err is asks.taken.faultless)
+    usage_show _ (c.requires ∙ ap (λ (w : List ℕ). Some w) word) (λ image with_map in_parallel asks. c.parse_show.ensures.err is asks.taken.faultless)
 
 pub returns-then-eq-3-clause-err : goal.returns-then-eq-3-clause-err
 returns-then-eq-3-clause-err c is =
@@ -36,3 +36,8 @@ pub returns-then-eq-7-clause-err : goal.returns-then-eq-7-clause-err
 returns-then-eq-7-clause-err c is =
     let word : c.args.command.now ≡ codes "replay" = search rules in
     usage_replay _ (c.requires ∙ ap (λ (w : List ℕ). Some w) word) (λ image seed asks. c.parse_replay.ensures.err is asks.taken.faultless)
+
+pub returns-then-eq-8-clause-err : goal.returns-then-eq-8-clause-err
+returns-then-eq-8-clause-err c is =
+    let word : c.args.command.now ≡ codes "conservative" = search rules in
+    usage_conservative _ (c.requires ∙ ap (λ (w : List ℕ). Some w) word) (λ image with_map asks. c.parse_conservative.ensures.err is asks.taken.faultless)

@@ -11,12 +11,12 @@ use Rattle.tool_run.proofs.making.report.Goals as goal
 pub returns-in_err-recovered-clause-err : goal.returns-in_err-recovered-clause-err
 returns-in_err-recovered-clause-err g c =
     at_cause _ c.from_residual.result c.from_residual.ensures
-    (λ fault is. refuses (show_image c.args.name.now c.args.with_map) _ _ _ fault _ is tt refl c.in_err-recovered.ensures.err)
+    (λ fault is. refuses (show_image c.args.name.now c.args.with_map c.args.in_parallel) _ _ _ fault _ is tt refl c.in_err-recovered.ensures.err)
 
 pub returns-in_err-maps-clause-err : goal.returns-in_err-maps-clause-err
 returns-in_err-maps-clause-err g c =
     at_cause _ c.from_residual-in_err-maps.result c.from_residual-in_err-maps.ensures
-    (λ fault is. refuses_maps _ _ _ c.in_ok-recovered.ensures.ok c.read_maps.ensures.ready (show_image c.args.name.now c.args.with_map) _ _ fault is c.in_err-maps.ensures.err tt refl)
+    (λ fault is. refuses_maps _ _ _ c.in_ok-recovered.ensures.ok c.read_maps.ensures.ready (show_image c.args.name.now c.args.with_map c.args.in_parallel) _ _ fault is c.in_err-maps.ensures.err tt refl)
 
 pub returns-clause-ok : goal.returns-clause-ok
 returns-clause-ok g c = (

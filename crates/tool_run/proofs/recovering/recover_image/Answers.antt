@@ -1,7 +1,13 @@
 use Rattle.std.proofs.Common.{refl}
 use Rattle.tool_run.proofs.ImageLemmas.{is_recovered, is_refused}
+use Rattle.tool_run.proofs.CallLemmas.{refuses_links}
 use Rattle.tool_run.proofs.DeliveryLemmas.{at_cause}
 use Rattle.tool_run.proofs.recovering.recover_image.Goals as goal
+
+pub returns-in_err-image-clause-err : goal.returns-in_err-image-clause-err
+returns-in_err-image-clause-err g c =
+    at_cause _ c.from_residual.result c.from_residual.ensures
+    (λ fault is. refuses_links _ _ _ fault _ is c.in_err-image.ensures.err)
 
 pub returns-in_err-recovered-clause-err : goal.returns-in_err-recovered-clause-err
 returns-in_err-recovered-clause-err g c =

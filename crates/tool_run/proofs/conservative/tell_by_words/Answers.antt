@@ -1,0 +1,21 @@
+use Rattle.std.proofs.Common.{None, refl}
+use Rattle.tool_command.specs.Command.{conservative_image}
+use Rattle.tool_run.proofs.CallLemmas.{refuses_within}
+use Rattle.tool_run.proofs.ConservativeLemmas.{refuses_memory}
+use Rattle.tool_run.proofs.DeliveryLemmas.{at_cause}
+use Rattle.tool_run.proofs.conservative.tell_by_words.Goals as goal
+
+pub returns-in_err-image-clause-err : goal.returns-in_err-image-clause-err
+returns-in_err-image-clause-err g c =
+    at_cause _ c.from_residual.result c.from_residual.ensures
+    (λ fault is. refuses_within None _ _ _ fault _ is c.in_err-image.ensures.err (conservative_image c.args.name.now c.args.with_map) tt refl refl)
+
+pub returns-in_err-text-clause-err : goal.returns-in_err-text-clause-err
+returns-in_err-text-clause-err g c =
+    at_cause _ c.from_residual-in_err-text.result c.from_residual-in_err-text.ensures
+    (λ fault is. refuses_memory (conservative_image c.args.name.now c.args.with_map) _ _ fault _ is c.in_err-text.ensures.err)
+
+pub returns-clause-ok : goal.returns-clause-ok
+returns-clause-ok g c =
+    let image = c.in_ok-image.ensures.ok in
+    (refl, record { bytes = c.in_ok-image.image.items; is_there = image.is_there; good = image.good; tells = c.in_ok-text.ensures.ok })
