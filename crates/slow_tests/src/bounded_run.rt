@@ -60,3 +60,23 @@ fn a_long_trace_gives_the_same_by_any_workers_within_its_bound(
     must_hold(&rt, 100_000 < wanted.0.len(), "it is long");
     Ok(())
 }
+
+/// Shows the image in the store, with its map: threads find what one finds.
+fn is_shown_alike(
+    rt: &(impl Abort + AllocGlobal + Threads + Sync),
+    images: &mut MapStore,
+) -> Result<(), Fail> {
+    let by_one = printed_by(rt, images, "show h --map", b"")?;
+    let by_threads = printed_by(rt, images, "show h --map --par", b"")?;
+    must_hold(rt, by_one == by_threads, "the same by threads");
+    must_hold(rt, 1_000 < by_one.len(), "it is long");
+    Ok(())
+}
+
+#[test]
+fn what_a_long_trace_leaves_is_shown_alike_by_threads(rt: HostRuntime) -> Result<(), Fail> {
+    let trace = made_trace(&rt, "gen 20000 7")?;
+    let mut images = store_with(rt.alloc(), &image_made(&rt, "format h 256")?)?;
+    printed_by(&rt, &mut images, "run h --workers 8", &trace)?;
+    is_shown_alike(&rt, &mut images)
+}

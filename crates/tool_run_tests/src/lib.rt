@@ -5,6 +5,8 @@
 #![tactic(auto)]
 
 #[cfg(test)]
+mod conservative;
+#[cfg(test)]
 mod contended;
 #[cfg(test)]
 mod damage;
@@ -18,6 +20,8 @@ mod harness;
 mod images;
 #[cfg(test)]
 mod meeting;
+#[cfg(test)]
+mod parallel;
 #[cfg(test)]
 mod rebuilds;
 #[cfg(test)]

@@ -46,7 +46,7 @@ drain -h 4
 drain 4 h";
 
 /// Makes the calls, which ask for nothing.
-fn are_usage(rt: &(impl Abort + AllocGlobal + Threads + Sync), lines: &str) {
+pub fn are_usage(rt: &(impl Abort + AllocGlobal + Threads + Sync), lines: &str) {
     let mut images = store(rt.alloc());
     for line in lines.split('\n') {
         runs(rt, &mut images, line, b"", 2, "usage\n");
