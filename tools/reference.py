@@ -59,9 +59,9 @@ def migrated(words):
 class Image:
     """An image with a good header, in version 2 once it is read. A block is (first word, words)."""
 
-    def __init__(self, data):
+    def __init__(self, data, asks_kinds=True):
         cause = header_cause(data)
-        if cause:
+        if cause and (asks_kinds or cause != "kind"):
             raise Refused(7, [f"bad header {cause}"])
         self.words = migrated(to_words(data))
         self.capacity, self.used = self.words[2], self.words[USED]
@@ -132,6 +132,19 @@ class Image:
         if outside:
             raise Refused(8, [f"pointer outside at {at} value {word:016x}" for at, word in outside])
         return held
+
+    def held_by_words(self):
+        """The blocks kept with no filter, in order: every word that names one leads to it."""
+        held, places = set(), list(ROOTS)
+        while places:
+            block = self.target(self.words[places.pop()])
+            if block and block not in held:
+                held.add(block)
+                places += range(block[0], block[0] + block[1])
+        return sorted(held)
+
+    def state(self):
+        return "clean" if self.words[STATE] == 1 else "dirty"
 
     def maps(self):
         """The eight shards' maps, each from a key to its value and its node's first word."""
@@ -232,8 +245,15 @@ def show(data, with_map):
     image = Image(data)
     held = image.held()
     values = {key: value for found in image.maps() for key, (value, _) in found.items()}
-    state = "clean" if image.words[STATE] == 1 else "dirty"
-    lines = [f"heap {image.capacity} {state}"] + key_lines(values, False) + held_lines(held)
+    lines = [f"heap {image.capacity} {image.state()}"] + key_lines(values, False) + held_lines(held)
+    return lines + (map_lines(image, image.used, image.info, held) if with_map else [])
+
+
+def conservative(data, with_map):
+    """What `conservative` prints. `kind` is the last cause, so behind it no other is hidden."""
+    image = Image(data, asks_kinds=False)
+    held = image.held_by_words()
+    lines = [f"heap {image.capacity} {image.state()}"] + held_lines(held)
     return lines + (map_lines(image, image.used, image.info, held) if with_map else [])
 
 
