@@ -1,0 +1,3 @@
+pub mod ExactLemmas
+pub mod OpenedLemmas
+pub mod OpeningLemmas

@@ -1,0 +1,4 @@
+pub mod Images
+pub mod Opened
+pub mod Faults
+pub mod Examples
