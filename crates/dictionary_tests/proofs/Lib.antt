@@ -1,2 +1,1 @@
-pub mod OpenedLemmas
-pub mod OpeningLemmas
+pub mod LeftLemmas

@@ -6,9 +6,9 @@ ghost use Rattle.run_model.specs.Opened.{IsDictionary};
 ghost use Rattle.worker_run.specs.Left.{AreWholeImage};
 ghost use Rattle.worker_run.specs.Said.{requests_of, ValuesAreShort};
 
-use crate::standing::recovered;
 use block_heap::SeqHeap;
 use dictionary::maps_of;
+use dictionary_heap::recover_dictionary;
 use line_memory::Closed;
 use std::alloc::{AllocError, Global};
 use std::test::Fail;
@@ -93,7 +93,7 @@ fn run_requests<G: Gate, C: Chances>(
 pub fn run_text(alloc: Global, image: &[u64], text: &str, budget: u64) -> Result<Outcome, Fail>
     requires { budget < 2 ^ 40 }
 {
-    let heap = recovered(alloc, image)?.heap;
+    let heap = recover_dictionary(alloc, image)?.heap;
     let requests = parse_trace(alloc, text.as_bytes())?;
     let chances = &mut SeededChances::new();
     run_requests(alloc, heap, &requests, budget, &OpenGate, chances)

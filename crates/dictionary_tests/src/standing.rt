@@ -1,13 +1,10 @@
 //! A dictionary on a heap for one thread.
-ghost use Rattle.std.specs.Prelude.{◌≡◌, ◌<◌, ◌^◌, IfOk, Contains, slice_index};
-ghost use Rattle.heap_model.specs.Image.{Image};
-ghost use Rattle.run_model.specs.Opened.{IsDictionary};
+ghost use Rattle.std.specs.Prelude.{◌<◌, ◌^◌};
 
 use block_heap::{AllocFault, Chance, Closed, SeqHeap, Stopped};
 use dict_model::LARGEST_VALUE;
 use dict_seat::Shard;
-use dictionary::{DictFilter, read_maps, root_kinds};
-use heap_recover::{Recovered, recover};
+use dictionary_heap::open_dictionary;
 use std::alloc::Global;
 use std::marker::Model;
 use std::test::Fail;
@@ -31,24 +28,13 @@ impl<C: Chance> Model for Standing<C> {
     ghost invariant = { λ s. s.stopped ≡ None → HasShards (seat_of s.heap) };
 }
 
-/// Recovers an image in which each shard is a map.
-pub fn recovered(alloc: Global, image: &[u64]) -> Result<Recovered, Fail>
-    ensures { IfOk result (λ r. IsDictionary (slice_index r.heap.words) (Contains r.heap.held)) }
-{
-    let recovered = recover(alloc, image, &root_kinds(), &DictFilter)?;
-    read_maps(alloc, &recovered)?;
-    Ok(recovered)
-}
-
 impl<C: Chance> Standing<C> {
     /// Opens what recovery makes of the image.
     pub fn open(alloc: Global, image: &[u64], budget: u64, chance: C) -> Result<Standing<C>, Fail>
         requires { budget < 2 ^ 40 }
     {
-        let heap = recovered(alloc, image)?.heap;
-        let heap = SeqHeap::new(alloc, heap, budget, chance)?;
         Ok(Standing {
-            heap,
+            heap: open_dictionary(alloc, image, budget, chance)?,
             stopped: None,
         })
     }

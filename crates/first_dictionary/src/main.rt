@@ -2,35 +2,26 @@
 //! stopped in the middle of a put, and reads what a crash leaves.
 #![tactic(auto)]
 
-ghost use Rattle.std.specs.Prelude.{IfOk};
 ghost use Rattle.block_heap.specs.SeqState.{seat_of};
 ghost use Rattle.dict_seat.specs.Shards.{HasShards};
 
 use block_heap::SeqHeap;
-use dictionary::{DictFilter, PutFault, Shard, read_maps, root_kinds};
-use heap_recover::recover;
+use dict_seat::requests_go_on_from_shard_to_shard;
+use dictionary::{PutFault, Shard};
+use dictionary_heap::{open_dictionary, recover_dictionary};
 use line_memory::ConstantChance;
 use region_header::format;
-use std::alloc::Global;
 use std::str;
 use std::test::Fail;
 
 /// How many steps the heap takes before it stops.
 const BUDGET: u64 = 2_720;
 
-/// Opens what recovery makes of an image whose shards are maps.
-fn open(alloc: Global, image: &[u64]) -> Result<SeqHeap<ConstantChance>, Fail>
-    ensures { IfOk result (λ heap. HasShards (seat_of heap)) }
-{
-    let recovered = recover(alloc, image, &root_kinds(), &DictFilter)?;
-    read_maps(alloc, &recovered)?;
-    Ok(SeqHeap::new(alloc, recovered.heap, BUDGET, ConstantChance(0))?)
-}
-
 /// Sets, reads and takes out keys, until the heap stops in the middle of a put.
 fn work(rt: &HostRuntime, heap: &mut SeqHeap<ConstantChance>) -> Result<(), Fail>
     requires { HasShards (seat_of heap.old) }
 {
+    requests_go_on_from_shard_to_shard();
     Shard::at(1).put(heap, 1, b"one")?;
     Shard::at(2).put(heap, 2, b"two")?;
     let mut room = [0; 8];
@@ -46,8 +37,8 @@ fn work(rt: &HostRuntime, heap: &mut SeqHeap<ConstantChance>) -> Result<(), Fail
 
 /// Tells the keys that recovery finds in what a crash leaves.
 fn tell(rt: &HostRuntime, kept: &[u64]) -> Result<(), Fail> {
-    let left = recover(rt.alloc(), kept, &root_kinds(), &DictFilter)?;
-    for map in &read_maps(rt.alloc(), &left)? {
+    let left = recover_dictionary(rt.alloc(), kept)?;
+    for map in &left.maps {
         for (key, value) in map {
             println!(rt; "{key} is {}", str::from_utf8(value.as_slice())?)?;
         }
@@ -58,7 +49,8 @@ fn tell(rt: &HostRuntime, kept: &[u64]) -> Result<(), Fail> {
 #[tactic(auto, unfolding(heap_model::specs::Geometry::largest_capacity))]
 fn main(rt: HostRuntime) -> Result<(), Fail> {
     let alloc = rt.alloc();
-    let mut heap = open(alloc, &format(alloc, 2)?)?;
+    let image = format(alloc, 2)?;
+    let mut heap = open_dictionary(alloc, &image, BUDGET, ConstantChance(0))?;
     work(&rt, &mut heap)?;
     tell(&rt, &heap.finish().kept)
 }

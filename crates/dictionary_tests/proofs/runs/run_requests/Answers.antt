@@ -11,7 +11,8 @@ use Rattle.run_model.specs.Workers.{worker_requests}
 use Rattle.run_model.specs.Working.{HaveRoom}
 use Rattle.worker_run.specs.Left.{AreWholeImage}
 use Rattle.worker_run.specs.Said.{requests_of}
-use Rattle.dictionary_tests.proofs.OpenedLemmas.{has_root, run_begins, capacity_seen, capacity_durable, whole_seen, few_requests}
+use Rattle.dictionary_heap.proofs.OpenedLemmas.{has_root, run_begins}
+use Rattle.dictionary_tests.proofs.LeftLemmas.{capacity_seen, capacity_durable, whole_seen, few_requests}
 use Rattle.dictionary_tests.proofs.runs.run_requests.Goals as goal
 
 pub work_off-stopped-requires : goal.work_off-stopped-requires

@@ -1,8 +1,11 @@
 use Rattle.std.proofs.Common.{arith}
 use Rattle.std.proofs.Math.Nat.{mod-lt}
-use Rattle.dictionary_tests.proofs.OpeningLemmas.{go_on}
+use Rattle.block_heap.specs.Laws.{seat_law}
+use Rattle.block_heap.specs.SeqState.{seat_of}
+use Rattle.dict_seat.proofs.OthersLemmas.{shards_on}
 use Rattle.dictionary_tests.proofs.standing.Standing.get.Goals as goal
 
 pub invariant_of-self-in_default-answer : goal.invariant_of-self-in_default-answer
 invariant_of-self-in_default-answer g c = λ running.
-    go_on c.self.inside.heap c.get-answer.new.seat _ _ _ (mod-lt c.args.key (omega arith)) (c.self.invariant running) c.get-answer.ensures.crash c.get-answer.ensures.maps
+    shards_on (seat_of c.self.inside.heap) (seat_of c.get-answer.new.seat) _ _ (seat_law c.self.inside.heap) (mod-lt c.args.key (omega arith)) c.get-answer.ensures.crash _ (c.self.invariant running)
+    c.get-answer.ensures.maps

@@ -4,10 +4,12 @@ use Rattle.heap_seat.specs.declared.fault.AllocFault.{AllocFault}
 use Rattle.heap_seat.specs.declared.fault.AllocFault.TheVariants.{Full}
 use Rattle.heap_seat.specs.declared.fault.Looks.{Looks}
 use Rattle.heap_seat.specs.View.{View}
+use Rattle.block_heap.specs.Laws.{seat_law}
+use Rattle.block_heap.specs.SeqState.{seat_of}
 use Rattle.dict_model.specs.Shards.{Map}
 use Rattle.dict_seat.specs.Maps.{GivesMap}
 use Rattle.dict_seat.specs.Puts.{PutAnswers}
-use Rattle.dictionary_tests.proofs.OpeningLemmas.{go_on}
+use Rattle.dict_seat.proofs.OthersLemmas.{shards_on}
 use Rattle.dictionary_tests.proofs.standing.Standing.put.Goals as goal
 
 -- a put that finds no room leaves the map as before
@@ -20,9 +22,9 @@ put-requires-clause-shard g c = (c.self.invariant c.in_default.is).each _ (mod-l
 
 pub invariant_of-self : goal.invariant_of-self
 invariant_of-self g c = λ running.
-    go_on c.self.inside.heap c.put.new.seat _ _ _ (mod-lt c.args.key (omega arith)) (c.self.invariant running) c.put.ensures.crash c.in-Ok.ensures.ok
+    shards_on (seat_of c.self.inside.heap) (seat_of c.put.new.seat) _ _ (seat_law c.self.inside.heap) (mod-lt c.args.key (omega arith)) c.put.ensures.crash _ (c.self.invariant running) c.in-Ok.ensures.ok
 
 pub invariant_of-self-in-Err-Full : goal.invariant_of-self-in-Err-Full
 invariant_of-self-in-Err-Full g c = λ running.
-    go_on c.self.inside.heap c.put.new.seat _ _ (λ map. map) (mod-lt c.args.key (omega arith)) (c.self.invariant running) c.put.ensures.crash
+    shards_on (seat_of c.self.inside.heap) (seat_of c.put.new.seat) _ _ (seat_law c.self.inside.heap) (mod-lt c.args.key (omega arith)) c.put.ensures.crash (λ map. map) (c.self.invariant running)
     (record { gives = full_gives _ _ c.in-Err-Full.field-0 c.in-Err-Full.looks _ _ c.in-Err-Full.field-0-is c.in-Err-Full.ensures.cause })
