@@ -31,7 +31,7 @@ use Rattle.block_heap.specs.Returns.{CachesAlong, GivesInRuns, GivesPrefix, IsLo
 use Rattle.block_heap.specs.Running.{IsRunning}
 use Rattle.block_heap.proofs.FlushLemmas.{full_number, split, rest_long, prefix_class, prefix_first, linked_long, new_other, gave_listed, gave_full, gave_shape, pops_now, all_shape, some_shape}
 use Rattle.block_heap.proofs.SmallLemmas.{changed}
-use Rattle.block_heap.proofs.WalkLemmas.{one_walk}
+use Rattle.heap_at_rest.proofs.ListLemmas.{one_walk}
 
 -- the cache of a running heap leads along that of its shape
 pub cached_along : (p : Parts) (class : ℕ) → IsClass class → (run : IsRunning p) → CachesAlong class p (run.shape.cached class)

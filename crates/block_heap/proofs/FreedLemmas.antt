@@ -18,7 +18,7 @@ use Rattle.block_heap.specs.Returns.{CachesAlong, CachesOnlyOf, CachesAllOf, Cac
 use Rattle.block_heap.specs.Running.{IsRunning, CachesAreShort}
 use Rattle.block_heap.proofs.FreeLemmas.{freed_parts, count_short, freed_shape}
 use Rattle.block_heap.proofs.BlockRunLemmas.{cached_along}
-use Rattle.block_heap.proofs.WalkLemmas.{one_walk}
+use Rattle.heap_at_rest.proofs.ListLemmas.{one_walk}
 use Rattle.block_heap.proofs.SmallLemmas.{other_cache}
 
 module _ (p : Parts) (class : ℕ) (is : IsClass class) (run : IsRunning p) (b : Block) (holds : Contains (held_in p) b) (size : b.words ≡ words_of_class class)

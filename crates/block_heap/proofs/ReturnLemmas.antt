@@ -10,7 +10,7 @@ use Rattle.heap_model.specs.Chains.{Walks}
 use Rattle.heap_model.proofs.CountingLemmas.{one_if_true, times_some}
 use Rattle.heap_model.proofs.MemberLemmas.{in_head, in_rest, head_or_rest}
 use Rattle.heap_model.proofs.SizeLemmas.{four_blocks}
-use Rattle.heap_at_rest.proofs.ListLemmas.{times_of, walk_behind}
+use Rattle.heap_at_rest.proofs.ListLemmas.{times_of, walk_behind, one_walk}
 use Rattle.heap_shape.specs.Shape.{Shape, Place, in_list, is_full, in_large, is_new, stands_in, with_at}
 use Rattle.heap_shape.specs.Standing.{first_of, IsFirstOf, HoldsAt, HasOneOwner, a_free, a_held, IsAs}
 use Rattle.heap_shape.specs.Whole.{IsShape}
@@ -34,7 +34,7 @@ use Rattle.block_heap.proofs.FlushLemmas.{give_low, split, rest_long, prefix_fit
 use Rattle.std.proofs.lemmas.List.{nil_from_length}
 use Rattle.block_heap.proofs.OrderLemmas.{in_list_along, in_list_has, list_kept, list_same}
 use Rattle.block_heap.proofs.SmallLemmas.{changed}
-use Rattle.block_heap.proofs.WalkLemmas.{walk_begin, one_walk}
+use Rattle.block_heap.proofs.WalkLemmas.{walk_begin}
 
 -- a list with one more in front has what it had
 pub with_more : (f : ℕ → List ℕ) (at d list e : ℕ) → Contains (f list) e → Contains (with_at f at (d ∷ f at) list) e

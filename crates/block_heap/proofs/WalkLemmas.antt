@@ -22,13 +22,3 @@ walk_first next from (x ∷ before) last walks = subst (λ y. Contains (x ∷ (b
 pub walk_begin : (next : ℕ → ℕ) (from : ℕ) (words : List ℕ) → Walks next from words → 1 ≤ length words → Contains words from
 walk_begin next from [] walks some = absurd (omega arith)
 walk_begin next from (w ∷ ws) walks some = subst (λ x. Contains (w ∷ ws) x) (sym walks.0) (in_head w ws)
-
--- walks along as many blocks from one block are one
-pub one_walk : (next : ℕ → ℕ) (from : ℕ) (xs ys : List ℕ) → Walks next from xs → Walks next from ys → length xs ≡ length ys → xs ≡ ys
-one_walk next from [] [] a b long = refl
-one_walk next from [] (y ∷ ys) a b long = absurd (omega arith)
-one_walk next from (x ∷ xs) [] a b long = absurd (omega arith)
-one_walk next from (x ∷ xs) (y ∷ ys) a b long =
-    let same : x ≡ y = sym a.0 ∙ b.0 in
-    let rest : xs ≡ ys = one_walk next (next x) xs ys a.1 (subst (λ z. Walks next (next z) ys) (sym same) b.1) (omega arith) in
-    ap (λ z. z ∷ xs) same ∙ ap (λ zs. y ∷ zs) rest

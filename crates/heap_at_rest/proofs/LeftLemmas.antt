@@ -1,15 +1,18 @@
 -- What recovery leaves, superblock by superblock: in which list each stands, and which held block takes it.
-use Rattle.std.proofs.Common.{◌≡◌, ℕ, zero, suc, ◌+◌, ◌*◌, ◌<◌, ◌≤◌, ◌⊎◌, inl, inr, ◌&&◌, nat_le, nat_lt, List, refl, ap, sym, subst, ◌∙◌, arith}
+use Rattle.std.proofs.Common.{◌≡◌, ℕ, zero, suc, ◌+◌, ◌*◌, ◌<◌, ◌≤◌, ◌⊎◌, inl, inr, ◌&&◌, nat_le, nat_lt, List, Contains, refl, ap, sym, subst, ◌∙◌, arith}
 use Rattle.std.proofs.lemmas.Bool.{and_parts, and_from, le-leb, lt-ltb, leb-true, ltb-true}
 use Rattle.heap_model.specs.declared.block.Block.{Block}
-use Rattle.heap_model.specs.Geometry.{lists, start_word, superblock_words}
+use Rattle.heap_model.specs.Geometry.{lists, info_word, link_word, head_word, start_word, superblock_words, state_word, dirty}
 use Rattle.heap_model.specs.Image.{Image}
+use Rattle.heap_model.specs.Header.{capacity_of}
 use Rattle.heap_model.specs.Sizes.{IsClass, words_of_class}
+use Rattle.heap_model.specs.Words.{full_anchor}
 use Rattle.heap_model.specs.Blocks.{Layout, layout_of, IsBlock}
 use Rattle.heap_model.specs.Recovered.{HasPartIn, IsFreeSuperblock, IsBlockOfClass, AreAscending}
+use Rattle.heap_model.specs.Chains.{Follows}
 use Rattle.heap_model.specs.Counting.{times, total}
-use Rattle.heap_model.specs.Recovery.{HoldsKept, IsPartial, IsFullyKept, IsInLarge, IsListed, IsRecovered}
-use Rattle.heap_model.specs.Rest.{list_numbers, large_part}
+use Rattle.heap_model.specs.Recovery.{HoldsKept, IsSpare, IsPartial, IsFullyKept, IsInLarge, IsListed, first_number, IsKeptWord, HasInfoAndAnchor}
+use Rattle.heap_model.specs.Rest.{list_numbers, large_part, IsAnchored}
 use Rattle.heap_model.proofs.SizeLemmas.{two_words, four_blocks}
 use Rattle.heap_model.proofs.BlockLemmas.{never_overlap}
 use Rattle.heap_model.proofs.CountingLemmas.{total_none, total_some, total_once, times_none, times_some, times_once, one_if_true, one_if_false, one_if_some, is_number, number_below, numbers_ascend}
@@ -67,27 +70,51 @@ counts_large capacity d b counts =
     let sides = and_parts (nat_lt b.first_word (start_word capacity (d + 1))) (nat_lt (start_word capacity d) (b.first_word + b.words)) tests.1 in
     (leb-true 8192 b.words tests.0, record { begins = ltb-true b.first_word (start_word capacity (d + 1)) sides.0; ends = ltb-true (start_word capacity d) (b.first_word + b.words) sides.1 })
 
--- the held blocks are the kept ones in order, each a block, and recovery has made this of the image
+-- the list has the spare blocks of a superblock of the class, each once
+pub record HasSpares (l : Layout) (kept : Block → Type 0) (class d : ℕ) (ws : List ℕ) : Type 0 where
+  pub sound : (w : ℕ) → Contains ws w → IsSpare l kept class d w
+  pub once : (w : ℕ) → IsSpare l kept class d w → times w ws ≡ 1
+
+-- what an image is left as where these blocks are kept: lists, chains and anchors are right for them, in whatever order the chains are
+pub record LeavesHeap (old new : Image) (kept : Block → Type 0) : Type 0 where
+  pub descriptors : ℕ → List ℕ
+  pub chains : ℕ → List ℕ
+  pub listed : (list : ℕ) → list < lists → AreAscending (λ d. d) (IsListed (layout_of old) kept list) (descriptors list)
+  pub chained : (class d : ℕ) → IsClass class → IsPartial (layout_of old) kept class d → HasSpares (layout_of old) kept class d (chains d)
+  pub state : new state_word ≡ dirty
+  pub same : (word : ℕ) → IsKeptWord (capacity_of old) word → new word ≡ old word
+  pub heads : (list : ℕ) → list < lists → new (head_word list) ≡ first_number (descriptors list)
+  pub links : (list : ℕ) → list < lists
+      → Follows (λ d. new (link_word d)) (capacity_of old) (first_number (descriptors list)) (descriptors list)
+  pub unlisted : (d : ℕ) → d < capacity_of old → ((list : ℕ) → list < lists → Contains (descriptors list) d → ⊥) → new (link_word d) ≡ 0
+  pub free : (d : ℕ) → IsFreeSuperblock (layout_of old) kept d → HasInfoAndAnchor new d 0 0
+  pub partial : (class d : ℕ) → IsClass class → IsPartial (layout_of old) kept class d
+      → (new (info_word d) ≡ class) × IsAnchored new class d (chains d)
+  pub full : (class d : ℕ) → IsClass class → IsFullyKept (layout_of old) kept class d → HasInfoAndAnchor new d class full_anchor
+  pub in_large : (d : ℕ) → IsInLarge (layout_of old) kept d → HasInfoAndAnchor new d (old (info_word d)) full_anchor
+  pub untaken : (d : ℕ) → (layout_of old).used ≤ d → d < capacity_of old → HasInfoAndAnchor new d 0 0
+
+-- the held blocks are the kept ones in order, each a block, and the image is left so
 pub record IsLeft (old new : Image) (kept : Block → Type 0) (held : List Block) : Type 0 where
-  pub recovered : IsRecovered old new kept
+  pub heap : LeavesHeap old new kept
   pub named : (b : Block) → kept b → IsBlock (layout_of old) b
   pub are_held : AreAscending (λ (b : Block). b.first_word) kept held
 
 module _ (old new : Image) (kept : Block → Type 0) (held : List Block) (left : IsLeft old new kept held) (d : ℕ) where
   -- what being in a list says
-  pub in_list : (list : ℕ) → list < lists → 0 < times d (left.recovered.descriptors list) → IsListed (layout_of old) kept list d
-  in_list list less some = (left.recovered.listed list less).sound d (times_some d (left.recovered.descriptors list) some)
+  pub in_list : (list : ℕ) → list < lists → 0 < times d (left.heap.descriptors list) → IsListed (layout_of old) kept list d
+  in_list list less some = (left.heap.listed list less).sound d (times_some d (left.heap.descriptors list) some)
 
   -- a superblock that may be in no list is in none
-  pub lists_none : ((list : ℕ) → list < lists → IsListed (layout_of old) kept list d → ⊥) → total (λ list. times d (left.recovered.descriptors list)) list_numbers ≡ 0
-  lists_none none = total_none (λ list. times d (left.recovered.descriptors list)) list_numbers (λ list p.
+  pub lists_none : ((list : ℕ) → list < lists → IsListed (layout_of old) kept list d → ⊥) → total (λ list. times d (left.heap.descriptors list)) list_numbers ≡ 0
+  lists_none none = total_none (λ list. times d (left.heap.descriptors list)) list_numbers (λ list p.
       let less = number_below list p in
-      times_none d (left.recovered.descriptors list) (λ q. none list less ((left.recovered.listed list less).sound d q)))
+      times_none d (left.heap.descriptors list) (λ q. none list less ((left.heap.listed list less).sound d q)))
 
   -- one that is in one list alone is there once
   pub lists_once : (list : ℕ) → list < lists → IsListed (layout_of old) kept list d → ((other : ℕ) → other < lists → IsListed (layout_of old) kept other d → other ≡ list)
-      → total (λ list'. times d (left.recovered.descriptors list')) list_numbers ≡ 1
-  lists_once list less here alone = total_once (λ a b. a < b) (λ list'. times d (left.recovered.descriptors list')) list_numbers list numbers_ascend
+      → total (λ list'. times d (left.heap.descriptors list')) list_numbers ≡ 1
+  lists_once list less here alone = total_once (λ a b. a < b) (λ list'. times d (left.heap.descriptors list')) list_numbers list numbers_ascend
       (λ a b in_a in_b before some_a some_b.
       let below_a = number_below a in_a in
       let below_b = number_below b in_b in
@@ -95,7 +122,7 @@ module _ (old new : Image) (kept : Block → Type 0) (held : List Block) (left :
       let at_b = alone b below_b (in_list b below_b some_b) in
       omega arith)
       (is_number list less)
-      (times_once d (left.recovered.descriptors list) (left.recovered.listed list less).ascending ((left.recovered.listed list less).complete d here))
+      (times_once d (left.heap.descriptors list) (left.heap.listed list less).ascending ((left.heap.listed list less).complete d here))
 
   -- where a large block is counted, it takes the whole superblock
   pub large_some : 0 < total (large_part (layout_of old).capacity d) held → (b : Block) × kept b × HasPartIn (layout_of old).capacity b d × TakesAll (layout_of old) b d

@@ -1,5 +1,5 @@
 -- Members and images of lists, and lists and walks along links.
-use Rattle.std.proofs.Common.{◌≡◌, ℕ, ◌<◌, inl, inr, nat_eq, List, [], ◌∷◌, ◌++◌, map, get_or, Contains, sym, subst, arith}
+use Rattle.std.proofs.Common.{◌≡◌, ℕ, ◌<◌, inl, inr, nat_eq, List, [], ◌∷◌, ◌++◌, length, map, get_or, Contains, refl, ap, sym, subst, ◌∙◌, arith}
 use Rattle.std.specs.Prelude.{AllPairs}
 use Rattle.std.proofs.lemmas.Bool.{eq-eqb}
 use Rattle.std.proofs.lemmas.List.{get_or_default}
@@ -51,3 +51,13 @@ pub walk_behind : (next : ℕ → ℕ) (from : ℕ) (before : List ℕ) (last : 
     → Walks next from ((before ++ last ∷ []) ++ rest) → Walks next (next last) rest
 walk_behind next from [] last rest walks = walks.1
 walk_behind next from (x ∷ before) last rest walks = walk_behind next (next x) before last rest walks.1
+
+-- walks along as many blocks from one block are one
+pub one_walk : (next : ℕ → ℕ) (from : ℕ) (xs ys : List ℕ) → Walks next from xs → Walks next from ys → length xs ≡ length ys → xs ≡ ys
+one_walk next from [] [] a b long = refl
+one_walk next from [] (y ∷ ys) a b long = absurd (omega arith)
+one_walk next from (x ∷ xs) [] a b long = absurd (omega arith)
+one_walk next from (x ∷ xs) (y ∷ ys) a b long =
+    let same : x ≡ y = sym a.0 ∙ b.0 in
+    let rest : xs ≡ ys = one_walk next (next x) xs ys a.1 (subst (λ z. Walks next (next z) ys) (sym same) b.1) (omega arith) in
+    ap (λ z. z ∷ xs) same ∙ ap (λ zs. y ∷ zs) rest

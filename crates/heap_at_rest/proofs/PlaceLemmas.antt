@@ -43,7 +43,7 @@ chain_of_partial l kept class d ws (is_in_large large) is part = absurd (large_n
 module _ (old new : Image) (kept : Block → Type 0) (held : List Block) (left : IsLeft old new kept held) where
   -- each taken superblock is in one place
   pub one_place : (d : ℕ) (s : Standing (layout_of old) kept d)
-      → total (λ list. times d (left.recovered.descriptors list)) list_numbers + full_mark s + total (large_part (layout_of old).capacity d) held ≡ below d (layout_of old).used
+      → total (λ list. times d (left.heap.descriptors list)) list_numbers + full_mark s + total (large_part (layout_of old).capacity d) held ≡ below d (layout_of old).used
   one_place d (is_untaken past) =
       let outside : below d (layout_of old).used ≡ 0 = one_if_false _ (λ test. let less = ltb-true d (layout_of old).used test in omega arith) in
       let unlisted = lists_none old new kept held left d (λ list less listed. elim (listed_cases (layout_of old) kept list d less listed) as (λ _. ⊥) [

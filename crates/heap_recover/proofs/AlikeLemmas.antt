@@ -15,7 +15,7 @@ use Rattle.heap_model.proofs.ImageLemmas.{length-words_from}
 use Rattle.heap_model.proofs.ReachLemmas.{reached_block, reach_kept, nothing_more, reach_by_kinds, traced_by_kinds}
 use Rattle.heap_at_rest.proofs.LeftLemmas.{IsLeft}
 use Rattle.heap_at_rest.proofs.LayoutLemmas.{same_there}
-use Rattle.heap_at_rest.proofs.RecoveredLemmas.{info_left}
+use Rattle.heap_at_rest.proofs.RecoveredLemmas.{info_left, heap_left}
 use Rattle.heap_recover.proofs.UnchangedLemmas.{words_unchanged, roots_unchanged, kinds_unchanged}
 use Rattle.line_memory.specs.View.{View}
 use Rattle.heap_recover.specs.InPlace.{IsRecoveryOf, RecoversAlike, IsBetween, IsPartlyRecovered}
@@ -91,8 +91,11 @@ module _ (old new : Image) (links : Links) (bytes limit : ℕ) (kind_limit : Opt
       same_as_old word (λ e. omega (arith, e, lies.0)) (stays (capacity_of old) word (inr (inr (inr (omega (arith, lies.0))))))
       (words_unchanged old new kinds links recovered b word reached inside)
 
+  reached_is_block : (b : Block) → IsReached old kinds links b → IsBlock (layout_of old) b
+  reached_is_block b reached = reached_block old kinds links b reached.kind reached.reach
+
   left : IsLeft old new (IsReached old kinds links) held
-  left = record { recovered = recovered; named = λ b reached. reached_block old kinds links b reached.kind reached.reach; are_held = held_are }
+  left = record { heap = heap_left old new (IsReached old kinds links) reached_is_block recovered; named = reached_is_block; are_held = held_are }
 
   -- a reached block is a block of the image
   blocks_same : (b : Block) → IsReached old kinds links b → IsBlock (layout_of image) b

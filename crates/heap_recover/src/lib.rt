@@ -22,10 +22,13 @@ pub use laws::{
     each_superblock_is_left_by_itself, reached_words_are_unchanged,
     recovery_begun_again_gives_the_same, recovery_has_one_outcome,
 };
+pub use lists::{link_lists, members};
+pub use parts::SuperblockBlocks;
 pub use recovery::{
-    current_copy, keep_marked, recover, recover_by, recover_owned, recover_owned_by,
+    current_copy, keep_marked, recover, recover_by, recover_current, recover_owned,
+    recover_owned_by,
 };
 pub use roles::Role;
-pub use superblocks::rebuild_superblock;
-pub use surveys::{Survey, survey_superblock};
+pub use superblocks::{rebuild_superblock, write_descriptor};
+pub use surveys::{Survey, survey_parts, survey_superblock};
 pub use taken::{Found, InOrder, TakenPass};

@@ -220,8 +220,8 @@ pub fn current_copy(
     }
 }
 
-/// Recovers an image of this version with a good header.
-fn recover_current<F: Filter, P: TakenPass>(
+/// Recovers an image of this version with a good header, of which it is known whether it was closed.
+pub fn recover_current<F: Filter, P: TakenPass>(
     alloc: Global,
     words: Vec<u64>,
     closed: bool,

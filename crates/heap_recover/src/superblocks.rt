@@ -36,8 +36,8 @@ pub fn rebuild_superblock(
     );
 }
 
-/// Writes the descriptor of superblock `d`. Only a free superblock loses its info.
-fn write_descriptor(words: &mut [u64], geometry: &Geometry, d: u64, role: Role, anchor: u64)
+/// Writes the descriptor of superblock `d`, with this anchor. Only a free superblock loses its info.
+pub fn write_descriptor(words: &mut [u64], geometry: &Geometry, d: u64, role: Role, anchor: u64)
     requires long { length words.old ≡ image_words geometry.now.capacity }
     requires superblock { d < geometry.now.capacity }
     ensures { IsWrittenAs (slice_index words.old) (slice_index words.new) d role anchor }

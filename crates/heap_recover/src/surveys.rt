@@ -74,7 +74,7 @@ pub fn survey_superblock(
 }
 
 /// The survey of a superblock of the class with these blocks.
-fn survey_parts(alloc: Global, class: SizeClass, parts: SuperblockBlocks, end: u64) -> Survey
+pub fn survey_parts(alloc: Global, class: SizeClass, parts: SuperblockBlocks, end: u64) -> Survey
     ensures role { RoleOfParts class parts.held.items parts.spares.items
         result.role result.spares.items }
     ensures held { result.held.items ≡ parts.held.items }
@@ -102,7 +102,7 @@ fn survey_parts(alloc: Global, class: SizeClass, parts: SuperblockBlocks, end: u
 
 impl Survey {
     /// The survey of a superblock that begins no kept block.
-    fn without_blocks(alloc: Global, role: Role, end: u64) -> Survey
+    pub fn without_blocks(alloc: Global, role: Role, end: u64) -> Survey
         ensures role { result.role ≡ role }
         ensures held { result.held.items ≡ [] }
         ensures spares { result.spares.items ≡ [] }
