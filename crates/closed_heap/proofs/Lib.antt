@@ -1,0 +1,5 @@
+pub mod WordLemmas
+pub mod PlaceLemmas
+pub mod OrderlyLemmas
+pub mod HeldLemmas
+pub mod ClosedLemmas
