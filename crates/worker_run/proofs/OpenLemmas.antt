@@ -1,4 +1,4 @@
--- A seat that was opened over a dictionary reaches only held blocks, and has the maps of the image.
+-- A seat that was opened over a dictionary reaches exactly the held blocks, and has the maps of the image.
 use Rattle.std.proofs.Common.{◌≡◌, ◌≢◌, ℕ, ◌+◌, ◌*◌, ◌^◌, ◌<◌, ◌⊎◌, inl, inr, List, [], ◌∷◌, Option, Contains, refl, subst, sym, ◌∙◌, arith}
 use Rattle.std.proofs.lemmas.Bool.{cases_eq}
 use Rattle.heap_model.specs.declared.block.Block.{Block}
@@ -17,7 +17,9 @@ use Rattle.dict_model.specs.Links.{shards, dict_links}
 use Rattle.dict_model.specs.Shards.{Map, LeadsTo, LeadsAlone, MapOf, IsMap}
 use Rattle.dict_model.proofs.MapLemmas.{IsUsed, map_wider, map_stays}
 use Rattle.dict_seat.specs.Maps.{IsMapIn, GivesMap}
-use Rattle.dict_seat.specs.Reached.{MayReach, IsNullOrHeld, ReachesOnlyHeld}
+use Rattle.dict_seat.specs.Reached.{MayReach, IsNullOrHeld, Reaches, ReachesAllHeld, ReachesOnlyHeld}
+use Rattle.dict_model.proofs.LinkLemmas.{link_in_block}
+use Rattle.dict_seat.proofs.ExactLemmas.{link_sees, root_sees, sees_held}
 use Rattle.dict_seat.proofs.GrownLemmas.{are_placed, reached_held, link_own}
 use Rattle.dict_seat.proofs.TrailLemmas.{settled_in}
 use Rattle.run_model.specs.Opened.{IsOpenedOver, IsReachedFrom}
@@ -121,6 +123,30 @@ module _ (image : Image) (v : View) (seat : IsSeat v) (opened : IsOpenedOver ima
         let map = opened.maps.each shard small in
         reached_alone image shard small map.1.kind_is map.0 map.1 b kind other (reach_back shard b kind p)
         (more_roots {chosen = λ r. r ≡ root} {chosen' = λ r. r ≢ shard} image (kinds_of image) dict_links (λ r e same. differs (sym same ∙ e)) b other (reach_back root b other q));
+  }
+
+  -- what the seat's roots reach in the image, loads see reached
+  sees_reach : (b : Block) (kind : ℕ) → FromOwn b kind → (root : ℕ) × Reaches v root b kind
+  sees_reach = closure_least (λ b kind. (root : ℕ) × Reaches v root b kind)
+      (λ b kind start. (
+        start.root,
+        root_sees v start.root b kind (image (root_word start.root)) start.is_chosen (start.kind_is ∙ opened.kinds.each start.root start.below)
+            (opened.words (root_word start.root) (in_root start.root (root_word start.root) start.is_chosen refl)).seen
+            ((opened.exact b).1 (record { kind = kind; reach = by_start b kind start }), start.leads.pointer),
+      ))
+      (λ a b from kind reached has link.
+      let is = link_in_block image a from link.position kind link.listed in
+      let held = sees_held v has.0 a from has.1 in (
+        has.0,
+        link_sees v has.0 a b from link.position kind (image (a.first_word + link.position)) has.1 is
+            (opened.words (a.first_word + link.position) (link_own v a from link.position kind held is)).seen
+            ((opened.exact b).1 (record { kind = kind; reach = by_link a b from kind reached link }), link.leads.pointer),
+      ))
+
+  pub all_opened : ReachesAllHeld v
+  all_opened = record {
+    only = only_opened;
+    all = λ b there. let reached = (opened.exact b).0 there in let sees = sees_reach b reached.kind reached.reach in (sees.0, reached.kind, sees.1);
   }
 
   pub gives_opened : (shard : ℕ) (map : Map) → shard < shards → Contains v.roots shard → MapOf image shard map → GivesMap v shard map

@@ -4,6 +4,7 @@ ghost use Rattle.heap_seat.specs.View.{View};
 ghost use Rattle.heap_seat.specs.Tickets.{Runs, Stops};
 ghost use Rattle.dict_model.specs.Nodes.{shard_of, largest_value};
 ghost use Rattle.dict_model.specs.Requests.{put, get, del, full};
+ghost use Rattle.dict_seat.specs.Reached.{ReachesAllHeld};
 ghost use Rattle.dict_seat.specs.Removal.{IsShard};
 ghost use Rattle.run_model.specs.Progress.{MayAnswer};
 ghost use Rattle.run_model.specs.Workers.{shard_asked};
@@ -27,6 +28,8 @@ fn put_reply<H: HeapSeat>(seat: &mut H, key: u64, value: &[u8]) -> Result<Reply,
     ensures runs { OnOk result (Runs (H.view seat.old) (H.view seat.new)) }
     ensures refused { IfOk result (λ reply. reply_of reply ≡ Some full
         → WasRefused H.view H.keeps H.has_none (put key value.now) seat.old seat.new) }
+    ensures exact { OnOk result (ReachesAllHeld (H.view seat.old)
+        → ReachesAllHeld (H.view seat.new)) }
     ensures cause { IfErr result (λ e. Stops e.step (H.view seat.old) (H.view seat.new)) }
 
     // At every exit.
@@ -52,6 +55,8 @@ fn get_reply<H: HeapSeat>(seat: &mut H, key: u64, mut room: Vec<u8>) -> Result<R
     ensures runs { OnOk result (Runs (H.view seat.old) (H.view seat.new)) }
     ensures refused { IfOk result (λ reply. reply_of reply ≡ Some full
         → WasRefused H.view H.keeps H.has_none (get key) seat.old seat.new) }
+    ensures exact { OnOk result (ReachesAllHeld (H.view seat.old)
+        → ReachesAllHeld (H.view seat.new)) }
     ensures cause { IfErr result (λ e. Stops e.step (H.view seat.old) (H.view seat.new)) }
 
     // At every exit.
@@ -76,6 +81,8 @@ fn del_reply<H: HeapSeat>(seat: &mut H, key: u64) -> Result<Reply, Stopped>
     ensures runs { OnOk result (Runs (H.view seat.old) (H.view seat.new)) }
     ensures refused { IfOk result (λ reply. reply_of reply ≡ Some full
         → WasRefused H.view H.keeps H.has_none (del key) seat.old seat.new) }
+    ensures exact { OnOk result (ReachesAllHeld (H.view seat.old)
+        → ReachesAllHeld (H.view seat.new)) }
     ensures cause { IfErr result (λ e. Stops e.step (H.view seat.old) (H.view seat.new)) }
 
     // At every exit.
@@ -103,6 +110,8 @@ pub(crate) fn answer<H: HeapSeat>(
     ensures runs { OnOk result (Runs (H.view seat.old) (H.view seat.new)) }
     ensures refused { IfOk result (λ reply. reply_of reply ≡ Some full
         → WasRefused H.view H.keeps H.has_none (request_of request.now) seat.old seat.new) }
+    ensures exact { OnOk result (ReachesAllHeld (H.view seat.old)
+        → ReachesAllHeld (H.view seat.new)) }
     ensures cause { IfErr result (λ e. Stops e.step (H.view seat.old) (H.view seat.new)) }
 
     // At every exit.

@@ -4,6 +4,7 @@ ghost use Rattle.std.specs.Vec.{vec_capacity};
 ghost use Rattle.heap_model.specs.Image.{Image};
 ghost use Rattle.heap_seat.specs.View.{View};
 ghost use Rattle.dict_model.specs.Links.{shards};
+ghost use Rattle.dict_seat.specs.Reached.{ReachesAllHeld};
 ghost use Rattle.run_model.specs.Needs.{ListsKeysOf};
 ghost use Rattle.run_model.specs.Opened.{HasMaps};
 ghost use Rattle.run_model.specs.Progress.{HasAnswered};
@@ -52,6 +53,8 @@ pub fn work_off<H: HeapSeat, G: Gate>(
     ensures cause { IsTrue result → (ticket : ℕ) × ((H.view seat.new).stopped ≡ Some ticket) }
     ensures going { IsFalse result → (H.view seat.old).stopped ≡ None
         → (H.view seat.new).stopped ≡ None }
+    ensures exact { IsFalse result → ReachesAllHeld (H.view seat.old)
+        → ReachesAllHeld (H.view seat.new) }
 
     // At every exit.
     ensures full { AreFullRightly H.view H.keeps

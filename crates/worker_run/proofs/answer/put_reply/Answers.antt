@@ -51,3 +51,6 @@ returns-in-Err-Full-clause-refused g c = λ told.
     let why = subst (λ (fault : AllocFault). PutAnswers (node_bytes (length c.args.value.now)) (shard_of c.args.key) fault v w) c.in-Err-Full.field-0-is c.in-Err-Full.ensures.cause in
     was_refused g.H.HeapSeat.view g.H.HeapSeat.keeps g.H.HeapSeat.has_none c.args.key c.args.value.now _ c.args.seat.now c.put.new.seat why.0
     (c.in-Err-Full.ensures.none _ c.in-Err-Full.field-0-is)
+
+pub returns-in-Err-Full-clause-exact : goal.returns-in-Err-Full-clause-exact
+returns-in-Err-Full-clause-exact g c = c.in-Err-Full.ensures.exact_full _ c.in-Err-Full.field-0-is

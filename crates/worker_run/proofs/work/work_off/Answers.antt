@@ -31,6 +31,7 @@ loop-request-init g c =
           (subst (λ rs. TakesRequests g.H.HeapSeat.view g.H.HeapSeat.keeps g.H.HeapSeat.has_none rs c.args.seat.now c.args.seat.now) (sym (answered_none qs)) refl);
       roots = refl;
       going = λ none. none;
+      exact = λ all. all;
       kept = g.met.H.HeapSeat.keeps_none c.args.seat.now;
     }
 
@@ -222,6 +223,7 @@ loop-request-preserved-in-Ok g c =
           }));
       roots = c.answer-answered.ensures.crash.others.roots ∙ c.loop-request.invariant.roots;
       going = λ none. c.in-Ok.ensures.runs.running;
+      exact = λ all. c.in-Ok.ensures.exact (c.loop-request.invariant.exact all);
       kept = kept;
     }
 

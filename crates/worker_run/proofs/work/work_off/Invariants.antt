@@ -1,5 +1,6 @@
 use Rattle.std.proofs.Common.{◌≡◌, ℕ, ◌≤◌, ◌+◌, ◌*◌, List, length, None}
 use Rattle.std.specs.Vec.{vec_len, vec_capacity}
+use Rattle.dict_seat.specs.Reached.{ReachesAllHeld}
 use Rattle.run_model.specs.Needs.{ListsKeysOf}
 use Rattle.run_model.specs.Runs.{answered}
 use Rattle.run_model.specs.Spending.{AreFullRightly, MakeFew}
@@ -27,6 +28,7 @@ invariant-loop-request g l = record {
   steps : TakesRequests g.H.HeapSeat.view g.H.HeapSeat.keeps g.H.HeapSeat.has_none (answered (worker_requests l.fn.worker.workers l.fn.worker.number (requests_of l.fn.requests)) (replies_of l.replies.items)) l.initial.seat l.seat;
   roots : (g.H.HeapSeat.view l.seat).roots ≡ (g.H.HeapSeat.view l.initial.seat).roots;
   going : (g.H.HeapSeat.view l.initial.seat).stopped ≡ None → (g.H.HeapSeat.view l.seat).stopped ≡ None;
+  exact : ReachesAllHeld (g.H.HeapSeat.view l.initial.seat) → ReachesAllHeld (g.H.HeapSeat.view l.seat);
   kept : g.H.HeapSeat.keeps l.initial.seat l.seat;
 }
 
