@@ -45,13 +45,13 @@ module _ (shared : SharedView) (workers : ℕ) (all rest : List SeatView) (last 
   fresh_rest = record {
     each = λ i any below.
         let is = fresh.each i any (let long = ap length split ∙ one_longer rest last in omega (arith, long, below)) in
-        subst (λ (s : SeatView). IsSeatOf shared s × IsOpenedFor workers i s.view) (ap (λ xs. get_or xs i any) split ∙ at_place rest last any i below) is;
+        subst (λ (s : SeatView). IsSeatOf shared s × IsOpenedFor shared.opening workers i s.view) (ap (λ xs. get_or xs i any) split ∙ at_place rest last any i below) is;
   }
 
-  pub fresh_last : IsSeatOf shared last × IsOpenedFor workers (length rest) last.view
+  pub fresh_last : IsSeatOf shared last × IsOpenedFor shared.opening workers (length rest) last.view
   fresh_last =
       let is = fresh.each (length rest) last (let long = ap length split ∙ one_longer rest last in omega (arith, long)) in
-      subst (λ (s : SeatView). IsSeatOf shared s × IsOpenedFor workers (length rest) s.view) (ap (λ xs. get_or xs (length rest) last) split ∙ at_seam rest last last) is
+      subst (λ (s : SeatView). IsSeatOf shared s × IsOpenedFor shared.opening workers (length rest) s.view) (ap (λ xs. get_or xs (length rest) last) split ∙ at_seam rest last last) is
 
 -- one more in its turn, and one fewer
 module _ {X : Type 0} (worker : X → Worker) (workers : ℕ) where

@@ -13,7 +13,7 @@ use Rattle.run_model.specs.Workers.{Replies}
 use Rattle.shared_run.specs.Together.{HaveWorked}
 use Rattle.shared_run.proofs.CountLemmas.{shards_all}
 use Rattle.run_model.proofs.SumLemmas.{sum_over, sum_within, sum_both, sum_beside}
-use Rattle.shared_run.proofs.WorkerLemmas.{of_each, answered_told, unused, taken_of, tables_of, taken_few, used_now}
+use Rattle.shared_run.proofs.WorkerLemmas.{of_each, answered_told, opened_setup, unused, taken_of, tables_of, taken_few, used_now}
 
 cond_within : (b : Bool) (n x y : ℕ) → n ≤ x + y → cond b 0 n ≤ cond b 0 x + cond b 0 y
 cond_within true n x y few = let none : 0 ≤ 0 + 0 = omega arith in none
@@ -50,7 +50,7 @@ module _ (words : List ℕ) (held : List Block) (workers budget : ℕ) (requests
       let taken = at.4.taken in
       let knows = at.3 in
       let none = (unused h worker below).nothing.counts in
-      let capacity = ap (λ (k : Setup). k.capacity) (at.1.1.setup ∙ h.setup worker below) in
+      let capacity = ap (λ (k : Setup). k.capacity) (at.1.1.setup ∙ opened_setup h worker below) in
       let looked = of_each h _ (looked_at_most (setup_of words budget workers) now kept h.views h.closed) worker below in
       let all = used_now h in
       let parts = with_beside worker (taken_of h) below in

@@ -9,7 +9,7 @@ use Rattle.core_model.specs.View.{View}
 use Rattle.dict_model.specs.Links.{shards}
 use Rattle.dict_model.specs.Requests.{Request, Reply}
 use Rattle.heap_table.specs.AtTable.{SharedView}
-use Rattle.heap_table.specs.Rule.{setup_for}
+use Rattle.heap_table.specs.Rule.{Opening, setup_for}
 use Rattle.heap_rule.specs.Seated.{IsSeatOf, SeatView}
 use Rattle.run_model.specs.Needs.{ListsKeysOf}
 use Rattle.run_model.specs.Opened.{IsOpenedOver}
@@ -28,7 +28,7 @@ use Rattle.shared_run.specs.Settling.{HasSettled, WasQuieted}
 use Rattle.shared_run.proofs.PartLemmas.{part_emptied, part_ended, part_few, part_full, part_kept, part_steps, part_stops, part_taken, settled_costs}
 
 -- a seat that was just made of one that was opened for a worker
-module _ (workers worker : ℕ) (seat : SeatView) (fresh : IsOpenedFor workers worker seat.view) (s : CacheState) (new : IsNew seat s) where
+module _ (opening : Opening) (workers worker : ℕ) (seat : SeatView) (fresh : IsOpenedFor opening workers worker seat.view) (s : CacheState) (new : IsNew seat s) where
   same_image : slice_index seat.view.setup.opened ≡ slice_index s.view.setup.opened
   same_image = ap (λ (v : View). slice_index v.setup.opened) (sym new.view)
 
@@ -60,7 +60,7 @@ module _ (s u t : CacheState) (seat : SeatView) (shared : SharedView) (new : IsN
   kept_setup = (settled_costs before after u t settled).kept.1.setup ∙ kept.1.setup ∙ ap (λ (v : View). v.setup) new.view ∙ of.setup
 
 -- the part that its worker did: requests worked off from s to u, and then its caches emptied
-module _ (shared : SharedView) (requests : List Request) (workers worker : ℕ) (seat last : SeatView) (of : IsSeatOf shared seat) (of_last : IsSeatOf shared last) (fresh : IsOpenedFor workers worker seat.view)
+module _ (shared : SharedView) (requests : List Request) (workers worker : ℕ) (seat last : SeatView) (of : IsSeatOf shared seat) (of_last : IsSeatOf shared last) (fresh : IsOpenedFor shared.opening workers worker seat.view)
     (s u t : CacheState) (new : IsNew seat s) (replies : Replies) (before after : Bool) (settled : HasSettled before after u t) (last_is : t.view ≡ last.view) where
   abbrev opened_image : Image
   opened_image = slice_index (setup_for shared.opening).opened
@@ -85,16 +85,16 @@ module _ (shared : SharedView) (requests : List Request) (workers worker : ℕ) 
     seat_of = of_last;
     first = s;
     last = t;
-    setup = ap (λ (v : View). v.setup) new.view ∙ of.setup;
+    fresh = subst (IsOpenedFor shared.opening workers worker) (sym new.view) fresh;
     last_is = last_is;
     part = record {
       roots_own = λ root below. subst (λ (ns : List ℕ). Contains ns root ↔ (root_owner workers root ≡ worker)) (sym (part_kept opened_image (worker_requests workers worker requests) replies before after s u t settled kept).1.roots)
-          (job_owns workers worker seat fresh s new root below);
-      unused = job_unused workers worker seat fresh s new;
+          (job_owns shared.opening workers worker seat fresh s new root below);
+      unused = job_unused shared.opening workers worker seat fresh s new;
       ended = part_ended opened_image (worker_requests workers worker requests) replies before after s u t settled
           (λ e. subst (λ (i : Image). HasWorked i (worker_requests workers worker requests) [] replies (heap_view u)) same (worked e))
           (λ e. subst (λ (i : Image). HasStopped i (worker_requests workers worker requests) replies (heap_view u)) same (stopped e)) stays;
-      few = λ keys lists. part_few opened_image (worker_requests workers worker requests) replies before after s u t settled (length keys) (job_unused workers worker seat fresh s new) kept
+      few = λ keys lists. part_few opened_image (worker_requests workers worker requests) replies before after s u t settled (length keys) (job_unused shared.opening workers worker seat fresh s new) kept
           (calls keys (subst (λ (i : Image). ListsKeysOf i keys) (sym same) lists));
       full = part_full opened_image (worker_requests workers worker requests) replies before after s u t settled full;
       taken = part_taken opened_image (worker_requests workers worker requests) replies before after s u t settled taken;

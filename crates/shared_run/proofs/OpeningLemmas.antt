@@ -10,6 +10,7 @@ use Rattle.dict_model.specs.Links.{shards}
 use Rattle.dict_model.specs.Shards.{BadShard}
 use Rattle.dict_model.proofs.ShardLemmas.{no_bad_shard}
 use Rattle.heap_table.specs.AtTable.{SharedView}
+use Rattle.heap_table.specs.Rule.{Opening, opened_view_of, opening_of}
 use Rattle.heap_rule.specs.Seated.{SeatView}
 use Rattle.heap_rule.specs.Seats.{AreOpenedSeats}
 use Rattle.seat_rows.proofs.IdleLemmas.{opened_seats}
@@ -36,17 +37,18 @@ module _ (words : List ℕ) (held : List Block) (workers budget : ℕ) (block_ow
     looks = refl;
   }
 
-  pub opened_fresh : (shared : SharedView) (seats : List SeatView) → shared.opening.seats ≡ workers → AreOpenedSeats shared (opened_view (setup_of words budget workers) held block_owners root_owners) seats
+  pub opened_fresh : (shared : SharedView) (seats : List SeatView) → shared.opening ≡ opening_of (record { words = words; held = held }) (record { held = block_owners; roots = root_owners }) workers budget → AreOpenedSeats shared (opened_view (setup_of words budget workers) held block_owners root_owners) seats
       → AreFresh shared (length seats) seats
-  opened_fresh shared seats count opened = record {
+  opened_fresh shared seats opening opened = record {
     each = λ i any below.
         let at = sym (get_or_default seats i any (get_or seats i any) below) in
         let is = opened.each i (get_or seats i any) below at in
-        let small : i < workers = let long = opened.count in omega (arith, long, count, below) in
+        let small : i < workers = let long = opened.count ∙ ap (λ (o : Opening). o.seats) opening in omega (arith, long, below) in
         let idle = opened_seats (setup_of words budget workers) held block_owners root_owners shared seats opened i (get_or seats i any) below at in
-        let all : workers ≡ length seats = let long = opened.count in omega (arith, long, count) in (
+        let all : workers ≡ length seats = let long = opened.count ∙ ap (λ (o : Opening). o.seats) opening in omega (arith, long) in (
           is.0,
           record {
+            view_is = is.1 ∙ ap (λ (o : Opening). opened_view_of o i) (sym opening);
             nothing = subst (λ (v : View). HasDoneNothing v.setup v) (sym is.1) (nothing_done i);
             idle = idle.0;
             short = idle.1;

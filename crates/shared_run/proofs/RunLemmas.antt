@@ -9,8 +9,9 @@ use Rattle.heap_seat.specs.View.{View as HeapView}
 use Rattle.core_model.specs.Opening.{setup_of}
 use Rattle.core_model.specs.View.{Setup, View}
 use Rattle.dict_model.specs.Requests.{Request}
-use Rattle.heap_table.specs.AtTable.{IsClosedSound, SharedView}
-use Rattle.heap_table.specs.Rule.{setup_for}
+use Rattle.crash_core.specs.OwnerLists.{OwnerLists}
+use Rattle.heap_table.specs.AtTable.{IsClosedReached, IsClosedSound, SharedView}
+use Rattle.heap_table.specs.Rule.{Opening, setup_for}
 use Rattle.heap_rule.specs.Seated.{SeatView}
 use Rattle.heap_rule.specs.Seats.{views_of}
 use Rattle.seat_view.specs.CacheState.{CacheState}
@@ -20,7 +21,9 @@ use Rattle.run_model.specs.Working.{HasEnded, HasWorked, at_end, in_one}
 use Rattle.worker_run.specs.Said.{reply_of, replies_of}
 use Rattle.shared_run.specs.Dealing.{AreParts, Queue, padded}
 use Rattle.shared_run.specs.Parts.{IsPart}
-use Rattle.shared_run.specs.Together.{HaveWorked, IsLeftOf}
+use Rattle.seat_owners.specs.Owning.{AreOwnersByRoot}
+use Rattle.shared_run.specs.Jobs.{IsOpenedFor}
+use Rattle.shared_run.specs.Together.{HaveWorked, IsLeftOf, opening_for}
 
 -- no worker has more replies than requests
 worked_short : {image : Image} {mine left : List Request} {replies : Replies} {v : HeapView} → HasWorked image mine left replies v → length replies ≤ length mine
@@ -62,12 +65,12 @@ module _ (shared : SharedView) (requests : List Request) (workers : ℕ) (seats 
   -- what is so of them
   record AreEnds (i : ℕ) (e : Ends) : Type 0 where
     part : IsPart (slice_index (setup_for shared.opening).opened) workers requests i (replies_of (get_or told i other).items) e.stops e.first e.last
-    setup : e.first.view.setup ≡ setup_for shared.opening
+    fresh : IsOpenedFor shared.opening workers i e.first.view
     last_is : e.last.view ≡ (get_or seats i any).view
 
   are_by : (i : ℕ) (w : (i < length seats) ⊎ (length seats ≤ i)) → i < length seats → AreEnds i (ends_by i w)
   unfolding ends_by
-  are_by i (inl below) inside = let p = parts.each i any other below in record { part = p.1.part; setup = p.1.setup; last_is = p.1.last_is }
+  are_by i (inl below) inside = let p = parts.each i any other below in record { part = p.1.part; fresh = p.1.fresh; last_is = p.1.last_is }
   are_by i (inr past) inside = absurd (omega (arith, past, inside))
 
   are_at : (i : ℕ) → i < length seats → AreEnds i (ends_at i)
@@ -78,9 +81,9 @@ module _ (shared : SharedView) (requests : List Request) (workers : ℕ) (seats 
   unfolding first_at last_at stops_at
   part_at i inside = (are_at i inside).part
 
-  pub setup_at : (i : ℕ) → i < length seats → (first_at i).view.setup ≡ setup_for shared.opening
+  pub fresh_at : (i : ℕ) → i < length seats → IsOpenedFor shared.opening workers i (first_at i).view
   unfolding first_at
-  setup_at i inside = (are_at i inside).setup
+  fresh_at i inside = (are_at i inside).fresh
 
   pub view_at : (i : ℕ) → i < length seats → (last_at i).view ≡ (get_or seats i any).view
   unfolding last_at
@@ -102,7 +105,10 @@ module _ (shared : SharedView) (requests : List Request) (workers : ℕ) (seats 
 
   -- the whole run, over a dictionary that was opened for so many workers
   module _ (words : List ℕ) (held : List Block) (budget : ℕ) (ready : IsReady words held) (has : IsDictionary (slice_index words) (Contains held)) (few : workers ≤ 8)
-      (opened : setup_for shared.opening ≡ setup_of words budget workers) (count : length seats ≡ workers) where
+      (owners : OwnerLists) (by_root : AreOwnersByRoot (slice_index words) held workers owners.held owners.roots) (opened : shared.opening ≡ opening_for words held owners workers budget) (count : length seats ≡ workers) where
+    set_up : setup_for shared.opening ≡ setup_of words budget workers
+    set_up = ap setup_for opened
+
     inside : (i : ℕ) → i < workers → i < length seats
     inside i below = omega (arith, below, count)
 
@@ -112,17 +118,20 @@ module _ (shared : SharedView) (requests : List Request) (workers : ℕ) (seats 
         let long = length-map (get_or told i other).items reply_of in
         omega (arith, short, long)
 
-    pub have_worked : (replies : Replies) (now kept left : List ℕ) → IsClosedSound (setup_for shared.opening) now kept (views_of seats) → length replies ≡ length requests
+    pub have_worked : (replies : Replies) (now kept left : List ℕ) → IsClosedSound (setup_for shared.opening) now kept (views_of seats) → IsClosedReached shared.opening now kept (views_of seats) → length replies ≡ length requests
         → ((worker : ℕ) (queue : Queue) → worker < length told → length (get_or told worker queue).items ≤ length (worker_requests (length told) worker requests)
         → worker_replies (length told) worker requests replies ≡ padded (length told) worker requests (replies_of (get_or told worker queue).items))
         → length left ≡ length words → IsLeftOf stopped now kept left → HaveWorked words held workers budget requests replies stopped now kept left
-    have_worked replies now kept left closed long order left_long left_is = record {
+    have_worked replies now kept left closed reached long order left_long left_is = record {
       ready = ready;
       dictionary = has;
       some = omega (arith, some, count);
       few = few;
       views = views_of seats;
-      closed = subst (λ (k : Setup). IsClosedSound k now kept (views_of seats)) opened closed;
+      closed = subst (λ (k : Setup). IsClosedSound k now kept (views_of seats)) set_up closed;
+      owners = owners;
+      by_root = by_root;
+      reached = subst (λ (o : Opening). IsClosedReached o now kept (views_of seats)) opened reached;
       first = first_at;
       last = last_at;
       stops = stops_at;
@@ -132,8 +141,8 @@ module _ (shared : SharedView) (requests : List Request) (workers : ℕ) (seats 
           let all : length told ≡ workers = let same = parts.count in omega (arith, same, count) in
           subst (λ n. worker_replies n i requests replies ≡ padded n i requests (replies_of (get_or told i other).items)) all
           (order i other (omega (arith, all, below)) (subst (λ n. length (get_or told i other).items ≤ length (worker_requests n i requests)) (sym all) (told_short i below)));
-      parts = λ i below. subst (λ (k : Setup). IsPart (slice_index k.opened) workers requests i (replies_of (get_or told i other).items) (stops_at i) (first_at i) (last_at i)) opened (part_at i (inside i below));
-      setup = λ i below. setup_at i (inside i below) ∙ opened;
+      parts = λ i below. subst (λ (k : Setup). IsPart (slice_index k.opened) workers requests i (replies_of (get_or told i other).items) (stops_at i) (first_at i) (last_at i)) set_up (part_at i (inside i below));
+      fresh = λ i below. subst (λ (o : Opening). IsOpenedFor o workers i (first_at i).view) opened (fresh_at i (inside i below));
       views_are = λ i v below. views_at i v (inside i below);
       stopped_by = (
         λ e. let one = stopped_at.0 e in (one.0, (let less = one.1 in omega (arith, less, count)), one.2),

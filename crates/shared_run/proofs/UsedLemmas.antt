@@ -16,7 +16,7 @@ use Rattle.run_model.specs.Workers.{Replies}
 use Rattle.shared_run.specs.Together.{HaveWorked, IsLeftOf}
 use Rattle.shared_run.proofs.CountLemmas.{shards_all}
 use Rattle.run_model.proofs.SumLemmas.{sum_over, sum_within, sum_both}
-use Rattle.shared_run.proofs.WorkerLemmas.{last_view, kept_all, unused, taken_of, tables_of, taken_few, used_now}
+use Rattle.shared_run.proofs.WorkerLemmas.{last_view, kept_all, opened_setup, unused, taken_of, tables_of, taken_few, used_now}
 
 -- a close leaves the volatile mark, and a crash the durable one
 used_left : (stopped : Bool) (now kept left : List ℕ) → IsLeftOf stopped now kept left
@@ -39,7 +39,7 @@ module _ (words : List ℕ) (held : List Block) (workers budget : ℕ) (requests
   kept_least =
       let some = h.some in
       let opened = (unused h 0 some).nothing.floor in
-      let setup = ap (λ (k : Setup). k.used) (h.setup 0 some) in
+      let setup = ap (λ (k : Setup). k.used) (opened_setup h 0 some) in
       let risen = (kept_all h 0 some).1.floor in
       let knows = (h.closed.sound.good.knows 0 (last_view h 0) (let count = h.closed.count in omega arith) (h.views_are 0 (last_view h 0) some)).floor in
       let capacity = slice_index words capacity_word in

@@ -61,6 +61,9 @@ module _ {words : List ℕ} {held : List Block} {workers budget : ℕ} {requests
   pub unused : (worker : ℕ) → worker < workers → IsUnused (h.first worker)
   unused worker below = (h.parts worker below).unused
 
+  pub opened_setup : (worker : ℕ) → worker < workers → (h.first worker).view.setup ≡ setup_of words budget workers
+  opened_setup worker below = ap (λ (v : View). v.setup) (h.fresh worker below).view_is
+
   -- no more superblocks were taken by a worker than its nodes' and its tables', and the mark rose by those of all
   abbrev pub taken_of : ℕ → ℕ
   taken_of worker = (last_view worker).taken

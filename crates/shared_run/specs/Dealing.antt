@@ -12,7 +12,7 @@ use Rattle.shared_run.specs.Jobs.{IsOpenedFor, IsPartOf}
 
 -- each seat is that of the worker of its place, of so many
 pub record AreFresh (shared : SharedView) (workers : ℕ) (seats : List SeatView) : Type 0 where
-  pub each : (i : ℕ) (any : SeatView) → i < length seats → IsSeatOf shared (get_or seats i any) × IsOpenedFor workers i (get_or seats i any).view
+  pub each : (i : ℕ) (any : SeatView) → i < length seats → IsSeatOf shared (get_or seats i any) × IsOpenedFor shared.opening workers i (get_or seats i any).view
 
 -- what belongs to workers, of which there are so many, the last one first
 pub record AreInTurn {X : Type 0} (worker : X → Worker) (workers : ℕ) (xs : List X) : Type 0 where

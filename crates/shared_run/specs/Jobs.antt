@@ -6,7 +6,7 @@ use Rattle.core_model.specs.Opening.{HasDoneNothing}
 use Rattle.core_model.specs.View.{View}
 use Rattle.dict_model.specs.Requests.{Request}
 use Rattle.heap_table.specs.AtTable.{SharedView}
-use Rattle.heap_table.specs.Rule.{setup_for}
+use Rattle.heap_table.specs.Rule.{Opening, opened_view_of, setup_for}
 use Rattle.heap_rule.specs.Seated.{IsSeatOf, SeatView}
 use Rattle.seat_rows.specs.Idle.{HasShortCaches, IsIdle}
 use Rattle.seat_view.specs.CacheState.{CacheState, heap_view}
@@ -18,8 +18,9 @@ use Rattle.shared_run.specs.declared.job.Job.{Job}
 use Rattle.shared_run.specs.declared.job.Worked.{Worked}
 use Rattle.shared_run.specs.Parts.{IsPart}
 
--- a seat of a heap that was opened for so many workers: it has the roots of one of them, and holds what these reach
-pub record IsOpenedFor (workers worker : ℕ) (v : View) : Type 0 where
+-- a seat of a heap that was opened for so many workers, as it was opened: it has the roots of one of them, and holds what these reach
+pub record IsOpenedFor (opening : Opening) (workers worker : ℕ) (v : View) : Type 0 where
+  pub view_is : v ≡ opened_view_of opening worker
   pub nothing : HasDoneNothing v.setup v
   pub idle : IsIdle v
   pub short : HasShortCaches v
@@ -30,7 +31,7 @@ pub record IsOpenedFor (workers worker : ℕ) (v : View) : Type 0 where
 pub record IsJobOf {C : Type 0} (shared : SharedView) (requests : List Request) (job : Job C) : Type 0 where
   pub below : job.worker.number < job.worker.workers
   pub seat : IsSeatOf shared job.seat
-  pub fresh : IsOpenedFor job.worker.workers job.worker.number job.seat.view
+  pub fresh : IsOpenedFor shared.opening job.worker.workers job.worker.number job.seat.view
   pub rooms : HaveRoom (slice_index job.seat.view.setup.opened) requests (worker_requests job.worker.workers job.worker.number requests) job.rooms.items
   pub empty : job.replies.items ≡ []
   pub reserved : length (worker_requests job.worker.workers job.worker.number requests) ≤ vec_capacity job.replies
@@ -40,7 +41,7 @@ pub record IsPartOf (shared : SharedView) (requests : List Request) (workers wor
   pub seat_of : IsSeatOf shared seat
   pub first : CacheState
   pub last : CacheState
-  pub setup : first.view.setup ≡ setup_for shared.opening
+  pub fresh : IsOpenedFor shared.opening workers worker first.view
   pub last_is : last.view ≡ seat.view
   pub part : IsPart (slice_index (setup_for shared.opening).opened) workers requests worker replies stopped first last
 

@@ -5,17 +5,25 @@ use Rattle.heap_model.specs.Durability.{IsClosedImage, IsCrashImage}
 use Rattle.heap_model.specs.Rest.{IsReady}
 use Rattle.core_model.specs.Opening.{setup_of}
 use Rattle.core_model.specs.View.{View}
+use Rattle.crash_core.specs.OwnerLists.{OwnerLists}
 use Rattle.dict_model.specs.Requests.{Request}
-use Rattle.heap_table.specs.AtTable.{IsClosedSound}
+use Rattle.heap_table.specs.AtTable.{IsClosedReached, IsClosedSound}
+use Rattle.heap_table.specs.Rule.{Opening, opening_of}
 use Rattle.seat_view.specs.CacheState.{CacheState}
 use Rattle.run_model.specs.Workers.{Replies, worker_requests, worker_replies}
 use Rattle.run_model.specs.Opened.{IsDictionary}
+use Rattle.seat_owners.specs.Owning.{AreOwnersByRoot}
+use Rattle.shared_run.specs.Jobs.{IsOpenedFor}
 use Rattle.shared_run.specs.Parts.{IsPart}
 
 -- the image that is left: that of a close or, where the run was stopped, of a crash
 abbrev pub IsLeftOf : Bool → List ℕ → List ℕ → List ℕ → Type 0
 IsLeftOf false now kept left = IsClosedImage (slice_index now) (slice_index left)
 IsLeftOf true now kept left = IsCrashImage (slice_index kept) (slice_index left)
+
+-- a heap at rest as it is opened for so many workers, each with what it owns
+abbrev pub opening_for : List ℕ → List Block → OwnerLists → ℕ → ℕ → Opening
+opening_for words held owners workers budget = opening_of (record { words = words; held = held }) owners workers budget
 
 -- the workers of a run over a dictionary at rest, with their seats as they were opened and as they were closed, and with the replies of all; the run was stopped exactly where a worker was
 pub record HaveWorked (words : List ℕ) (held : List Block) (workers budget : ℕ) (requests : List Request) (replies : Replies) (stopped : Bool) (now kept left : List ℕ) : Type 0 where
@@ -25,6 +33,10 @@ pub record HaveWorked (words : List ℕ) (held : List Block) (workers budget : �
   pub few : workers ≤ 8
   pub views : List View
   pub closed : IsClosedSound (setup_of words budget workers) now kept views
+  -- each root and each held block is its worker's at the opening, and the closed words and views are what events of the seats made of that
+  pub owners : OwnerLists
+  pub by_root : AreOwnersByRoot (slice_index words) held workers owners.held owners.roots
+  pub reached : IsClosedReached (opening_for words held owners workers budget) now kept views
   pub first : ℕ → CacheState
   pub last : ℕ → CacheState
   pub stops : ℕ → Bool
@@ -34,7 +46,7 @@ pub record HaveWorked (words : List ℕ) (held : List Block) (workers budget : �
       ≡ told worker ++ replicate (length (worker_requests workers worker requests) - length (told worker)) None
   pub parts : (worker : ℕ) → worker < workers
       → IsPart (slice_index words) workers requests worker (told worker) (stops worker) (first worker) (last worker)
-  pub setup : (worker : ℕ) → worker < workers → (first worker).view.setup ≡ setup_of words budget workers
+  pub fresh : (worker : ℕ) → worker < workers → IsOpenedFor (opening_for words held owners workers budget) workers worker (first worker).view
   pub views_are : (worker : ℕ) (any : View) → worker < workers → get_or views worker any ≡ (last worker).view
   pub stopped_by : (stopped ≡ true) ↔ ((worker : ℕ) × (worker < workers) × (stops worker ≡ true))
   pub left_long : length left ≡ length words

@@ -4,15 +4,15 @@
 ghost use Rattle.std.specs.Prelude.{◌≡◌, ◌^◌, ◌<◌, ◌≤◌, ℕ, All, List, Contains, IfOk, length, slice_index};
 ghost use Rattle.heap_model.specs.Header.{capacity_of};
 ghost use Rattle.heap_model.specs.Rest.{IsReady};
-ghost use Rattle.heap_table.specs.Rule.{setup_for};
-ghost use Rattle.core_model.specs.Opening.{setup_of};
+ghost use Rattle.crash_core.specs.OwnerLists.{OwnerLists};
 ghost use Rattle.run_model.specs.Opened.{IsDictionary};
 ghost use Rattle.run_model.specs.Runs.{AnswerInOrder, IsFullRightly, LeavesHeader, LeavesMaps, LeavesOthers, LeavesState, LeavesUsed, RepliesRightly, StopsRightly};
 ghost use Rattle.worker_run.specs.Left.{AreWholeImage};
 ghost use Rattle.worker_run.specs.Said.{requests_of, replies_of, ValuesAreShort};
 ghost use Rattle.shared_run.specs.Dealing.{AreInTurn};
 ghost use Rattle.shared_run.specs.Jobs.{IsJobOf, IsWorkedOf};
-ghost use Rattle.shared_run.specs.Together.{HaveWorked, IsLeftOf};
+ghost use Rattle.seat_owners.specs.Owning.{AreOwnersByRoot};
+ghost use Rattle.shared_run.specs.Together.{HaveWorked, IsLeftOf, opening_for};
 
 use crate::deal::{Reading, deal};
 use crate::gather::{Gathered, gather, put_in_order};
@@ -78,7 +78,9 @@ fn open<C: Chances>(
     requires dictionary { IsDictionary (slice_index heap.words) (Contains heap.held) }
     requires short { ValuesAreShort (requests_of requests.now) }
     ensures ready { IsReady heap.words heap.held }
-    ensures setup { IfOk result (λ r. setup_for r.0.opening ≡ setup_of heap.words budget workers) }
+    ensures opening { IfOk result (λ r. (owners : OwnerLists)
+        × AreOwnersByRoot (slice_index heap.words) heap.held workers owners.held owners.roots
+        × (r.0.opening ≡ opening_for heap.words heap.held owners workers budget)) }
     ensures seats { IfOk result (λ r. r.0.opening.seats ≡ workers) }
     ensures jobs { IfOk result (λ r. All (IsJobOf r.0 (requests_of requests.now)) r.1.items) }
     ensures turns { IfOk result (λ r. AreInTurn (λ job. job.worker) workers r.1.items) }

@@ -32,7 +32,7 @@ loop-seat-preserved g c =
           (All-push (IsJobOf shared qs) c.loop-seat.jobs.items _ was.jobs (record {
             below = omega arith;
             seat = last.0;
-            fresh = subst (λ n. IsOpenedFor workers n seat.view) (sym number) last.1;
+            fresh = subst (λ n. IsOpenedFor shared.opening workers n seat.view) (sym number) last.1;
             rooms = subst (λ i. HaveRoom i qs (worker_requests workers c.len.result qs) c.in_ok-rooms.rooms.items) opened rooms;
             empty = c.in_ok-replies.ensures.items;
             reserved = (let long = rooms_long image qs (worker_requests workers c.len.result qs) c.in_ok-rooms.rooms.items rooms in

@@ -16,6 +16,7 @@ work_off-stopped-requires g c κs within =
     let s = c.new-seat.result in
     let new = c.new-seat.ensures in
     let qs = requests_of c.args.requests.now in
+    let shared = c.args.shared.now in
     -- the seat lives as long as the heap and its chance
     let none = ⊑_static κs.1.1.1.1.0 in
     let chance = ⊑_meet κs.1.1.1.1.0 g.row.C.lives [] within.1.0 none in
@@ -26,12 +27,12 @@ work_off-stopped-requires g c κs within =
         (
           (let below = is.below in omega arith),
           (
-            job_begins w.workers w.number job.seat is.fresh s new,
+            job_begins shared.opening w.workers w.number job.seat is.fresh s new,
             (
-              job_shards w.workers w.number job.seat is.fresh s new,
+              job_shards shared.opening w.workers w.number job.seat is.fresh s new,
               (
-                job_image w.workers w.number job.seat is.fresh s new HasMaps (is.fresh.opened s new.view).maps,
-                (job_image w.workers w.number job.seat is.fresh s new (λ image. HaveRoom image qs (worker_requests w.workers w.number qs) job.rooms.items) is.rooms, (c.requires.short, (is.empty, is.reserved))),
+                job_image shared.opening w.workers w.number job.seat is.fresh s new HasMaps (is.fresh.opened s new.view).maps,
+                (job_image shared.opening w.workers w.number job.seat is.fresh s new (λ image. HaveRoom image qs (worker_requests w.workers w.number qs) job.rooms.items) is.rooms, (c.requires.short, (is.empty, is.reserved))),
               ),
             ),
           ),

@@ -11,4 +11,4 @@ unreachable-requires g c =
 
 pub deal-requires-clause-fresh : goal.deal-requires-clause-fresh
 deal-requires-clause-fresh g c κs within = opened_fresh c.args.heap.words c.args.heap.held c.args.workers c.args.budget c.in_ok-owners.owners.held c.in_ok-owners.owners.roots c.maps_of.ensures.ready c.requires.dictionary
-    c.in_ok-owners.ensures c.in_ok-shared.shared c.in_ok-shared.seats.items c.in_ok-shared.ensures.count c.in_ok-shared.ensures.seats
+    c.in_ok-owners.ensures c.in_ok-shared.shared c.in_ok-shared.seats.items c.in_ok-shared.ensures.opening c.in_ok-shared.ensures.seats

@@ -1,7 +1,8 @@
-use Rattle.std.proofs.Common.{◌≡◌, ◌<◌, length, sym, subst, ◌∙◌, arith}
+use Rattle.std.proofs.Common.{◌≡◌, ◌<◌, length, ap, sym, subst, ◌∙◌, arith}
 use Rattle.std.proofs.lemmas.List.{length-map}
 use Rattle.core_model.specs.View.{Setup}
 use Rattle.heap_table.specs.AtTable.{IsClosedSound}
+use Rattle.heap_table.specs.Rule.{setup_for}
 use Rattle.heap_rule.specs.Seats.{views_of}
 use Rattle.worker_run.specs.Said.{request_of, requests_of, reply_of, replies_of}
 use Rattle.shared_run.specs.Dealing.{AreParts}
@@ -23,19 +24,19 @@ close_shared-requires g c =
 
 pub image_left-image-requires-clause-whole : goal.image_left-image-requires-clause-whole
 image_left-image-requires-clause-whole g c κs within = now_whole c.args.heap.words c.args.heap.held c.args.workers c.args.budget c.in_ok-closed.closed.now c.in_ok-closed.closed.kept (views_of c.in_ok-seats.field-0.seats.items) c.open.ensures.ready
-    (subst (λ (k : Setup). IsClosedSound k c.in_ok-closed.closed.now c.in_ok-closed.closed.kept (views_of c.in_ok-seats.field-0.seats.items)) c.in_ok-shared.ensures.setup c.in_ok-closed.ensures.sound)
+    (subst (λ (k : Setup). IsClosedSound k c.in_ok-closed.closed.now c.in_ok-closed.closed.kept (views_of c.in_ok-seats.field-0.seats.items)) (ap setup_for c.in_ok-shared.ensures.opening.2) c.in_ok-closed.ensures.sound)
 
 pub image_left-image-requires-clause-kept : goal.image_left-image-requires-clause-kept
 image_left-image-requires-clause-kept g c κs within = kept_whole c.args.heap.words c.args.heap.held c.args.workers c.args.budget c.in_ok-closed.closed.now c.in_ok-closed.closed.kept (views_of c.in_ok-seats.field-0.seats.items) c.open.ensures.ready
-    (subst (λ (k : Setup). IsClosedSound k c.in_ok-closed.closed.now c.in_ok-closed.closed.kept (views_of c.in_ok-seats.field-0.seats.items)) c.in_ok-shared.ensures.setup c.in_ok-closed.ensures.sound)
+    (subst (λ (k : Setup). IsClosedSound k c.in_ok-closed.closed.now c.in_ok-closed.closed.kept (views_of c.in_ok-seats.field-0.seats.items)) (ap setup_for c.in_ok-shared.ensures.opening.2) c.in_ok-closed.ensures.sound)
 
 pub image_left-image-requires-clause-layout : goal.image_left-image-requires-clause-layout
 image_left-image-requires-clause-layout g c κs within = c.geometry-geometry.ensures ∙ sym (now_capacity c.args.heap.words c.args.heap.held c.args.workers c.args.budget c.in_ok-closed.closed.now c.in_ok-closed.closed.kept (views_of c.in_ok-seats.field-0.seats.items) c.open.ensures.ready
-    (subst (λ (k : Setup). IsClosedSound k c.in_ok-closed.closed.now c.in_ok-closed.closed.kept (views_of c.in_ok-seats.field-0.seats.items)) c.in_ok-shared.ensures.setup c.in_ok-closed.ensures.sound))
+    (subst (λ (k : Setup). IsClosedSound k c.in_ok-closed.closed.now c.in_ok-closed.closed.kept (views_of c.in_ok-seats.field-0.seats.items)) (ap setup_for c.in_ok-shared.ensures.opening.2) c.in_ok-closed.ensures.sound))
 
 pub image_left-image-requires-clause-same : goal.image_left-image-requires-clause-same
 image_left-image-requires-clause-same g c κs within = c.geometry-geometry.ensures ∙ sym (kept_capacity c.args.heap.words c.args.heap.held c.args.workers c.args.budget c.in_ok-closed.closed.now c.in_ok-closed.closed.kept (views_of c.in_ok-seats.field-0.seats.items) c.open.ensures.ready
-    (subst (λ (k : Setup). IsClosedSound k c.in_ok-closed.closed.now c.in_ok-closed.closed.kept (views_of c.in_ok-seats.field-0.seats.items)) c.in_ok-shared.ensures.setup c.in_ok-closed.ensures.sound))
+    (subst (λ (k : Setup). IsClosedSound k c.in_ok-closed.closed.now c.in_ok-closed.closed.kept (views_of c.in_ok-seats.field-0.seats.items)) (ap setup_for c.in_ok-shared.ensures.opening.2) c.in_ok-closed.ensures.sound))
 
 pub returns : goal.returns
 returns g c =
@@ -53,7 +54,7 @@ returns g c =
     let some : 0 < length got.seats.items = omega arith in
     let parts = subst (λ n. AreParts c.in_ok-shared.shared (requests_of lines) n got.seats.items got.told.items got.stopped) workers c.in_ok-seats.ensures.parts in
     let same = parts.count in
-    let sound = subst (λ (k : Setup). IsClosedSound k closed.now closed.kept (views_of got.seats.items)) c.in_ok-shared.ensures.setup c.in_ok-closed.ensures.sound in
+    let sound = subst (λ (k : Setup). IsClosedSound k closed.now closed.kept (views_of got.seats.items)) (ap setup_for c.in_ok-shared.ensures.opening.2) c.in_ok-closed.ensures.sound in
     let long = c.put_in_order.ensures.long in
     let replies_long = length-map c.put_in_order.new.replies.items reply_of in
     let requests_long = length-map lines request_of in
@@ -62,7 +63,7 @@ returns g c =
       closed.now,
       closed.kept,
       have_worked c.in_ok-shared.shared (requests_of lines) c.args.workers got.seats.items got.told.items got.stopped parts (first_of got.seats.items some) (first_of got.told.items (omega arith)) some
-          words held c.args.budget ready c.requires.dictionary c.requires.few c.in_ok-shared.ensures.setup count
-          (replies_of c.put_in_order.new.replies.items) closed.now closed.kept c.image_left-image.result.items c.in_ok-closed.ensures.sound (omega arith) c.put_in_order.ensures.each
+          words held c.args.budget ready c.requires.dictionary c.requires.few c.in_ok-shared.ensures.opening.0 c.in_ok-shared.ensures.opening.1 c.in_ok-shared.ensures.opening.2 count
+          (replies_of c.put_in_order.new.replies.items) closed.now closed.kept c.image_left-image.result.items c.in_ok-closed.ensures.sound c.in_ok-closed.ensures.reached (omega arith) c.put_in_order.ensures.each
           (c.image_left-image.ensures.long both ∙ now_long words held c.args.workers c.args.budget closed.now closed.kept (views_of got.seats.items) ready sound) c.image_left-image.ensures.left,
     )
