@@ -7,6 +7,7 @@ use Rattle.heap_model.specs.Image.{Image}
 use Rattle.core_model.specs.Opening.{HasDoneNothing}
 use Rattle.core_model.specs.View.{View}
 use Rattle.dict_model.specs.Links.{shards}
+use Rattle.dict_seat.specs.Reached.{ReachesAllHeld}
 use Rattle.dict_model.specs.Requests.{Request, Reply}
 use Rattle.heap_table.specs.AtTable.{SharedView}
 use Rattle.heap_table.specs.Rule.{Opening, setup_for}
@@ -21,11 +22,12 @@ use Rattle.run_model.specs.Working.{HasStopped, HasWorked, TakesRequests}
 use Rattle.seat_view.specs.CacheState.{CacheState, heap_view, opened_kinds}
 use Rattle.seat_view.proofs.HeldLemmas.{seat_law}
 use Rattle.thread_cache.specs.Keeps.{IsNew, KeepsHeap}
+use Rattle.worker_run.proofs.OpenLemmas.{all_opened}
 use Rattle.worker_run.proofs.ProgressLemmas.{begins, still}
 use Rattle.shared_run.specs.Jobs.{IsOpenedFor, IsPartOf}
 use Rattle.shared_run.specs.Parts.{IsUnused, TurnsAway}
 use Rattle.shared_run.specs.Settling.{HasSettled, WasQuieted}
-use Rattle.shared_run.proofs.PartLemmas.{part_emptied, part_ended, part_few, part_full, part_kept, part_steps, part_stops, part_taken, settled_costs}
+use Rattle.shared_run.proofs.PartLemmas.{part_emptied, part_ended, part_exact, part_few, part_full, part_kept, part_steps, part_stops, part_taken, settled_costs}
 
 -- a seat that was just made of one that was opened for a worker
 module _ (opening : Opening) (workers worker : ℕ) (seat : SeatView) (fresh : IsOpenedFor opening workers worker seat.view) (s : CacheState) (new : IsNew seat s) where
@@ -37,6 +39,9 @@ module _ (opening : Opening) (workers worker : ℕ) (seat : SeatView) (fresh : I
 
   pub job_begins : HasAnswered (slice_index s.view.setup.opened) [] (heap_view s)
   job_begins = begins (slice_index s.view.setup.opened) (heap_view s) (seat_law s) (subst (λ (i : Image). IsOpenedOver i (heap_view s)) same_image (fresh.opened s new.view))
+
+  pub job_exact : ReachesAllHeld (heap_view s)
+  job_exact = all_opened (slice_index s.view.setup.opened) (heap_view s) (seat_law s) (subst (λ (i : Image). IsOpenedOver i (heap_view s)) same_image (fresh.opened s new.view))
 
   pub job_owns : (root : ℕ) → root < roots → Contains s.view.roots root ↔ (root_owner workers root ≡ worker)
   job_owns root below = subst (λ (v : View). Contains v.roots root ↔ (root_owner workers root ≡ worker)) (sym new.view) (fresh.roots_own root below)
@@ -80,8 +85,9 @@ module _ (shared : SharedView) (requests : List Request) (workers worker : ℕ) 
       → ((keys : List ℕ) → ListsKeysOf (slice_index s.view.setup.opened) keys
       → MakeFew (length (worker_requests workers worker requests)) (33280 + 4 * (length keys + length (worker_requests workers worker requests))) (heap_view s) (heap_view u))
       → ((x : CacheState) × TakesRequests heap_view KeepsHeap TurnsAway (answered (worker_requests workers worker requests) replies) s x × KeepsHeap x u)
+      → (before ≡ false → ReachesAllHeld (heap_view s) → ReachesAllHeld (heap_view u))
       → IsPartOf shared requests workers worker last replies after
-  whole_part kept worked stopped cause full taken calls steps = record {
+  whole_part kept worked stopped cause full taken calls steps exact = record {
     seat_of = of_last;
     first = s;
     last = t;
@@ -101,5 +107,6 @@ module _ (shared : SharedView) (requests : List Request) (workers worker : ℕ) 
       steps = part_steps opened_image (worker_requests workers worker requests) replies before after s u t settled steps;
       stops = part_stops opened_image (worker_requests workers worker requests) replies before after s u t settled cause;
       emptied = part_emptied opened_image (worker_requests workers worker requests) replies before after s u t settled;
+      exact = part_exact opened_image (worker_requests workers worker requests) replies before after s u t settled (λ e. exact e (job_exact shared.opening workers worker seat fresh s new));
     };
   }

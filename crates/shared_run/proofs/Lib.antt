@@ -9,6 +9,7 @@ pub mod LeftLemmas
 pub mod MapLeftLemmas
 pub mod MergeLemmas
 pub mod OpeningLemmas
+pub mod OrderlyLemmas
 pub mod PartLemmas
 pub mod ReplyLemmas
 pub mod RunLemmas

@@ -8,7 +8,10 @@ use Rattle.heap_seat.specs.Tickets.{Stops}
 use Rattle.heap_seat.specs.Calls.{counted}
 use Rattle.heap_seat.specs.Looks.{KnowsNoLess}
 use Rattle.dict_model.specs.Requests.{Request, Reply}
-use Rattle.seat_view.specs.CacheState.{CacheState, heap_view}
+use Rattle.dict_seat.specs.Reached.{ReachesAllHeld}
+use Rattle.dict_seat.proofs.ExactCallLemmas.{all_quiet}
+use Rattle.seat_view.specs.CacheState.{CacheState, heap_view, opened_kinds}
+use Rattle.seat_view.proofs.HeldLemmas.{seat_law}
 use Rattle.thread_cache.specs.Keeps.{KeepsHeap}
 use Rattle.thread_cache.specs.Laws.{keeps_none_law, keeps_row_law}
 use Rattle.thread_cache.specs.Quiet.{HasEmptyCaches, IsQuietCall, as_large, does_nothing, had_stopped as was_stopped}
@@ -109,6 +112,13 @@ module _ (image : Image) (mine : List Request) (replies : Replies) (before after
     by_case (had_stopped was is same) = let at = cause was in (λ e. some at.0 (ap (λ (x : CacheState). x.view.stopped) same ∙ at.1), λ other. is)
     by_case (is_empty was is empty going quieted) = (λ e. let both : true ≡ false = sym e ∙ is in absurd (cc), λ other. absurd (other going))
     by_case (stops_now was is ticket at quieted) = (λ e. some ticket at, λ other. is)
+
+  pub part_exact : (before ≡ false → ReachesAllHeld (heap_view u)) → after ≡ false → ReachesAllHeld (heap_view t)
+  part_exact all going = by_case settled where
+    by_case : HasSettled before after u t → ReachesAllHeld (heap_view t)
+    by_case (had_stopped was is same) = let both : true ≡ false = sym is ∙ going in absurd (cc)
+    by_case (is_empty was is empty on quieted) = all_quiet (heap_view u) (heap_view t) (seat_law t) quieted.own (ap opened_kinds quieted.kept.1.setup) (all was)
+    by_case (stops_now was is ticket at quieted) = let both : true ≡ false = sym is ∙ going in absurd (cc)
 
   pub part_emptied : after ≡ false → HasEmptyCaches t
   part_emptied going = by_case settled where

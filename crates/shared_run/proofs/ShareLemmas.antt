@@ -45,7 +45,7 @@ module _ (words : List ℕ) (held : List Block) (workers budget : ℕ) (requests
   below_count i below = let count = h.closed.count in omega arith
 
   -- some sound state has a worker's last view
-  has_state : (i : ℕ) → i < workers → HasSoundState (h.last i).view
+  pub has_state : (i : ℕ) → i < workers → HasSoundState (h.last i).view
   has_state i below = last_state (setup_of words budget workers) now kept h.views h.closed i (h.last i).view (below_count i below) (h.views_are i (h.last i).view below)
 
   pub may_be_left : (i : ℕ) → i < workers → MayBeLeft (h.last i).view (slice_index left)

@@ -1,3 +1,4 @@
+pub mod Closed
 pub mod Dealing
 pub mod Jobs
 pub mod Parts

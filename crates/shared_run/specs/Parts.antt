@@ -5,6 +5,7 @@ use Rattle.heap_model.specs.Image.{Image}
 use Rattle.core_model.specs.Opening.{HasDoneNothing}
 use Rattle.heap_seat.specs.declared.fault.Looks.{Looks}
 use Rattle.dict_model.specs.Requests.{Request}
+use Rattle.dict_seat.specs.Reached.{ReachesAllHeld}
 use Rattle.seat_view.specs.CacheState.{CacheState, heap_view}
 use Rattle.thread_cache.specs.Keeps.{KeepsHeap}
 use Rattle.thread_cache.specs.Quiet.{HasEmptyCaches}
@@ -45,3 +46,4 @@ pub record IsPart (image : Image) (workers : ℕ) (requests : List Request) (wor
   pub steps : (u : CacheState) × TakesRequests heap_view KeepsHeap TurnsAway (answered (worker_requests workers worker requests) replies) s u × KeepsHeap u t
   pub stops : (stopped ≡ true) ↔ (t.view.stopped ≢ None)
   pub emptied : stopped ≡ false → HasEmptyCaches t
+  pub exact : stopped ≡ false → ReachesAllHeld (heap_view t)

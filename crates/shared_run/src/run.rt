@@ -9,6 +9,7 @@ ghost use Rattle.run_model.specs.Opened.{IsDictionary};
 ghost use Rattle.run_model.specs.Runs.{AnswerInOrder, IsFullRightly, LeavesHeader, LeavesMaps, LeavesOthers, LeavesState, LeavesUsed, RepliesRightly, StopsRightly};
 ghost use Rattle.worker_run.specs.Left.{AreWholeImage};
 ghost use Rattle.worker_run.specs.Said.{requests_of, replies_of, ValuesAreShort};
+ghost use Rattle.shared_run.specs.Closed.{LeavesOrderly};
 ghost use Rattle.shared_run.specs.Dealing.{AreInTurn};
 ghost use Rattle.shared_run.specs.Jobs.{IsJobOf, IsWorkedOf};
 ghost use Rattle.seat_owners.specs.Owning.{AreOwnersByRoot};
@@ -218,6 +219,8 @@ pub fn run_trace<R: Threads + Sync, G: Gate + Sync, C: Chances>(
     ensures used { IfOk result (λ o. LeavesUsed (slice_index heap.words) workers
         (requests_of requests.now) (replies_of o.replies.items) (slice_index o.image.items)) }
     ensures state { IfOk result (λ o. LeavesState o.stopped (slice_index o.image.items)) }
+    ensures orderly { IfOk result (λ o. LeavesOrderly o.stopped (length o.image.items)
+        (slice_index o.image.items)) }
 {
     let outcome = run_workers(rt, alloc, heap, requests, workers, budget, gate, chances)?;
     Ok(outcome)

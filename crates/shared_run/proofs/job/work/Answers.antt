@@ -60,5 +60,5 @@ returns-clause-worked g c =
             setup = ap (λ (v : View). v.setup) back.view ∙ kept_setup s u t job.seat shared new is.seat e.kept c.empty_caches-stopped.ensures;
           }) is.fresh s u t new
           (replies_of c.work_off-stopped.new.replies.items) c.work_off-stopped.result c.empty_caches-stopped.result c.empty_caches-stopped.ensures (sym back.view)
-          e.kept e.answered e.stopped e.cause e.full e.taken e.calls e.steps;
+          e.kept e.answered e.stopped e.cause e.full e.taken e.calls e.steps e.exact;
     }

@@ -2,6 +2,7 @@ use Rattle.shared_run.proofs.FullLemmas.{full_rightly}
 use Rattle.shared_run.proofs.HeaderLemmas.{leaves_header, leaves_state}
 use Rattle.shared_run.proofs.LeftLemmas.{leaves_others}
 use Rattle.shared_run.proofs.MapLeftLemmas.{leaves_maps}
+use Rattle.shared_run.proofs.OrderlyLemmas.{leaves_orderly}
 use Rattle.shared_run.proofs.ReplyLemmas.{answer_in_order, replies_rightly}
 use Rattle.shared_run.proofs.TurnLemmas.{stops_rightly}
 use Rattle.shared_run.proofs.UsedLemmas.{leaves_used}
@@ -61,3 +62,9 @@ returns-clause-state g c =
     let o = c.in_ok-outcome.outcome in
     let is = c.in_ok-outcome.ensures in
     leaves_state c.args.heap.words c.args.heap.held c.args.workers c.args.budget (requests_of c.args.requests.now) (replies_of o.replies.items) o.stopped is.0 is.1 o.image.items is.2
+
+pub returns-clause-orderly : goal.returns-clause-orderly
+returns-clause-orderly g c =
+    let o = c.in_ok-outcome.outcome in
+    let is = c.in_ok-outcome.ensures in
+    leaves_orderly c.args.heap.words c.args.heap.held c.args.workers c.args.budget (requests_of c.args.requests.now) (replies_of o.replies.items) o.stopped is.0 is.1 o.image.items is.2
