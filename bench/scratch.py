@@ -9,6 +9,16 @@ HERE = pathlib.Path(__file__).resolve().parent
 TOP = HERE.parent
 
 
+def put_text(crate, text):
+    """Puts the text into a crate's folder, and what is written of its proofs: TEXT.F.Answers.txt is of its function F."""
+    (crate / "src").mkdir(parents=True)
+    shutil.copy(HERE / text, crate / "src" / "main.rt")
+    for proof in HERE.glob(f"{pathlib.Path(text).stem}.*.*.txt"):
+        _, function, part, _ = proof.name.split(".")
+        (crate / "proofs" / function).mkdir(parents=True, exist_ok=True)
+        shutil.copy(proof, crate / "proofs" / function / f"{part}.antt")
+
+
 def build(room, text, crates, arguments):
     """The program of this text, which rt proves, builds in a clone in this folder, and runs once with these arguments.
 
@@ -21,8 +31,7 @@ def build(room, text, crates, arguments):
         shutil.copytree(out, clone / out.relative_to(TOP))
     crate = clone / "crates" / "heap_tool"
     shutil.rmtree(crate)
-    (crate / "src").mkdir(parents=True)
-    shutil.copy(HERE / text, crate / "src" / "main.rt")
+    put_text(crate, text)
     lines = (clone / "crates.txt").read_text()
     (clone / "crates.txt").write_text(re.sub(r"^heap_tool: .*$", f"heap_tool: {crates}", lines, flags=re.M))
     made = subprocess.run(["rt", "run", "--", *map(str, arguments)], cwd=crate, capture_output=True, text=True)
