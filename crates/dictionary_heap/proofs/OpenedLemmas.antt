@@ -1,5 +1,5 @@
 -- A heap for one thread that was opened over a dictionary has its shards and its maps, and a run over it begins.
-use Rattle.std.proofs.Common.{◌≡◌, ℕ, ◌<◌, ◌↔◌, List, [], Some, Contains, slice_index, refl, sym, ap, arith}
+use Rattle.std.proofs.Common.{ℕ, ◌<◌, ◌↔◌, List, [], Some, Contains, slice_index, sym, ap, arith}
 use Rattle.heap_model.specs.declared.block.Block.{Block}
 use Rattle.heap_model.specs.Geometry.{roots}
 use Rattle.heap_model.specs.Header.{kinds_of}
@@ -12,7 +12,7 @@ use Rattle.block_heap.specs.Closing.{IsOpened}
 use Rattle.block_heap.specs.Laws.{seat_law, keeps_none_law}
 use Rattle.block_heap.specs.SeqState.{SeqState, all_roots, seat_of}
 use Rattle.block_heap.proofs.FixedLemmas.{kinds_opened}
-use Rattle.dict_model.specs.Links.{shards, dict_links}
+use Rattle.dict_model.specs.Links.{dict_links}
 use Rattle.dict_seat.specs.Reached.{ReachesAllHeld}
 use Rattle.dict_seat.specs.Shards.{HasShards}
 use Rattle.dictionary.specs.Reading.{RecoversTo}

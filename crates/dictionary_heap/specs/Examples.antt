@@ -1,5 +1,5 @@
 -- Worked examples: the image that words are opened as, and what faults are told as.
-use Rattle.std.specs.Prelude.{◌≡◌, ℕ, List, [], ◌∷◌, refl}
+use Rattle.std.specs.Prelude.{◌≡◌, [], ◌∷◌, refl}
 use Rattle.heap_recover.specs.declared.fault.RecoverFault.TheVariants.{Outside as OutsideFound}
 use Rattle.dictionary.specs.declared.fault.MapFault.TheVariants.{BadShard as NoMap, Memory as NoMemory}
 use Rattle.dictionary_heap.specs.Images.{current_image}
