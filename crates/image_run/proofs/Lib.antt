@@ -5,3 +5,4 @@ pub mod CarryLemmas
 pub mod LeftLemmas
 pub mod PutLemmas
 pub mod OneRecoveryLemmas
+pub mod OneThreadLemmas

@@ -1,12 +1,17 @@
 //! What follows of runs, as functions with nothing to run.
-ghost use Rattle.std.specs.Prelude.{◌≡◌, ℕ, List, None};
+ghost use Rattle.std.specs.Prelude.{◌≡◌, ℕ, ◌+◌, ◌≤◌, false, List, None, length, slice_index};
 ghost use Rattle.std.specs.BTreeMap.{BTreeMap};
 ghost use Rattle.heap_model.specs.declared.block.Block.{Block};
 ghost use Rattle.heap_model.specs.Image.{Image};
+ghost use Rattle.heap_model.specs.Header.{capacity_of, used_of};
 ghost use Rattle.dict_model.specs.Links.{shards};
 ghost use Rattle.dict_model.specs.Requests.{Request};
+ghost use Rattle.dict_model.specs.Shards.{Map};
 ghost use Rattle.dictionary.specs.Reading.{RecoversTo, AreMaps};
+ghost use Rattle.run_model.specs.Needs.{superblocks_needed, ListsKeysOf, step_bound};
+ghost use Rattle.run_model.specs.OneMap.{IsWholeMap, NoneIsFull, IsAsOneThread};
 ghost use Rattle.run_model.specs.Opened.{HasMaps};
+ghost use Rattle.worker_run.specs.Said.{replies_of};
 ghost use Rattle.image_run.specs.Reporting.{fault_of, image_in, PointsOutside, Recovers};
 ghost use Rattle.image_run.specs.Running.{Options, RunsRequests};
 
@@ -43,4 +48,49 @@ pub fn an_image_is_recovered_in_one_way()
     ensures words { (image words other : Image) (held again : List Block) (free freed : List ℕ)
         → Recovers image held free words → Recovers image again freed other
         → (word : ℕ) → other word ≡ words word }
+{}
+
+/// A run that isn't stopped, and refuses no request for want of room, is that of one thread,
+/// however many workers it has: the replies are those of one map asked by the whole trace in its
+/// order, and that map after it is left.
+pub fn a_run_without_a_refusal_is_that_of_one_thread()
+    ensures { (image : Image) (requests : List Request) (options : Options) (put text : List ℕ)
+        → HasMaps image → (run : RunsRequests image requests options put text)
+        → run.stopped ≡ false → NoneIsFull (replies_of run.told)
+        → IsAsOneThread image requests (replies_of run.told) (slice_index run.left) }
+{}
+
+/// So are those with enough of a budget and enough room: the one isn't stopped, and the other
+/// refuses nothing.
+pub fn enough_budget_and_room_are_known()
+    ensures budget { (image : Image) (requests : List Request) (options : Options)
+        (put text keys : List ℕ) → (run : RunsRequests image requests options put text)
+        → ListsKeysOf image keys
+        → step_bound (length requests) (length keys) options.workers ≤ options.budget
+        → run.stopped ≡ false }
+    ensures room { (image : Image) (requests : List Request) (options : Options)
+        (put text : List ℕ) → HasMaps image
+        → (run : RunsRequests image requests options put text)
+        → used_of image + superblocks_needed requests ≤ capacity_of image
+        → NoneIsFull (replies_of run.told) }
+{}
+
+/// Two such runs of a trace over one image tell the same replies, and leave the same map, whatever
+/// their workers, schedules and chances.
+pub fn runs_without_a_refusal_are_alike()
+    ensures told { (image : Image) (requests : List Request) (options others : Options)
+        (put text saved shown : List ℕ) → HasMaps image
+        → (run : RunsRequests image requests options put text)
+        → (other : RunsRequests image requests others saved shown)
+        → run.stopped ≡ false → other.stopped ≡ false
+        → NoneIsFull (replies_of run.told) → NoneIsFull (replies_of other.told)
+        → other.told ≡ run.told }
+    ensures left { (image : Image) (requests : List Request) (options others : Options)
+        (put text saved shown : List ℕ) → HasMaps image
+        → (run : RunsRequests image requests options put text)
+        → (other : RunsRequests image requests others saved shown)
+        → run.stopped ≡ false → other.stopped ≡ false
+        → NoneIsFull (replies_of run.told) → NoneIsFull (replies_of other.told)
+        → (whole : Map) → IsWholeMap (slice_index run.left) whole
+        → IsWholeMap (slice_index other.left) whole }
 {}
