@@ -30,7 +30,7 @@ pub record IsRefused (bytes most : ℕ) (looks : Looks) (v w : View) : Type 0 wh
   pub looks_are : w.refused_looks ≡ looks
   pub taken : w.taken ≤ v.taken + most
 
--- within a call from s to t the heap turned a request of so many bytes down: what has_none says of a heap's seat was so before and after it, and else all was kept
+-- within a call from s to t the heap turned a request of so many bytes down: what has_none says of a heap's seat was so before and after it; and before and behind that all was kept that each call keeps
 pub record WasTurnedDown {S : Type 0} (keeps : S → S → Type 0) (has_none : S → S → ℕ → Looks → Type 0) (bytes : ℕ) (looks : Looks) (s t : S) : Type 0 where
   pub before : S
   pub after : S

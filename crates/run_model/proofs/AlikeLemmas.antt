@@ -9,21 +9,21 @@ use Rattle.run_model.specs.Runs.{answered}
 use Rattle.run_model.specs.Workers.{Replies}
 use Rattle.run_model.proofs.OneMapLemmas.{one_whole}
 
--- a key is there or not
-there_or_not : (whole : Map) (key : ℕ) (value : List ℕ) → whole key ≡ Some value → whole key ≡ None → ⊥
-there_or_not whole key value there not = let e : Some value ≡ None = sym there ∙ not in absurd (cc)
+-- a key is not both there and missing
+not_both : (whole : Map) (key : ℕ) (value : List ℕ) → whole key ≡ Some value → whole key ≡ None → ⊥
+not_both whole key value there not = let e : Some value ≡ None = sym there ∙ not in absurd (cc)
 
 one_reply : (whole : Map) (q : Request) (a b : Reply) → IsReply whole q a → IsReply whole q b → a ≢ full → b ≢ full → b ≡ a
 one_reply whole _ _ _ (put_done key value) (put_done _ _) some also = refl
 one_reply whole _ _ _ (put_done key value) (put_full _ _) some also = absurd (also refl)
 one_reply whole _ _ _ (put_full key value) is some also = absurd (some refl)
 one_reply whole _ _ _ (get_found key value is) (get_found _ v other) some also = let e : Some v ≡ Some value = sym other ∙ is in cc
-one_reply whole _ _ _ (get_found key value is) (get_none _ not) some also = absurd (there_or_not whole key value is not)
-one_reply whole _ _ _ (get_none key not) (get_found _ v is) some also = absurd (there_or_not whole key v is not)
+one_reply whole _ _ _ (get_found key value is) (get_none _ not) some also = absurd (not_both whole key value is not)
+one_reply whole _ _ _ (get_none key not) (get_found _ v is) some also = absurd (not_both whole key v is not)
 one_reply whole _ _ _ (get_none key not) (get_none _ _) some also = refl
 one_reply whole _ _ _ (del_done key value is) (del_done _ v other) some also = refl
-one_reply whole _ _ _ (del_done key value is) (del_none _ not) some also = absurd (there_or_not whole key value is not)
-one_reply whole _ _ _ (del_none key not) (del_done _ v is) some also = absurd (there_or_not whole key v is not)
+one_reply whole _ _ _ (del_done key value is) (del_none _ not) some also = absurd (not_both whole key value is not)
+one_reply whole _ _ _ (del_none key not) (del_done _ v is) some also = absurd (not_both whole key v is not)
 one_reply whole _ _ _ (del_none key not) (del_none _ _) some also = refl
 
 same_pair : (r s : Request × Reply) → s.0 ≡ r.0 → s.1 ≡ r.1 → s ≡ r

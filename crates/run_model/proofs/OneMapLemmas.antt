@@ -17,6 +17,7 @@ use Rattle.run_model.specs.Runs.{answered, unanswered, of_shard, AnswerInOrder, 
 use Rattle.run_model.specs.Workers.{Replies, key_of, shard_asked}
 use Rattle.run_model.proofs.FullLemmas.{between, never_full}
 
+-- a request is to one of the shards
 pub small_shard : (request : Request) → shard_asked request < shards
 small_shard request = mod-lt (key_of request) (omega arith)
 

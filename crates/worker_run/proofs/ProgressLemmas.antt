@@ -1,7 +1,6 @@
 -- A run goes on by one request, and what it leaves where the next one is stopped.
 use Rattle.std.proofs.Common.{◌≡◌, ◌≢◌, ℕ, ◌<◌, inl, inr, List, [], ◌∷◌, ◌++◌, Contains, cond, slice_index, refl, subst, sym, ap, ◌∙◌, arith}
 use Rattle.std.specs.Prelude.{true}
-use Rattle.std.proofs.Math.Nat.{mod-lt}
 use Rattle.std.proofs.lemmas.Bool.{cases_eq, cond-true, cond-false, ne_eqb, eq-eqb}
 use Rattle.std.proofs.lemmas.List.Elements.{filter-append}
 use Rattle.heap_model.specs.Image.{Image}
