@@ -98,6 +98,7 @@ module _ (old new : Image) (to : RecoversTo old new) (maps : List (BTreeMap ℕ 
       most = let most = leaves.used.most in omega (arith, most, used_stays);
     };
     state = leaves.state;
+    orderly = leaves.orderly;
   }
 
   pub runs_carried : (requests : List Request) (options : Options) (put text : List ℕ) → RunsRequests new requests options put text → RunsRequests old requests options put text

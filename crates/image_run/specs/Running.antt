@@ -7,6 +7,7 @@ use Rattle.dict_model.specs.Requests.{Request}
 use Rattle.dictionary.specs.Reading.{RecoversTo}
 use Rattle.run_model.specs.Runs.{AnswerInOrder, StopsRightly, IsFullRightly, RepliesRightly, LeavesMaps, LeavesHeader, LeavesOthers, LeavesUsed, LeavesState}
 use Rattle.run_model.specs.Workers.{Replies}
+use Rattle.shared_run.specs.Closed.{LeavesOrderly}
 use Rattle.shared_run.specs.Together.{HaveWorked}
 use Rattle.worker_run.specs.Said.{Told, replies_of}
 use Rattle.trace_text.specs.Replies.{replies_text}
@@ -35,7 +36,7 @@ pub data AreOpened (words : List ℕ) : Image → Type 0 where
   as_they_are : AreOpened words (slice_index words)
   by_recovery : (image next : Image) → RecoversTo image next → AreOpened words next → AreOpened words image
 
--- the replies and the image left are those of workers over one heap at rest that was opened with the image: the states that each one's seat went through say why it was stopped
+-- the replies and the image left are those of workers over one heap at rest that was opened with the image: the states that each one's seat went through, from the opening on, say why it was stopped
 pub record WorkedOver (image : Image) (workers budget : ℕ) (requests : List Request) (replies : Replies) (stopped : Bool) (left : List ℕ) : Type 0 where
   pub words : List ℕ
   pub opened : AreOpened words image
@@ -56,6 +57,7 @@ pub record Leaves (image : Image) (requests : List Request) (workers budget : �
   pub others : LeavesOthers image (slice_index left)
   pub used : LeavesUsed image workers requests (replies_of told) (slice_index left)
   pub state : LeavesState stopped (slice_index left)
+  pub orderly : LeavesOrderly stopped (length left) (slice_index left)
 
 -- a run of the requests over the image puts these bytes, those of the image that is left, which are read again as its words, and prints this text: the replies, and then the report on the image that is left
 pub record RunsRequests (image : Image) (requests : List Request) (options : Options) (put text : List ℕ) : Type 0 where

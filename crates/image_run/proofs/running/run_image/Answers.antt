@@ -44,6 +44,7 @@ returns g c =
           others = c.in_ok-outcome.ensures.others;
           used = c.in_ok-outcome.ensures.used;
           state = c.in_ok-outcome.ensures.state;
+          orderly = c.in_ok-outcome.ensures.orderly;
         };
         put_is = image_is;
         words_are = subst (λ (l : List ℕ). AreWordsOf l c.in_ok-image.image) c.deref-2.ensures.value c.in_ok-image.ensures.words;
