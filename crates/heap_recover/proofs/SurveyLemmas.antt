@@ -182,7 +182,7 @@ module _ (l : Layout) (kept : Block → Type 0) (blocks : KeepsBlocks l kept) wh
 
   module _ (d count : ℕ) (taken : d < l.used) (some : 1 ≤ count) (info : l.info d ≡ large_info count) where
     -- what a superblock with the info of a large block begins
-    large_begun : (b : Block) → IsKeptIn l.capacity kept d b → (b.first_word ≡ start_word l.capacity d) × (b.words ≡ superblock_words * count)
+    pub large_begun : (b : Block) → IsKeptIn l.capacity kept d b → (b.first_word ≡ start_word l.capacity d) × (b.words ≡ superblock_words * count)
         × ((i : ℕ) → d < i → i < d + count → l.info i ≡ 0)
     large_begun b is_b =
         let begun = begun_by l d b (blocks.each b is_b.is_kept) is_b.from is_b.until in

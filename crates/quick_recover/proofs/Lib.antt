@@ -1,0 +1,10 @@
+pub mod MarkLemmas
+pub mod ListLemmas
+pub mod ChainLemmas
+pub mod HoldLemmas
+pub mod WriteLemmas
+pub mod ReadLemmas
+pub mod TakenLemmas
+pub mod ReopenLemmas
+pub mod RestLemmas
+pub mod OpenLemmas

@@ -1,0 +1,4 @@
+pub mod Reopened
+pub mod Anchored
+pub mod Written
+pub mod Opened
