@@ -2,7 +2,7 @@ use Rattle.tool_run.proofs.StatusLemmas.{has_status, is_read_fault, is_write_fau
 use Rattle.std.proofs.Common.{arith, rules}
 use Rattle.tool_run.proofs.CallLemmas.{rose_since}
 use Rattle.tool_run.proofs.PutBackLemmas.{put_once, looked_once, got_alone}
-use Rattle.tool_run.proofs.AbsentLemmas.{stops_absent}
+use Rattle.tool_run.proofs.AbsentLemmas.{stops_absent, not_done_absent}
 use Rattle.tool_run.proofs.BadTraceLemmas.{stops_bad_line, stops_too_long, done_bad_line, done_too_long}
 use Rattle.tool_run.proofs.BadScheduleLemmas.{stops_bad_step, stops_schedule_too_long, done_bad_step, done_schedule_too_long}
 use Rattle.tool_run.proofs.OutsideLeftLemmas.{stops_outside_left, done_outside_left}
@@ -108,6 +108,9 @@ returns-in-Ok-carry_out-clause-always_too_long g c = done_too_long _ _ _ _ _ _ _
 pub returns-in-Err-clause-always_absent : goal.returns-in-Err-clause-always_absent
 returns-in-Err-clause-always_absent g c =
     stops_absent _ _ _ _ _ _ _ _ _ _ _ c.in-Err.fault c.in-Ok.ensures.ok c.in-Err.ensures.err c.tell-in-Err.ensures.status
+
+pub returns-in-Ok-carry_out-clause-always_absent : goal.returns-in-Ok-carry_out-clause-always_absent
+returns-in-Ok-carry_out-clause-always_absent g c = not_done_absent _ _ _ _ _ _ _ _ c.in-Ok.ensures.ok c.in-Ok-carry_out.ensures.ok
 
 pub returns-in-Err-clause-line : goal.returns-in-Err-clause-line
 returns-in-Err-clause-line g c =
