@@ -1,13 +1,12 @@
 -- What the anchors hold in a superblock.
-use Rattle.std.proofs.Common.{◌≡◌, ◌≢◌, ℕ, ◌+◌, ◌*◌, ◌<◌, ◌≤◌, inl, inr, Bool, true, false, List, [], length, get_or, Contains, refl, ap, sym, subst, ◌∙◌, arith}
-use Rattle.std.proofs.lemmas.Bool.{cases_lt}
+use Rattle.std.proofs.Common.{◌≡◌, ℕ, Bool, true, false, List, get_or, Contains, ap, sym, subst, ◌∙◌, arith}
 use Rattle.heap_model.specs.declared.block.Block.{Block}
-use Rattle.heap_model.specs.Geometry.{info_word, anchor_word, link_word, start_word}
+use Rattle.heap_model.specs.Geometry.{info_word, anchor_word, link_word}
 use Rattle.heap_model.specs.Image.{Image}
-use Rattle.heap_model.specs.Header.{capacity_of, used_of}
-use Rattle.heap_model.specs.Sizes.{IsClass, words_of_class, blocks_of}
+use Rattle.heap_model.specs.Header.{capacity_of}
+use Rattle.heap_model.specs.Sizes.{IsClass}
 use Rattle.heap_model.specs.Words.{anchor_state, empty_state, full_anchor}
-use Rattle.heap_model.specs.Blocks.{layout_of, IsBlock}
+use Rattle.heap_model.specs.Blocks.{layout_of}
 use Rattle.heap_model.specs.Recovered.{HasPartIn, IsBlockOfClass}
 use Rattle.heap_model.specs.Chains.{IsListOf}
 use Rattle.heap_model.proofs.MemberLemmas.{in_none}
@@ -18,7 +17,7 @@ use Rattle.orderly_image.specs.Orderly.{HasPartialChain, IsLargeOutside, IsOutsi
 use Rattle.orderly_image.proofs.HeldLemmas.{held_block}
 use Rattle.heap_recover.specs.Marked.{KeepsBlocks}
 use Rattle.heap_recover.proofs.SurveyLemmas.{class_inside}
-use Rattle.quick_recover.specs.Anchored.{AreMarks, block_word, IsToldBy, by_full, by_chain}
+use Rattle.quick_recover.specs.Anchored.{block_word, IsToldBy, by_full, by_chain}
 
 -- all that is held are blocks
 pub keeps : (image : Image) → KeepsBlocks (layout_of image) (IsHeldByAnchors image)

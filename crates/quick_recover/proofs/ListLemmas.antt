@@ -1,17 +1,15 @@
 -- The free list, as it is followed.
-use Rattle.std.proofs.Common.{◌≡◌, ℕ, zero, suc, ◌+◌, ◌%◌, ◌<◌, ◌≤◌, inl, inr, Bool, true, false, List, [], ◌∷◌, ◌++◌, set, length, get_or, replicate, Contains, Option, refl, ap, sym, subst, ◌∙◌, arith, length-append}
-use Rattle.std.proofs.lemmas.Bool.{false≢true}
-use Rattle.std.proofs.lemmas.List.Elements.{Contains-append_left, Contains-append_right, Contains-push_cases}
+use Rattle.std.proofs.Common.{◌≡◌, ℕ, ◌+◌, ◌%◌, ◌<◌, ◌≤◌, inl, inr, Bool, true, false, List, [], ◌∷◌, ◌++◌, set, length, get_or, replicate, Contains, Option, refl, ap, sym, subst, ◌∙◌, arith, length-append}
+use Rattle.std.proofs.lemmas.List.Elements.{Contains-append_right, Contains-push_cases}
 use Rattle.heap_model.specs.Geometry.{link_word, head_word, anchor_word}
 use Rattle.heap_model.specs.Image.{Image}
 use Rattle.heap_model.specs.Header.{capacity_of, used_of}
 use Rattle.heap_model.specs.Words.{anchor_state, empty_state}
-use Rattle.heap_model.specs.Chains.{Follows, IsListOf}
-use Rattle.heap_model.specs.Counting.{total, one_if}
+use Rattle.heap_model.specs.Chains.{Follows}
 use Rattle.heap_model.proofs.MemberLemmas.{in_none, in_head, head_or_rest}
 use Rattle.heap_shape.proofs.OwnLemmas.{one_following}
 use Rattle.orderly_image.specs.Orderly.{IsOrderly}
-use Rattle.quick_recover.specs.Anchored.{IsDisorderly, AreMarks, IsInFreeList, IsFreeList, HasFreeList, Leads, IsListTo}
+use Rattle.quick_recover.specs.Anchored.{IsDisorderly, IsInFreeList, HasFreeList, Leads, IsListTo}
 use Rattle.quick_recover.proofs.MarkLemmas.{marks_none, marks_push, counted_none, counted_push, counted_low}
 
 -- one more descriptor

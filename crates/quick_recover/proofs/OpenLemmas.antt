@@ -1,8 +1,8 @@
 -- What opening gives back, by the way that was taken.
-use Rattle.std.proofs.Common.{◌≡◌, ◌↔◌, ℕ, ◌+◌, ◌*◌, ◌<◌, inl, inr, Option, Some, None, List, length, slice_index, refl, ap, sym, subst, ◌∙◌, arith}
+use Rattle.std.proofs.Common.{◌≡◌, ℕ, ◌*◌, ◌<◌, inl, inr, Option, Some, None, List, length, slice_index, refl, ap, sym, subst, ◌∙◌}
 use Rattle.heap_model.specs.declared.block.Block.{Block}
 use Rattle.heap_model.specs.declared.header.BadHeader.{BadHeader}
-use Rattle.heap_model.specs.Geometry.{clean, capacity_word, kind_word, roots}
+use Rattle.heap_model.specs.Geometry.{clean, capacity_word, kind_word}
 use Rattle.heap_model.specs.Image.{Image}
 use Rattle.heap_model.specs.Header.{IsWellFormed, HasGoodHeader, HasKindsBelow, header_fault, capacity_of, kinds_of, state_of}
 use Rattle.heap_model.specs.Reach.{Links, IsReachedIn, IsOutsideIn}
@@ -13,7 +13,6 @@ use Rattle.heap_recover.specs.declared.answer.Recovered.{Recovered}
 use Rattle.heap_recover.specs.declared.roles.Role.{Role}
 use Rattle.heap_recover.specs.Answer.{IsMadeOf}
 use Rattle.quick_recover.specs.declared.open.Path.TheVariants.{Quick as ByAnchors, Traced}
-use Rattle.quick_recover.specs.declared.open.Quick.{Quick}
 use Rattle.quick_recover.specs.Anchored.{TellsAll}
 use Rattle.quick_recover.specs.Reopened.{IsReopened, IsReopenedAs}
 use Rattle.quick_recover.specs.Opened.{IsOpenedAs}

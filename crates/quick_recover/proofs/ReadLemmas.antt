@@ -1,5 +1,5 @@
 -- What the descriptor of a superblock tells, or that the image is not orderly.
-use Rattle.std.proofs.Common.{◌≡◌, ℕ, ◌+◌, ◌*◌, ◌<◌, ◌≤◌, inl, inr, Bool, true, false, Option, List, [], ◌∷◌, get_or, length, Contains, refl, ap, sym, subst, ◌∙◌, arith}
+use Rattle.std.proofs.Common.{◌≡◌, ℕ, ◌+◌, ◌*◌, ◌<◌, ◌≤◌, inl, inr, Bool, true, false, Option, List, [], ◌∷◌, get_or, Contains, refl, sym, subst, ◌∙◌, arith}
 use Rattle.std.specs.Prelude.{Ok, Err, Some, None, IfOk, MatchOption}
 use Rattle.std.specs.declared.result.Result.{Result}
 use Rattle.std.specs.declared.alloc.AllocError.{AllocError}
@@ -10,25 +10,24 @@ use Rattle.heap_model.specs.Geometry.{info_word, anchor_word, link_word, start_w
 use Rattle.heap_model.specs.Image.{Image}
 use Rattle.heap_model.specs.Header.{capacity_of, used_of}
 use Rattle.heap_model.specs.Sizes.{IsClass, words_of_class, blocks_of}
-use Rattle.heap_model.specs.Words.{anchor_state, empty_state, full_anchor, large_info}
+use Rattle.heap_model.specs.Words.{anchor_state, empty_state, large_info}
 use Rattle.heap_model.specs.Blocks.{Begins, as_large as begins_large, IsBlock, layout_of}
-use Rattle.heap_model.specs.Recovered.{HasPartIn, IsBlockOfClass}
+use Rattle.heap_model.specs.Recovered.{HasPartIn}
 use Rattle.heap_model.specs.Recovery.{HoldsKept}
 use Rattle.heap_model.specs.Chains.{IsListOf}
 use Rattle.heap_model.proofs.BlockLemmas.{block_inside, block_words}
-use Rattle.heap_model.proofs.MemberLemmas.{in_head}
 use Rattle.heap_at_rest.proofs.PartLemmas.{long_takes}
 use Rattle.heap_shape.proofs.OwnLemmas.{one_following}
 use Rattle.size_table.specs.declared.size_class.SizeClass.{SizeClass}
-use Rattle.orderly_image.specs.Orderly.{HasPartialChain, HasOrderlyAnchor, all_free, none_free, some_free, IsLargeOutside, IsOrderlyOutside, of_class, of_large, IsOrderly, IsOutsideFreeList, IsHeldByAnchors, in_full, in_partial, as_large}
+use Rattle.orderly_image.specs.Orderly.{HasOrderlyAnchor, all_free, none_free, some_free, IsLargeOutside, IsOrderlyOutside, of_class, of_large, IsOrderly, IsOutsideFreeList, IsHeldByAnchors, in_full, as_large}
 use Rattle.heap_recover.specs.declared.roles.Role.{Role}
-use Rattle.heap_recover.specs.declared.roles.Role.TheVariants.{Free, Partial, Full, Large}
+use Rattle.heap_recover.specs.declared.roles.Role.TheVariants.{Free, Large}
 use Rattle.heap_recover.specs.declared.surveys.Survey.{Survey}
 use Rattle.heap_recover.specs.Marked.{AreParted, IsKeptIn, GoOnTo, IsSpareAmong}
 use Rattle.heap_recover.specs.Roles.{RoleOfParts, none_held, none_spare, some_of_both}
 use Rattle.heap_recover.proofs.SurveyLemmas.{none_of, ends_here, none_begun, free_survey, inside_survey, class_survey, large_survey, large_begun}
-use Rattle.quick_recover.specs.Anchored.{IsDisorderly, AreMarks, HasFreeList, IsNotFreed, IsToldBy, by_full, by_chain, ChainsSpares, FitsAnchor, IsReadAs, IsWhole}
-use Rattle.quick_recover.proofs.HoldLemmas.{keeps, class_part, HeldPart, full_part, partial_part, large_part, held_part, freed_holds_none, empty_holds_none, chained_free, unmarked_held}
+use Rattle.quick_recover.specs.Anchored.{IsDisorderly, HasFreeList, IsNotFreed, IsToldBy, by_full, by_chain, FitsAnchor, IsReadAs, IsWhole}
+use Rattle.quick_recover.proofs.HoldLemmas.{keeps, HeldPart, full_part, partial_part, large_part, held_part, freed_holds_none, empty_holds_none, chained_free, unmarked_held}
 
 -- a block that begins in a superblock has a part there
 begins_part : (image : Image) (d : ℕ) (b : Block) → IsKeptIn (capacity_of image) (IsHeldByAnchors image) d b → HasPartIn (capacity_of image) b d

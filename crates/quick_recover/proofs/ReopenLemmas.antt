@@ -1,13 +1,13 @@
 -- What is left of an orderly image once descriptors, lists and the state are written.
-use Rattle.std.proofs.Common.{◌≡◌, ◌≢◌, ℕ, zero, suc, ◌+◌, ◌*◌, ◌<◌, ◌≤◌, ◌⊎◌, inl, inr, List, [], ◌∷◌, length, slice_index_or, refl, ap, sym, subst, ◌∙◌, arith}
+use Rattle.std.proofs.Common.{◌≡◌, ◌≢◌, ℕ, zero, suc, ◌<◌, ◌≤◌, ◌⊎◌, inl, inr, List, [], ◌∷◌, length, slice_index_or, refl, subst, ◌∙◌, arith}
 use Rattle.std.specs.List.{Contains}
 use Rattle.std.proofs.lemmas.Bool.{cases_lt}
 use Rattle.std.proofs.lemmas.List.{get_or_default}
 use Rattle.heap_model.specs.declared.block.Block.{Block}
-use Rattle.heap_model.specs.Geometry.{info_word, anchor_word, link_word, head_word, start_word, state_word, capacity_word, dirty, lists}
+use Rattle.heap_model.specs.Geometry.{info_word, anchor_word, link_word, head_word, start_word, state_word, dirty, lists}
 use Rattle.heap_model.specs.Image.{Image}
-use Rattle.heap_model.specs.Header.{IsWellFormed, capacity_of, used_of}
-use Rattle.heap_model.specs.Sizes.{IsClass, words_of_class}
+use Rattle.heap_model.specs.Header.{capacity_of, used_of}
+use Rattle.heap_model.specs.Sizes.{IsClass}
 use Rattle.heap_model.specs.Words.{full_anchor}
 use Rattle.heap_model.specs.Blocks.{layout_of}
 use Rattle.heap_model.specs.Recovered.{IsFreeSuperblock, AreAscending}
@@ -15,16 +15,16 @@ use Rattle.heap_model.specs.Recovery.{IsPartial, IsFullyKept, IsInLarge, IsListe
 use Rattle.heap_model.specs.Chains.{Follows}
 use Rattle.heap_at_rest.proofs.ListLemmas.{follows_same}
 use Rattle.heap_recover.specs.declared.roles.Role.{Role}
-use Rattle.heap_recover.specs.declared.roles.Role.TheVariants.{Free, Partial, Full, Large}
+use Rattle.heap_recover.specs.declared.roles.Role.TheVariants.{Free, Large}
 use Rattle.heap_recover.specs.Roles.{IsMember}
-use Rattle.heap_recover.specs.Rebuilt.{IsOf, is_info, is_anchor, is_link, AreListed}
+use Rattle.heap_recover.specs.Rebuilt.{is_info, is_anchor, is_link, AreListed}
 use Rattle.heap_recover.proofs.AscendingLemmas.{ascending_same}
 use Rattle.heap_recover.proofs.PassLemmas.{kept_no_state, kept_no_head, kept_apart}
 use Rattle.heap_recover.proofs.RoleLemmas.{free_role, partial_role, full_role, large_role, role_listed, listed_role, listed_taken}
 use Rattle.orderly_image.specs.Orderly.{IsHeldByAnchors}
 use Rattle.quick_recover.specs.Anchored.{IsReadIn, HaveRoles}
 use Rattle.quick_recover.specs.Reopened.{IsReopened}
-use Rattle.quick_recover.specs.Written.{anchor_after, IsWritten, IsNoWordBelow, AreWritten}
+use Rattle.quick_recover.specs.Written.{IsWritten, AreWritten}
 
 module _ (old written listed new : Image) (roles : List Role) (fits : used_of old ≤ capacity_of old) (have : HaveRoles old roles)
     (are_written : AreWritten old written roles (capacity_of old)) (are_listed : AreListed written listed (capacity_of old) roles lists)

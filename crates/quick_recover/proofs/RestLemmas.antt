@@ -3,16 +3,16 @@ use Rattle.std.proofs.Common.{◌≡◌, ◌≢◌, ℕ, ◌+◌, ◌*◌, ◌<�
 use Rattle.std.specs.Prelude.{AllPairs}
 use Rattle.std.proofs.lemmas.Bool.{cases_lt, eq-eqb, eqb-true, cases_eq}
 use Rattle.heap_model.specs.declared.block.Block.{Block}
-use Rattle.heap_model.specs.Geometry.{info_word, anchor_word, start_word, capacity_word}
+use Rattle.heap_model.specs.Geometry.{anchor_word, start_word, capacity_word}
 use Rattle.heap_model.specs.Image.{Image}
 use Rattle.heap_model.specs.Header.{IsWellFormed, capacity_of, used_of}
-use Rattle.heap_model.specs.Sizes.{IsClass, words_of_class, blocks_of}
-use Rattle.heap_model.specs.Words.{anchor_state, anchor_first, anchor_count, partial_state}
-use Rattle.heap_model.specs.Blocks.{Layout, layout_of}
-use Rattle.heap_model.specs.Recovered.{AreAscending, IsBlockOfClass}
+use Rattle.heap_model.specs.Sizes.{IsClass, words_of_class}
+use Rattle.heap_model.specs.Words.{anchor_state, anchor_first, anchor_count}
+use Rattle.heap_model.specs.Blocks.{layout_of}
+use Rattle.heap_model.specs.Recovered.{AreAscending}
 use Rattle.heap_model.specs.Recovery.{IsPartial, IsFullyKept, in_header}
-use Rattle.heap_model.specs.Chains.{IsChain, Walks}
-use Rattle.heap_model.specs.Counting.{times, one_if}
+use Rattle.heap_model.specs.Chains.{IsChain}
+use Rattle.heap_model.specs.Counting.{times}
 use Rattle.heap_model.specs.Rest.{IsAnchored, IsReady}
 use Rattle.heap_model.proofs.MemberLemmas.{in_none, head_or_rest, order_head, order_rest}
 use Rattle.heap_model.proofs.CountingLemmas.{times_none, one_if_true, one_if_false}

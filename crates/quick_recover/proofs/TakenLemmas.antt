@@ -1,5 +1,5 @@
 -- The superblocks that have been taken, read one after the other; and what all of them tell.
-use Rattle.std.proofs.Common.{◌≡◌, ℕ, ◌+◌, ◌<◌, ◌≤◌, ◌⊎◌, inl, inr, Bool, Option, List, [], ◌∷◌, ◌++◌, length, slice_index_or, Contains, refl, ap, sym, subst, ◌∙◌, arith, length-append}
+use Rattle.std.proofs.Common.{◌≡◌, ℕ, ◌+◌, ◌<◌, ◌⊎◌, inl, inr, Bool, List, [], ◌∷◌, ◌++◌, slice_index_or, Contains, refl, ap, sym, subst, ◌∙◌, arith, length-append}
 use Rattle.std.proofs.Math.ListN.{get_or-append}
 use Rattle.std.proofs.Math.Seq.{get_or-append_seam}
 use Rattle.std.proofs.lemmas.Bool.{cases_lt}
@@ -8,9 +8,8 @@ use Rattle.heap_model.specs.Geometry.{start_word}
 use Rattle.heap_model.specs.Image.{Image}
 use Rattle.heap_model.specs.Header.{capacity_of, used_of}
 use Rattle.heap_model.specs.Blocks.{layout_of}
-use Rattle.heap_model.specs.Chains.{IsListOf}
 use Rattle.heap_model.proofs.BlockLemmas.{block_inside, block_words}
-use Rattle.orderly_image.specs.Orderly.{IsOrderlyOutside, IsOrderly, IsHeldByAnchors}
+use Rattle.orderly_image.specs.Orderly.{IsOrderlyOutside, IsHeldByAnchors}
 use Rattle.heap_recover.specs.declared.roles.Role.{Role}
 use Rattle.heap_recover.specs.declared.roles.Role.TheVariants.{Large}
 use Rattle.heap_recover.specs.declared.surveys.Survey.{Survey}

@@ -1,5 +1,5 @@
 -- What is read of an image whose anchors can be relied on: its free list, a chain, and a superblock.
-use Rattle.std.specs.Prelude.{◌≡◌, ◌≢◌, ◌↔◌, ℕ, ◌+◌, ◌*◌, ◌%◌, ◌<◌, ◌≤◌, Bool, true, false, Option, List, [], ◌∷◌, get_or, length, slice_index, slice_index_or, Contains, AllPairs}
+use Rattle.std.specs.Prelude.{◌≡◌, ◌≢◌, ℕ, ◌+◌, ◌*◌, ◌%◌, ◌<◌, ◌≤◌, Bool, true, false, Option, List, [], ◌∷◌, get_or, length, slice_index, slice_index_or, Contains, AllPairs}
 use Rattle.heap_model.specs.declared.block.Block.{Block}
 use Rattle.heap_model.specs.Geometry.{info_word, anchor_word, link_word, head_word, start_word, state_word, clean}
 use Rattle.heap_model.specs.Image.{Image}
@@ -10,7 +10,6 @@ use Rattle.heap_model.specs.Blocks.{layout_of}
 use Rattle.heap_model.specs.Recovered.{IsBlockOfClass, AreAscending}
 use Rattle.heap_model.specs.Chains.{Walks, after, IsListOf}
 use Rattle.heap_model.specs.Counting.{total, one_if}
-use Rattle.size_table.specs.declared.size_class.SizeClass.{SizeClass}
 use Rattle.quick_recover.specs.declared.chains.FreeBlocks.{FreeBlocks}
 use Rattle.quick_recover.specs.declared.chains.FreeBlocks.TheVariants.{All, Marked}
 use Rattle.orderly_image.specs.Orderly.{HasPartialChain, IsOrderlyOutside, IsOutsideFreeList, IsOrderly, IsHeldByAnchors}

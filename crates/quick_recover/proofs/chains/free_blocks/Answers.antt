@@ -1,4 +1,4 @@
-use Rattle.std.proofs.Common.{◌≡◌, ap, sym, subst, ◌∙◌, slice_index}
+use Rattle.std.proofs.Common.{ap, sym, subst, ◌∙◌, slice_index}
 use Rattle.std.specs.Prelude.{MatchOption}
 use Rattle.heap_model.specs.Words.{anchor_state, anchor_first, anchor_count}
 use Rattle.anchor_word.specs.Anchor.{state_number}

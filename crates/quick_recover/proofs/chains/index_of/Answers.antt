@@ -1,6 +1,5 @@
-use Rattle.std.proofs.Common.{◌≡◌, ◌+◌, ◌-◌, ◌*◌, ◌%◌, ◌<◌, ◌≤◌, ap, sym, ◌∙◌, arith}
+use Rattle.std.proofs.Common.{◌≡◌, ◌-◌, ◌*◌, ◌%◌, ap, ◌∙◌, arith}
 use Rattle.std.proofs.Math.Nat.{mul-mod_left}
-use Rattle.heap_model.specs.Sizes.{words_of_class}
 use Rattle.quick_recover.proofs.chains.index_of.Goals as goal
 use Rattle.quick_recover.proofs.chains.index_of.Goals.{then-word-start-via-then-word-start, then-word-start-via-else-word-start+then-word-start-ne0}
 

@@ -1,8 +1,6 @@
-use Rattle.std.proofs.Common.{◌≡◌, ◌≢◌, ◌+◌, ◌%◌, ◌<◌, ◌≤◌, ℕ, false, true, get_or, replicate, slice_index, Some, None, Option, refl, ap, sym, subst, ◌∙◌, arith}
+use Rattle.std.proofs.Common.{false, replicate, slice_index, ap, sym, subst, ◌∙◌, arith}
 use Rattle.std.proofs.lemmas.Bool.{false≢true}
-use Rattle.heap_model.specs.Geometry.{anchor_word}
-use Rattle.heap_model.specs.Header.{used_of}
-use Rattle.heap_model.specs.Words.{anchor_state, empty_state}
+use Rattle.heap_model.specs.Words.{anchor_state}
 use Rattle.super_block.specs.Links.{link_of}
 use Rattle.quick_recover.specs.Anchored.{IsListTo}
 use Rattle.quick_recover.proofs.ListLemmas.{list_none, list_push, list_end, not_next, too_long}

@@ -1,4 +1,4 @@
-use Rattle.std.proofs.Common.{◌≡◌, ℕ, ◌*◌, Some, List, length, slice_index, subst}
+use Rattle.std.proofs.Common.{ℕ, ◌*◌, Some, List, length, slice_index, subst}
 use Rattle.std.specs.Prelude.{MatchOption}
 use Rattle.heap_recover.specs.declared.taken.Found.{Found}
 use Rattle.quick_recover.specs.Anchored.{IsDisorderly, TellsAll}

@@ -1,4 +1,4 @@
-use Rattle.std.proofs.Common.{◌≡◌, ◌+◌, ◌++◌, [], ◌∷◌, slice_index, ap, sym, subst, ◌∙◌, arith}
+use Rattle.std.proofs.Common.{◌+◌, ◌++◌, slice_index, ap, sym, subst, ◌∙◌, arith}
 use Rattle.std.specs.Prelude.{MatchOption}
 use Rattle.quick_recover.specs.Anchored.{IsDisorderly, IsReadAs, AreRead}
 use Rattle.quick_recover.proofs.TakenLemmas.{read_none, read_next, read_all}

@@ -1,4 +1,4 @@
-use Rattle.std.proofs.Common.{◌≡◌, set, length, slice_index, sym, subst, ◌∙◌, arith}
+use Rattle.std.proofs.Common.{set, slice_index, subst, arith}
 use Rattle.std.proofs.lemmas.List.{get_or-set_same, get_or-set_other}
 use Rattle.heap_model.specs.Geometry.{lists}
 use Rattle.heap_recover.specs.Rebuilt.{AreListed}

@@ -1,4 +1,4 @@
-use Rattle.std.proofs.Common.{◌≡◌, Some, slice_index, ap, sym, subst, ◌∙◌}
+use Rattle.std.proofs.Common.{◌≡◌, Some, slice_index, ap, subst, ◌∙◌}
 use Rattle.std.specs.Prelude.{MatchOption}
 use Rattle.heap_model.specs.Header.{capacity_of}
 use Rattle.heap_model.specs.Image.{Image}
@@ -7,7 +7,6 @@ use Rattle.heap_model.specs.Sizes.{blocks_of}
 use Rattle.heap_model.specs.Words.{anchor_state, empty_state}
 use Rattle.orderly_image.specs.Orderly.{HasOrderlyAnchor, IsHeldByAnchors}
 use Rattle.heap_recover.specs.Marked.{AreParted}
-use Rattle.quick_recover.specs.declared.chains.FreeBlocks.TheVariants.{All, Marked}
 use Rattle.quick_recover.specs.Anchored.{TellsFree, IsToldBy}
 use Rattle.quick_recover.proofs.ReadLemmas.{read_empty, read_parts}
 use Rattle.quick_recover.proofs.superblocks.read_class.Goals as goal

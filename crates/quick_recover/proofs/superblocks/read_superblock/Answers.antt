@@ -1,15 +1,13 @@
-use Rattle.std.proofs.Common.{◌≡◌, ◌+◌, ◌*◌, ◌<◌, ◌≤◌, length, slice_index, refl, ap, sym, subst, ◌∙◌, arith}
+use Rattle.std.proofs.Common.{◌+◌, ◌*◌, ◌<◌, slice_index, refl, ap, sym, subst, ◌∙◌}
 use Rattle.std.proofs.lemmas.Bool.{false≢true}
 use Rattle.heap_model.specs.declared.block.Block.{Block}
 use Rattle.heap_model.specs.Geometry.{start_word}
-use Rattle.heap_model.specs.Header.{used_of}
 use Rattle.heap_model.specs.Sizes.{IsClass}
 use Rattle.heap_model.specs.Blocks.{layout_of}
 use Rattle.orderly_image.specs.Orderly.{HasOrderlyAnchor}
 use Rattle.super_block.proofs.DivisionLemmas.{nothing_begins}
 use Rattle.heap_recover.specs.declared.roles.Role.TheVariants.{Large}
-use Rattle.quick_recover.specs.Anchored.{IsReadable}
-use Rattle.quick_recover.proofs.ReadLemmas.{read_freed, read_inside, read_large, no_use, bad_anchor, not_whole, not_freed, class_answer}
+use Rattle.quick_recover.proofs.ReadLemmas.{read_freed, read_inside, read_large, no_use, bad_anchor, not_whole, class_answer}
 use Rattle.quick_recover.proofs.superblocks.read_superblock.Goals as goal
 
 pub returns-then-get : goal.returns-then-get
