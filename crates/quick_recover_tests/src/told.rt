@@ -1,6 +1,4 @@
 //! What the rows of the tests tell: images, blocks, superblocks and words.
-ghost use Rattle.std.specs.Prelude.{◌≤◌};
-ghost use Rattle.heap_model.specs.Geometry.{largest_capacity};
 
 use heap_model::Block;
 use image_text::{change, image_of, number, old_image_of};
