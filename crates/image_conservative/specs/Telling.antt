@@ -9,7 +9,7 @@ use Rattle.heap_recover.specs.declared.answer.Recovered.{Recovered}
 use Rattle.image_run.specs.Reporting.{text_of, shown_text}
 use Rattle.mixed_trace.specs.Conservative.{IsReachedByWords}
 
--- the text on a recovered heap, of whose keys nothing is told
+-- the text on a heap that was opened, of whose keys nothing is told
 pub record IsHeapText (recovered : Recovered) (with_map : Bool) (text : List ℕ) : Type 0 where
   pub keys : List ℕ
   pub none : keys ≡ []

@@ -3,4 +3,4 @@
 
 mod telling;
 
-pub use telling::conservative_text;
+pub use telling::{conservative_text, heap_text};

@@ -33,8 +33,9 @@ pub fn conservative_text(
     Ok(text)
 }
 
-// The report on the heap, and its map.
-fn heap_text(alloc: Global, recovered: &Recovered, with_map: bool) -> Result<Bytes, AllocError>
+/// The report without keys on a heap that was opened, whatever way, and its map where that is asked
+/// for.
+pub fn heap_text(alloc: Global, recovered: &Recovered, with_map: bool) -> Result<Bytes, AllocError>
     ensures ok { IfOk result (IsHeapText recovered.now with_map) }
 {
     let report = report_text(alloc, recovered, None, false)?;
