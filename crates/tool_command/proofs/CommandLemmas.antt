@@ -8,7 +8,7 @@ use Rattle.clap.specs.declared.builder.command.Command.{Command}
 use Rattle.clap.specs.declared.parser.matches.ArgMatches.{ArgMatches}
 use Rattle.clap.specs.declared.parser.matches.Found.{Found}
 use Rattle.clap.proofs.WalkLemmas.{one_text-rows, first_value-rows}
-use Rattle.tool_command.specs.Command.{format_image, show_image, drain_image, gen_trace, run_image, rebuild_image, replay_image, conservative_image, texts, AsksToFormat, AsksToShow, AsksToDrain, AsksToGen, AsksToRun, AsksToRebuild, AsksToReplay, AsksToRecoverConservatively, IsUsage}
+use Rattle.tool_command.specs.Command.{format_image, show_image, drain_image, gen_trace, run_image, rebuild_image, replay_image, conservative_image, count_image, texts, AsksToFormat, AsksToShow, AsksToDrain, AsksToGen, AsksToRun, AsksToRebuild, AsksToReplay, AsksToRecoverConservatively, AsksToCount, IsUsage}
 use Rattle.image_run.specs.Running.{Options}
 use Rattle.tool_command.proofs.OneCommandLemmas.{first_word, letters, one_text_given, one_number, one_number_or, one_flag}
 use Rattle.tool_command.specs.CommandLine.{IsTaken, IsMatchedBy, HasText, HasNumber, HasNumberOr, HasFlag}
@@ -133,17 +133,23 @@ pub usage_conservative : (words : List (List ℕ)) → slice_get words 0 ≡ Som
 usage_conservative words first none (conservative_image image with_map) asks = none image with_map asks
 usage_conservative words first none other asks = other_name words _ _ first (first_word words other asks) (λ e. omega (arith, first_letters _ _ e))
 
+pub usage_count : (words : List (List ℕ)) → slice_get words 0 ≡ Some (codes "count")
+    → ((image : List ℕ) (with_map : Bool) → AsksToCount words image with_map → ⊥) → IsUsage words
+usage_count words first none (count_image image with_map) asks = none image with_map asks
+usage_count words first none other asks = other_name words _ _ first (first_word words other asks) (λ e. omega (arith, first_letters _ _ e))
+
 -- a word that names no command asks for none
 pub usage_other : (words : List (List ℕ)) (word : List ℕ) → slice_get words 0 ≡ Some word
-    → (word ≡ codes "format" → ⊥) → (word ≡ codes "show" → ⊥) → (word ≡ codes "drain" → ⊥) → (word ≡ codes "gen" → ⊥) → (word ≡ codes "run" → ⊥) → (word ≡ codes "rebuild" → ⊥) → (word ≡ codes "replay" → ⊥) → (word ≡ codes "conservative" → ⊥) → IsUsage words
-usage_other words word first format show drain gen run rebuild replay conservative (format_image image n) asks = other_name words _ _ first asks.taken.named format
-usage_other words word first format show drain gen run rebuild replay conservative (show_image image with_map in_parallel) asks = other_name words _ _ first asks.taken.named show
-usage_other words word first format show drain gen run rebuild replay conservative (drain_image image n) asks = other_name words _ _ first asks.taken.named drain
-usage_other words word first format show drain gen run rebuild replay conservative (gen_trace requests seed) asks = other_name words _ _ first asks.taken.named gen
-usage_other words word first format show drain gen run rebuild replay conservative (run_image image options) asks = other_name words _ _ first asks.taken.named run
-usage_other words word first format show drain gen run rebuild replay conservative (rebuild_image image budget seed) asks = other_name words _ _ first asks.taken.named rebuild
-usage_other words word first format show drain gen run rebuild replay conservative (replay_image image seed) asks = other_name words _ _ first asks.taken.named replay
-usage_other words word first format show drain gen run rebuild replay conservative (conservative_image image with_map) asks = other_name words _ _ first asks.taken.named conservative
+    → (word ≡ codes "format" → ⊥) → (word ≡ codes "show" → ⊥) → (word ≡ codes "drain" → ⊥) → (word ≡ codes "gen" → ⊥) → (word ≡ codes "run" → ⊥) → (word ≡ codes "rebuild" → ⊥) → (word ≡ codes "replay" → ⊥) → (word ≡ codes "conservative" → ⊥) → (word ≡ codes "count" → ⊥) → IsUsage words
+usage_other words word first format show drain gen run rebuild replay conservative count (format_image image n) asks = other_name words _ _ first asks.taken.named format
+usage_other words word first format show drain gen run rebuild replay conservative count (show_image image with_map in_parallel) asks = other_name words _ _ first asks.taken.named show
+usage_other words word first format show drain gen run rebuild replay conservative count (drain_image image n) asks = other_name words _ _ first asks.taken.named drain
+usage_other words word first format show drain gen run rebuild replay conservative count (gen_trace requests seed) asks = other_name words _ _ first asks.taken.named gen
+usage_other words word first format show drain gen run rebuild replay conservative count (run_image image options) asks = other_name words _ _ first asks.taken.named run
+usage_other words word first format show drain gen run rebuild replay conservative count (rebuild_image image budget seed) asks = other_name words _ _ first asks.taken.named rebuild
+usage_other words word first format show drain gen run rebuild replay conservative count (replay_image image seed) asks = other_name words _ _ first asks.taken.named replay
+usage_other words word first format show drain gen run rebuild replay conservative count (conservative_image image with_map) asks = other_name words _ _ first asks.taken.named conservative
+usage_other words word first format show drain gen run rebuild replay conservative count (count_image image with_map) asks = other_name words _ _ first asks.taken.named count
 
 no_name : (words : List (List ℕ)) (name : List ℕ) → words ≡ [] → slice_get words 0 ≡ Some name → ⊥
 no_name words name none first =

@@ -11,9 +11,9 @@ use Rattle.heap_model.specs.Geometry.{largest_capacity_fits}
 use Rattle.super_block.proofs.ConstantLemmas.{largest_capacity_is}
 use Rattle.super_block.specs.declared.layout.TheConstants.{LARGEST_CAPACITY, LAST_CLASS}
 use Rattle.tool_command.specs.declared.trace_plan.TheConstants.{MOST_REQUESTS, GREATEST_SEED}
-use Rattle.tool_command.specs.CommandLine.{format_app, show_app, drain_app, gen_app, replay_app, conservative_app, image_id, capacity_id, class_id, map_id, requests_id, trace_seed_id, seed_id, par_id, word_rule, number_rule, option_rule, needed_option_rule, flag_rule, HasNumber, HasNumberOr, HasFlag, IsTaken}
-use Rattle.tool_command.specs.Command.{AsksToFormat, AsksToShow, AsksToDrain, AsksToGen, AsksToReplay, AsksToRecoverConservatively}
-use Rattle.tool_command.specs.Forms.{IsImageWord, IsFormatForm, IsShowForm, IsDrainForm, IsGenForm, IsReplayForm, IsConservativeForm, number_words, flag_words}
+use Rattle.tool_command.specs.CommandLine.{format_app, show_app, drain_app, gen_app, replay_app, conservative_app, count_app, image_id, capacity_id, class_id, map_id, requests_id, trace_seed_id, seed_id, par_id, word_rule, number_rule, option_rule, needed_option_rule, flag_rule, HasNumber, HasNumberOr, HasFlag, IsTaken}
+use Rattle.tool_command.specs.Command.{AsksToFormat, AsksToShow, AsksToDrain, AsksToGen, AsksToReplay, AsksToRecoverConservatively, AsksToCount}
+use Rattle.tool_command.specs.Forms.{IsImageWord, IsFormatForm, IsShowForm, IsDrainForm, IsGenForm, IsReplayForm, IsConservativeForm, IsCountForm, number_words, flag_words}
 use Rattle.tool_command.proofs.WalkingLemmas.{IsPositional, IsOption, IsFlag, Fits, Given, in_place, by_name, alone_by_name, words_of, AreTaken, are_new, ended, rows_with, no_fault, matches_are, text_is_plain, number_is_plain, number_is_read, number_passes}
 
 -- ---- arguments, and what they take
@@ -192,7 +192,7 @@ gen_asks words requests seed form =
       small = form.small;
     }
 
--- ---- 'show IMAGE [--map] [--par]' and 'conservative IMAGE [--map]'
+-- ---- 'show IMAGE [--map] [--par]', 'conservative IMAGE [--map]' and 'count IMAGE [--map]'
 
 abbrev pub map_given : Bool → List Given
 map_given = flag_given (filled (flag_rule map_id)) (codes "--map") map_id
@@ -269,6 +269,38 @@ conservative_asks words image with_map form =
       taken = is_taken conservative_app given words rest plain form.words_are whole taken;
       named = ap (first_of image_id) matches ∙ found.0;
       mapped = flag_found (matches_of conservative_app words) map_id with_map (ap (first_of map_id) matches ∙ found.1);
+    }
+
+abbrev count_given : Text → Bool → List Given
+count_given image with_map = image_given image ∷ (map_given with_map ++ [])
+
+abbrev count_rows : Text → Bool → List Row
+count_rows image with_map = ended (built count_app).top (count_given image with_map)
+
+count_whole : (image : Text) (with_map : Bool) → IsWhole count_app (count_given image with_map) (image ∷ flag_words (codes "--map") with_map)
+unfolding defaults_fault
+count_whole image true = record { words_are = refl; new = refl; defaults = refl; checks = refl }
+count_whole image false = record { words_are = refl; new = refl; defaults = refl; checks = refl }
+
+count_found : (image : Text) (with_map : Bool) → (first_of image_id (count_rows image with_map) ≡ Some image) × (first_of map_id (count_rows image with_map) ≡ Some (bool_text with_map))
+count_found image true = (refl, refl)
+count_found image false = (refl, refl)
+
+pub count_asks : (words : List Text) (image : Text) (with_map : Bool) → IsCountForm words image with_map → AsksToCount words image with_map
+count_asks words image with_map form =
+    let s = (built count_app).top in
+    let given = count_given image with_map in
+    let rest = image ∷ flag_words (codes "--map") with_map in
+    let plain : IsPlainApp count_app = record { leaf = refl; binary = refl } in
+    let found = count_found image with_map in
+    let flag = flag_taken s 2 map_id (codes "--map") with_map [] (record { dashes = refl; long = refl; here = refl; bare = refl }) tt in
+    let taken = image_taken s image (map_given with_map ++ []) (record { here = refl; found = refl; single = refl; once = refl; closed = refl }) form.named flag in
+    let whole = count_whole image with_map in
+    let matches = matched count_app given words rest plain form.words_are whole taken in
+    record {
+      taken = is_taken count_app given words rest plain form.words_are whole taken;
+      named = ap (first_of image_id) matches ∙ found.0;
+      mapped = flag_found (matches_of count_app words) map_id with_map (ap (first_of map_id) matches ∙ found.1);
     }
 
 -- ---- 'replay IMAGE [--seed X]'

@@ -6,8 +6,8 @@ use Rattle.std.proofs.Common.{◌∙◌, sym, ap, inl, inr, bytes_eq, arith}
 use Rattle.clap.specs.Walk.{row_text}
 use Rattle.clap.specs.Words.{Row, matches_of, first_of, one_of, read_as}
 use Rattle.image_run.specs.declared.options.TheConstants.{MOST_BUDGET}
-use Rattle.tool_command.specs.Command.{Command, Asks, format_image, show_image, drain_image, gen_trace, run_image, rebuild_image, replay_image, conservative_image}
-use Rattle.tool_command.specs.CommandLine.{format_app, drain_app, show_app, gen_app, run_app, rebuild_app, replay_app, conservative_app, image_id, capacity_id, class_id, map_id, requests_id, trace_seed_id, workers_id, stop_id, seed_id, sum_id, par_id, HasText, HasNumber, HasNumberOr, HasFlag}
+use Rattle.tool_command.specs.Command.{Command, Asks, format_image, show_image, drain_image, gen_trace, run_image, rebuild_image, replay_image, conservative_image, count_image}
+use Rattle.tool_command.specs.CommandLine.{format_app, drain_app, show_app, gen_app, run_app, rebuild_app, replay_app, conservative_app, count_app, image_id, capacity_id, class_id, map_id, requests_id, trace_seed_id, workers_id, stop_id, seed_id, sum_id, par_id, HasText, HasNumber, HasNumberOr, HasFlag}
 
 -- one number is written
 pub one_number : (rows : List Row) (id : List ℕ) (n m : ℕ) → HasNumber rows id n → HasNumber rows id m → n ≡ m
@@ -52,6 +52,7 @@ name_of (run_image image options) = codes "run"
 name_of (rebuild_image image budget seed) = codes "rebuild"
 name_of (replay_image image seed) = codes "replay"
 name_of (conservative_image image with_map) = codes "conservative"
+name_of (count_image image with_map) = codes "count"
 
 -- it is the first word
 pub first_word : (words : List (List ℕ)) (command : Command) → Asks words command → slice_get words 0 ≡ Some (name_of command)
@@ -63,6 +64,7 @@ first_word words (run_image image options) asks = asks.taken.named
 first_word words (rebuild_image image budget seed) asks = asks.taken.named
 first_word words (replay_image image seed) asks = asks.taken.named
 first_word words (conservative_image image with_map) asks = asks.taken.named
+first_word words (count_image image with_map) asks = asks.taken.named
 
 -- the first three letters of a name tell it
 abbrev pub letters : List ℕ → ℕ
@@ -112,5 +114,9 @@ one_command words (replay_image image seed) (replay_image other begun) asks also
 one_command words (conservative_image image with_map) (conservative_image other map) asks also =
     let named = one_text_given (matches_of conservative_app words) image_id image other asks.named also.named in
     let mapped = one_flag (matches_of conservative_app words) map_id with_map map asks.mapped also.mapped in
+    cc
+one_command words (count_image image with_map) (count_image other map) asks also =
+    let named = one_text_given (matches_of count_app words) image_id image other asks.named also.named in
+    let mapped = one_flag (matches_of count_app words) map_id with_map map asks.mapped also.mapped in
     cc
 one_command words a b asks also = absurd (omega (arith, one_letter words a b asks also))

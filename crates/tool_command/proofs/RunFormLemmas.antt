@@ -9,10 +9,10 @@ use Rattle.clap.specs.Faults.{defaults_fault}
 use Rattle.image_run.specs.Running.{Options}
 use Rattle.image_run.specs.declared.options.TheConstants.{MOST_WORKERS, MOST_BUDGET}
 use Rattle.tool_command.specs.CommandLine.{run_app, rebuild_app, image_id, map_id, workers_id, stop_id, seed_id, sum_id, option_rule, needed_option_rule, flag_rule}
-use Rattle.tool_command.specs.Command.{Command, Asks, AsksToRun, AsksToRebuild, format_image, show_image, drain_image, gen_trace, run_image, rebuild_image, replay_image, conservative_image}
+use Rattle.tool_command.specs.Command.{Command, Asks, AsksToRun, AsksToRebuild, format_image, show_image, drain_image, gen_trace, run_image, rebuild_image, replay_image, conservative_image, count_image}
 use Rattle.tool_command.specs.Forms.{IsForm, IsRunForm, IsRebuildForm, number_words, flag_words}
 use Rattle.tool_command.proofs.WalkingLemmas.{Given, by_name, AreTaken, ended, number_is_plain}
-use Rattle.tool_command.proofs.FormLemmas.{format_asks, show_asks, drain_asks, gen_asks, replay_asks, conservative_asks, image_given, seed_given, map_given, number_given, flag_given, number_taken, flag_taken, image_taken, needed_option_fits, number_found, number_or_found, flag_found, bounded, IsWhole, IsPlainApp, is_taken, matched}
+use Rattle.tool_command.proofs.FormLemmas.{format_asks, show_asks, drain_asks, gen_asks, replay_asks, conservative_asks, count_asks, image_given, seed_given, map_given, number_given, flag_given, number_taken, flag_taken, image_taken, needed_option_fits, number_found, number_or_found, flag_found, bounded, IsWhole, IsPlainApp, is_taken, matched}
 
 abbrev stop_given : Option ℕ → List Given
 stop_given = number_given (filled (option_rule stop_id 0 MOST_BUDGET)) (codes "--stop") stop_id
@@ -185,3 +185,4 @@ form_asks words (run_image image options) form = run_asks words image options fo
 form_asks words (rebuild_image image budget seed) form = rebuild_asks words image budget seed form
 form_asks words (replay_image image seed) form = replay_asks words image seed form
 form_asks words (conservative_image image with_map) form = conservative_asks words image with_map form
+form_asks words (count_image image with_map) form = count_asks words image with_map form

@@ -23,8 +23,8 @@ use Rattle.image_run.specs.Running.{Options}
 use Rattle.image_run.specs.declared.options.TheConstants.{MOST_WORKERS, MOST_BUDGET}
 use Rattle.super_block.specs.declared.layout.TheConstants.{LARGEST_CAPACITY, LAST_CLASS}
 use Rattle.tool_command.specs.declared.trace_plan.TheConstants.{MOST_REQUESTS, GREATEST_SEED}
-use Rattle.tool_command.specs.Command.{Command, format_image, show_image, drain_image, gen_trace, run_image, rebuild_image, replay_image, conservative_image, Asks, AsksToFormat, AsksToShow, AsksToDrain, AsksToGen, AsksToRun, AsksToRebuild, AsksToReplay, AsksToRecoverConservatively, IsFaultless, IsUsage}
-use Rattle.tool_command.specs.CommandLine.{format_app, show_app, drain_app, gen_app, run_app, rebuild_app, replay_app, conservative_app, image_id, capacity_id, class_id, map_id, requests_id, trace_seed_id, workers_id, stop_id, seed_id, sum_id, par_id, option_rule, needed_option_rule, HasNumber, HasNumberOr, HasFlag, HasText, IsTaken}
+use Rattle.tool_command.specs.Command.{Command, format_image, show_image, drain_image, gen_trace, run_image, rebuild_image, replay_image, conservative_image, count_image, Asks, AsksToFormat, AsksToShow, AsksToDrain, AsksToGen, AsksToRun, AsksToRebuild, AsksToReplay, AsksToRecoverConservatively, AsksToCount, IsFaultless, IsUsage}
+use Rattle.tool_command.specs.CommandLine.{format_app, show_app, drain_app, gen_app, run_app, rebuild_app, replay_app, conservative_app, count_app, image_id, capacity_id, class_id, map_id, requests_id, trace_seed_id, workers_id, stop_id, seed_id, sum_id, par_id, option_rule, needed_option_rule, HasNumber, HasNumberOr, HasFlag, HasText, IsTaken}
 use Rattle.tool_command.proofs.FormLemmas.{image_rule, number_at}
 use Rattle.tool_command.proofs.FaultlessLemmas.{AllPass, Passes, AllAlone, IsValued, both_faultless, settle_passes, walk_passes, defaults_pass}
 
@@ -331,6 +331,12 @@ module _ (words : List Text) where
       let image = image_given conservative_app words taken.faultless refl refl refl in
       (image.0, flag_in map_id rows, record { taken = taken; named = image.1; mapped = has_flag_in rows map_id })
 
+  pub count_asked : IsTaken count_app words → (image : Text) × (with_map : Bool) × AsksToCount words image with_map
+  count_asked taken =
+      let rows = matches_of count_app words in
+      let image = image_given count_app words taken.faultless refl refl refl in
+      (image.0, flag_in map_id rows, record { taken = taken; named = image.1; mapped = has_flag_in rows map_id })
+
 -- ---- the first word names the command
 
 pub faultless_asks : (words : List Text) → IsFaultless words → (command : Command) × Asks words command
@@ -343,7 +349,8 @@ faultless_asks words faultless = elim faultless [
   | inr (inr (inr (inr (inl taken)))) ↦ let asked = run_asked words taken in (run_image asked.0 asked.1, asked.2)
   | inr (inr (inr (inr (inr (inl taken))))) ↦ let asked = rebuild_asked words taken in (rebuild_image asked.0 asked.1 asked.2, asked.3)
   | inr (inr (inr (inr (inr (inr (inl taken)))))) ↦ let asked = replay_asked words taken in (replay_image asked.0 asked.1, asked.2)
-  | inr (inr (inr (inr (inr (inr (inr taken)))))) ↦ let asked = conservative_asked words taken in (conservative_image asked.0 asked.1, asked.2)
+  | inr (inr (inr (inr (inr (inr (inr (inl taken))))))) ↦ let asked = conservative_asked words taken in (conservative_image asked.0 asked.1, asked.2)
+  | inr (inr (inr (inr (inr (inr (inr (inr taken))))))) ↦ let asked = count_asked words taken in (count_image asked.0 asked.1, asked.2)
 ]
 
 pub asks_faultless : (words : List Text) (command : Command) → Asks words command → IsFaultless words
@@ -355,7 +362,8 @@ asks_faultless words (gen_trace requests seed) asks = inr (inr (inr (inl asks.ta
 asks_faultless words (run_image image options) asks = inr (inr (inr (inr (inl asks.taken))))
 asks_faultless words (rebuild_image image budget seed) asks = inr (inr (inr (inr (inr (inl asks.taken)))))
 asks_faultless words (replay_image image seed) asks = inr (inr (inr (inr (inr (inr (inl asks.taken))))))
-asks_faultless words (conservative_image image with_map) asks = inr (inr (inr (inr (inr (inr (inr asks.taken))))))
+asks_faultless words (conservative_image image with_map) asks = inr (inr (inr (inr (inr (inr (inr (inl asks.taken)))))))
+asks_faultless words (count_image image with_map) asks = inr (inr (inr (inr (inr (inr (inr (inr asks.taken)))))))
 
 pub usage_faulty : (words : List Text) → IsUsage words → IsFaultless words → ⊥
 usage_faulty words none faultless =

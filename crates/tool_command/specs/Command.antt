@@ -7,7 +7,7 @@ use Rattle.heap_model.specs.Sizes.{IsClass}
 use Rattle.tool_command.specs.declared.trace_plan.TheConstants.{MOST_REQUESTS, GREATEST_SEED}
 use Rattle.image_run.specs.Running.{Options}
 use Rattle.image_run.specs.declared.options.TheConstants.{MOST_WORKERS, MOST_BUDGET}
-use Rattle.tool_command.specs.CommandLine.{format_app, show_app, drain_app, gen_app, run_app, rebuild_app, replay_app, conservative_app, image_id, capacity_id, class_id, map_id, requests_id, trace_seed_id, workers_id, stop_id, seed_id, sum_id, par_id, HasNumberOr, IsTaken, HasText, HasNumber, HasFlag}
+use Rattle.tool_command.specs.CommandLine.{format_app, show_app, drain_app, gen_app, run_app, rebuild_app, replay_app, conservative_app, count_app, image_id, capacity_id, class_id, map_id, requests_id, trace_seed_id, workers_id, stop_id, seed_id, sum_id, par_id, HasNumberOr, IsTaken, HasText, HasNumber, HasFlag}
 
 -- what the tool can be asked for
 pub data Command : Type 0 where
@@ -19,6 +19,7 @@ pub data Command : Type 0 where
   rebuild_image : (image : List ℕ) → (budget seed : ℕ) → Command
   replay_image : (image : List ℕ) → (seed : ℕ) → Command
   conservative_image : (image : List ℕ) → (with_map : Bool) → Command
+  count_image : (image : List ℕ) → (with_map : Bool) → Command
 
 -- the image that a command is about; the empty name where it is about none
 abbrev pub image_name : Command → List ℕ
@@ -30,6 +31,7 @@ image_name (run_image image options) = image
 image_name (rebuild_image image budget seed) = image
 image_name (replay_image image seed) = image
 image_name (conservative_image image with_map) = image
+image_name (count_image image with_map) = image
 
 -- the bytes of each word
 abbrev pub texts : List (String Global) → List (List ℕ)
@@ -101,6 +103,12 @@ pub record AsksToRecoverConservatively (words : List (List ℕ)) (image : List �
   pub named : HasText (matches_of conservative_app words) image_id image
   pub mapped : HasFlag (matches_of conservative_app words) map_id with_map
 
+-- the words 'count IMAGE', with the option '--map' or without
+pub record AsksToCount (words : List (List ℕ)) (image : List ℕ) (with_map : Bool) : Type 0 where
+  pub taken : IsTaken count_app words
+  pub named : HasText (matches_of count_app words) image_id image
+  pub mapped : HasFlag (matches_of count_app words) map_id with_map
+
 -- the words ask for this command
 abbrev pub Asks : List (List ℕ) → Command → Type 0
 Asks words (format_image image capacity) = AsksToFormat words image capacity
@@ -111,6 +119,7 @@ Asks words (run_image image options) = AsksToRun words image options
 Asks words (rebuild_image image budget seed) = AsksToRebuild words image budget seed
 Asks words (replay_image image seed) = AsksToReplay words image seed
 Asks words (conservative_image image with_map) = AsksToRecoverConservatively words image with_map
+Asks words (count_image image with_map) = AsksToCount words image with_map
 
 -- the words ask for no command
 abbrev pub IsUsage : List (List ℕ) → Type 0
@@ -119,4 +128,4 @@ IsUsage words = (command : Command) → ¬ (Asks words command)
 -- the first word names a command, and clap finds no fault in the words behind it
 unfoldable pub IsFaultless : List (List ℕ) → Type 0
 IsFaultless words = IsTaken format_app words ⊎ IsTaken show_app words ⊎ IsTaken drain_app words ⊎ IsTaken gen_app words
-    ⊎ IsTaken run_app words ⊎ IsTaken rebuild_app words ⊎ IsTaken replay_app words ⊎ IsTaken conservative_app words
+    ⊎ IsTaken run_app words ⊎ IsTaken rebuild_app words ⊎ IsTaken replay_app words ⊎ IsTaken conservative_app words ⊎ IsTaken count_app words

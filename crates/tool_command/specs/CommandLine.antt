@@ -104,6 +104,10 @@ replay_app = with_rule (with_rule (new_app (codes "replay")) (word_rule image_id
 abbrev pub conservative_app : App
 conservative_app = with_rule (with_rule (new_app (codes "conservative")) (word_rule image_id)) (flag_rule map_id)
 
+-- 'count IMAGE [--map]'
+abbrev pub count_app : App
+count_app = with_rule (with_rule (new_app (codes "count")) (word_rule image_id)) (flag_rule map_id)
+
 -- the first word names the command, and clap finds no fault in the words behind it
 pub record IsTaken (app : App) (words : List (List ℕ)) : Type 0 where
   pub named : slice_get words 0 ≡ Some app.top.name

@@ -6,8 +6,8 @@ use Rattle.clap.specs.declared.error.kind.ErrorKind.TheVariants.{ValueValidation
 use Rattle.clap.proofs.OnLiterals.{clap_on_literals}
 use Rattle.heap_model.specs.Geometry.{largest_capacity}
 use Rattle.image_run.specs.declared.options.TheConstants.{MOST_BUDGET}
-use Rattle.tool_command.specs.Command.{Asks, format_image, show_image, drain_image, gen_trace, run_image, rebuild_image, replay_image, conservative_image}
-use Rattle.tool_command.specs.CommandLine.{format_app, drain_app, show_app, gen_app, run_app, rebuild_app, conservative_app, IsNumber}
+use Rattle.tool_command.specs.Command.{Asks, format_image, show_image, drain_image, gen_trace, run_image, rebuild_image, replay_image, conservative_image, count_image}
+use Rattle.tool_command.specs.CommandLine.{format_app, drain_app, show_app, gen_app, run_app, rebuild_app, conservative_app, count_app, IsNumber}
 
 -- a leading zero changes nothing
 number_one : IsNumber (codes "01") 1
@@ -147,6 +147,20 @@ conservative_map = record { taken = record { named = refl; faultless = refl }; n
 conservative_in_parallel : fault_of conservative_app (codes "conservative" ∷ codes "h" ∷ codes "--par" ∷ []) ≡ UnknownArgument ∷ []
 unfolding clap_on_literals
 conservative_in_parallel = refl
+
+-- opening by an image's own anchors
+count_plain : Asks (codes "count" ∷ codes "h" ∷ []) (count_image (codes "h") false)
+unfolding clap_on_literals
+count_plain = record { taken = record { named = refl; faultless = refl }; named = refl; mapped = (λ e. cc, λ e. cc) }
+
+count_map : Asks (codes "count" ∷ codes "--map" ∷ codes "h" ∷ []) (count_image (codes "h") true)
+unfolding clap_on_literals
+count_map = record { taken = record { named = refl; faultless = refl }; named = refl; mapped = (λ e. refl, λ e. refl) }
+
+-- it has no threads
+count_in_parallel : fault_of count_app (codes "count" ∷ codes "h" ∷ codes "--par" ∷ []) ≡ UnknownArgument ∷ []
+unfolding clap_on_literals
+count_in_parallel = refl
 
 -- no number of workers
 workers_missing : fault_of run_app (codes "run" ∷ codes "h" ∷ []) ≡ MissingRequiredArgument ∷ []

@@ -4,7 +4,7 @@ use Rattle.std.specs.Fmt.{digits}
 use Rattle.std.proofs.Common.{arith, lit<, lit≤}
 use Rattle.heap_model.specs.Geometry.{largest_capacity}
 use Rattle.image_run.specs.declared.options.TheConstants.{MOST_BUDGET}
-use Rattle.tool_command.specs.Command.{format_image, show_image, drain_image, gen_trace, run_image, rebuild_image, replay_image, conservative_image}
+use Rattle.tool_command.specs.Command.{format_image, show_image, drain_image, gen_trace, run_image, rebuild_image, replay_image, conservative_image, count_image}
 use Rattle.tool_command.specs.Forms.{IsForm, IsImageWord}
 
 named_h : IsImageWord (codes "h")
@@ -99,6 +99,12 @@ conservative_without = record { words_are = refl; named = named_h }
 
 conservative_with : IsForm (codes "conservative" ∷ codes "h" ∷ codes "--map" ∷ []) (conservative_image (codes "h") true)
 conservative_with = record { words_are = refl; named = named_h }
+
+count_without : IsForm (codes "count" ∷ codes "h" ∷ []) (count_image (codes "h") false)
+count_without = record { words_are = refl; named = named_h }
+
+count_with : IsForm (codes "count" ∷ codes "h" ∷ codes "--map" ∷ []) (count_image (codes "h") true)
+count_with = record { words_are = refl; named = named_h }
 
 -- no image's word: an option, and the empty word
 option_word : IsImageWord (codes "--map") → ⊥

@@ -5,7 +5,7 @@ use Rattle.heap_model.specs.Sizes.{IsClass}
 use Rattle.image_run.specs.Running.{Options}
 use Rattle.image_run.specs.declared.options.TheConstants.{MOST_WORKERS, MOST_BUDGET}
 use Rattle.tool_command.specs.declared.trace_plan.TheConstants.{MOST_REQUESTS, GREATEST_SEED}
-use Rattle.tool_command.specs.Command.{Command, format_image, show_image, drain_image, gen_trace, run_image, rebuild_image, replay_image, conservative_image}
+use Rattle.tool_command.specs.Command.{Command, format_image, show_image, drain_image, gen_trace, run_image, rebuild_image, replay_image, conservative_image, count_image}
 
 -- a name that is not empty, and does not begin with a hyphen (45)
 pub record IsImageWord (word : List ℕ) : Type 0 where
@@ -84,6 +84,11 @@ pub record IsConservativeForm (words : List (List ℕ)) (image : List ℕ) (with
   pub words_are : words ≡ codes "conservative" ∷ image ∷ flag_words (codes "--map") with_map
   pub named : IsImageWord image
 
+-- 'count IMAGE [--map]'
+pub record IsCountForm (words : List (List ℕ)) (image : List ℕ) (with_map : Bool) : Type 0 where
+  pub words_are : words ≡ codes "count" ∷ image ∷ flag_words (codes "--map") with_map
+  pub named : IsImageWord image
+
 -- the words are of the form of this command: the parts in the order of the table, numbers in their ranges and without leading zeros
 abbrev pub IsForm : List (List ℕ) → Command → Type 0
 IsForm words (format_image image capacity) = IsFormatForm words image capacity
@@ -94,3 +99,4 @@ IsForm words (run_image image options) = IsRunForm words image options
 IsForm words (rebuild_image image budget seed) = IsRebuildForm words image budget seed
 IsForm words (replay_image image seed) = IsReplayForm words image seed
 IsForm words (conservative_image image with_map) = IsConservativeForm words image with_map
+IsForm words (count_image image with_map) = IsCountForm words image with_map

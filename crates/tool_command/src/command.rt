@@ -2,11 +2,11 @@
 ghost use Rattle.std.specs.Prelude.{◌≡◌, ◌≢◌, ℕ, List, [], Some, codes, slice_get, IfOk, IsErrOf};
 ghost use Rattle.clap.specs.Words.{fault_of};
 ghost use Rattle.tool_command.specs.Command.{Asks, IsFaultless, IsUsage, texts, image_name};
-ghost use Rattle.tool_command.specs.CommandLine.{format_app, show_app, drain_app, gen_app, run_app, rebuild_app, replay_app, conservative_app, IsTaken, IsMatchedBy};
+ghost use Rattle.tool_command.specs.CommandLine.{format_app, show_app, drain_app, gen_app, run_app, rebuild_app, replay_app, conservative_app, count_app, IsTaken, IsMatchedBy};
 ghost use Rattle.tool_command.specs.Invocations.{command_of};
 
 use crate::command_line::{
-    Refusal, conservative_command, drain_command, format_command, gen_command, has_flag,
+    Refusal, conservative_command, count_command, drain_command, format_command, gen_command, has_flag,
     match_words, number_of, number_or, rebuild_command, replay_command, run_command, show_command,
     text_of,
 };
@@ -53,6 +53,10 @@ pub enum Invocation<'a> {
         image: &'a str,
         with_map: bool,
     },
+    Count {
+        image: &'a str,
+        with_map: bool,
+    },
 }
 
 impl<'a> Invocation<'a> {
@@ -77,6 +81,7 @@ impl<'a> Invocation<'a> {
             } => image,
             Invocation::Replay { image, seed: _ } => image,
             Invocation::Conservative { image, with_map: _ } => image,
+            Invocation::Count { image, with_map: _ } => image,
         }
     }
 }
@@ -128,6 +133,9 @@ fn parse_command<'a>(
     }
     if command == "conservative" {
         return parse_conservative(alloc, words);
+    }
+    if command == "count" {
+        return parse_count(alloc, words);
     }
     Err(Refusal::Usage)
 }
@@ -210,6 +218,16 @@ fn parse_conservative<'a>(alloc: Global, words: &'a [String]) -> Result<Invocati
 {
     let matches = match_words(conservative_command(alloc), words)?;
     Ok(read_conservative(&matches))
+}
+
+fn parse_count<'a>(alloc: Global, words: &'a [String]) -> Result<Invocation<'a>, Refusal>
+    requires { slice_get (texts words.now) 0 ≡ Some (codes "count") }
+    ensures ok { IfOk result (λ invocation. Asks (texts words.entry.now) (command_of invocation)) }
+    ensures err { IsErrOf result Refusal.Usage
+        → fault_of count_app (texts words.entry.now) ≢ [] }
+{
+    let matches = match_words(count_command(alloc), words)?;
+    Ok(read_count(&matches))
 }
 
 // What the matches ask for, of words that clap took as those of the command: each argument that has
@@ -316,4 +334,15 @@ fn read_conservative<'a>(matches: &ArgMatches<'a>) -> Invocation<'a>
     let image = text_of(matches, "IMAGE");
     let with_map = has_flag(matches, "map");
     Invocation::Conservative { image, with_map }
+}
+
+fn read_count<'a>(matches: &ArgMatches<'a>) -> Invocation<'a>
+    requires { (words : List (List ℕ)) × IsTaken count_app words
+        × IsMatchedBy count_app words matches.now }
+    ensures { (words : List (List ℕ)) → IsTaken count_app words
+        → IsMatchedBy count_app words matches.now → Asks words (command_of result) }
+{
+    let image = text_of(matches, "IMAGE");
+    let with_map = has_flag(matches, "map");
+    Invocation::Count { image, with_map }
 }

@@ -3,7 +3,7 @@ ghost use Rattle.std.specs.Prelude.{◌≡◌, ◌≢◌, ◌<◌, ◌^◌, ℕ,
 ghost use Rattle.clap.specs.Words.{app_of, kind_of, is_simple, is_simple_and_free, fault_of, rows_of, found_of, with_rule};
 ghost use Rattle.clap.specs.declared.error.kind.ErrorKind.TheVariants.{OutOfMemory};
 ghost use Rattle.tool_command.specs.Command.{texts};
-ghost use Rattle.tool_command.specs.CommandLine.{format_app, show_app, drain_app, gen_app, with_limits, run_app, rebuild_app, replay_app, conservative_app, word_rule, number_rule, option_rule, needed_option_rule, flag_rule, IsMatchedBy, HasText, HasNumber, HasNumberOr, HasFlag};
+ghost use Rattle.tool_command.specs.CommandLine.{format_app, show_app, drain_app, gen_app, with_limits, run_app, rebuild_app, replay_app, conservative_app, count_app, word_rule, number_rule, option_rule, needed_option_rule, flag_rule, IsMatchedBy, HasText, HasNumber, HasNumberOr, HasFlag};
 ghost use Rattle.tool_command.specs.declared.command_line.Refusal.TheVariants.{Usage, Memory};
 
 use crate::trace_plan::{GREATEST_SEED, MOST_REQUESTS};
@@ -111,6 +111,14 @@ pub fn conservative_command<'a>(alloc: Global) -> Result<Command<'a>, AllocError
     ensures { IfOk result (λ command. app_of command ≡ conservative_app) }
 {
     let command = with_word(alloc, Ok(Command::new(alloc, "conservative")), "IMAGE");
+    with_flag(alloc, command, "map")
+}
+
+/// `count IMAGE [--map]`.
+pub fn count_command<'a>(alloc: Global) -> Result<Command<'a>, AllocError>
+    ensures { IfOk result (λ command. app_of command ≡ count_app) }
+{
+    let command = with_word(alloc, Ok(Command::new(alloc, "count")), "IMAGE");
     with_flag(alloc, command, "map")
 }
 

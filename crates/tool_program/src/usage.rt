@@ -10,6 +10,9 @@ usage: heap_tool COMMAND
   conservative IMAGE [--map]
                        recover the heap with no filter: every word that names a block keeps
                        it; print the report without keys; the image stays as it is
+  count IMAGE [--map]  open the heap by its own anchors where it was closed and they tell what
+                       it holds, else recover it; print quick or traced, and the report
+                       without keys; the image stays as it is
   run IMAGE --workers N [--stop K] [--seed X] [--sum] [--map]
                        work off the requests on standard input, put the heap that is left,
                        and print the replies and a report; N is 1 to 8

@@ -1,7 +1,7 @@
 -- What a command that gets an image comes to, where the store tells that there is no such image.
 use Rattle.std.proofs.Common.{◌≡◌, ◌⊎◌, ℕ, List, Option, Some, None, inl, inr, subst}
 use Rattle.tool_ports.specs.Contents.{Contents, Holds, told_of}
-use Rattle.tool_command.specs.Command.{Command, format_image, show_image, drain_image, gen_trace, run_image, rebuild_image, replay_image, conservative_image, image_name, Asks}
+use Rattle.tool_command.specs.Command.{Command, format_image, show_image, drain_image, gen_trace, run_image, rebuild_image, replay_image, conservative_image, count_image, image_name, Asks}
 use Rattle.tool_run.specs.declared.fault.Fault.{Fault}
 use Rattle.tool_run.specs.declared.fault.Fault.TheVariants.{Memory, ReadFault, Absent, Malformed, Outside, BadShard}
 use Rattle.tool_command.proofs.OneCommandLemmas.{one_command}
@@ -27,6 +27,7 @@ not_made (drain_image n class) contents name left image text gets named none mad
 not_made (rebuild_image n budget seed) contents name left image text gets named none made = not_there contents n name made.bytes named none made.is_there
 not_made (replay_image n seed) contents name left image text gets named none made = not_there contents n name made.1.heap.image.bytes named none made.1.heap.image.is_there
 not_made (conservative_image n with_map) contents name left image text gets named none made = not_there contents n name made.1.bytes named none made.1.is_there
+not_made (count_image n with_map) contents name left image text gets named none made = not_there contents n name made.1.bytes named none made.1.is_there
 not_made (run_image n options) contents name left image text gets named none made = not_there contents n name made.mapped.bytes named none made.mapped.is_there
 
 -- want of memory, a failed get, or that
@@ -39,7 +40,7 @@ refused command contents name get_failed status Absent named none is why = inl i
 refused command contents name get_failed status (Malformed cause) named none is why =
     absurd (not_there contents (image_name command) name why.1.bytes named none why.1.held)
 refused command contents name get_failed status (Outside at value) named none is why =
-    absurd (not_there contents (image_name command) name why.1.bytes named none why.1.is_there)
+    absurd (not_there contents (image_name command) name why.0.bytes named none why.0.is_there)
 refused command contents name get_failed status (BadShard shard at) named none is why =
     absurd (not_there contents (image_name command) name why.1.bytes named none why.1.is_there)
 refused command contents name get_failed status other named none is why = absurd why

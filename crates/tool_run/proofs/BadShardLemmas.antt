@@ -4,7 +4,7 @@ use Rattle.tool_ports.specs.Contents.{Contents}
 use Rattle.tool_run.specs.Making.{image_in}
 use Rattle.dict_model.specs.Shards.{BadShard as IsBadShard}
 use Rattle.dict_model.proofs.ShardLemmas.{no_bad_shard}
-use Rattle.tool_command.specs.Command.{Command, format_image, show_image, drain_image, gen_trace, run_image, rebuild_image, replay_image, conservative_image, image_name, Asks}
+use Rattle.tool_command.specs.Command.{Command, format_image, show_image, drain_image, gen_trace, run_image, rebuild_image, replay_image, conservative_image, count_image, image_name, Asks}
 use Rattle.tool_run.specs.declared.fault.Fault.{Fault}
 use Rattle.tool_run.specs.declared.fault.Fault.TheVariants.{Usage, Memory, ReadFault, WriteFault, Absent, Malformed, Outside, BadShard, BadLine, BadStep, TooLong}
 use Rattle.tool_command.proofs.OneCommandLemmas.{one_command}
@@ -37,6 +37,7 @@ not_made (gen_trace requests seed) contents name shard at left image text reads 
 not_made (rebuild_image n budget seed) contents name shard at left image text reads named has made = reads
 not_made (replay_image n seed) contents name shard at left image text reads named has made = reads
 not_made (conservative_image n with_map) contents name shard at left image text reads named has made = reads
+not_made (count_image n with_map) contents name shard at left image text reads named has made = reads
 not_made (run_image n options) contents name shard at left image text reads named has made = mapped_shard contents n name shard at named made.mapped has
 
 -- want of memory, a failed get, or that
@@ -57,8 +58,8 @@ refused command contents name shard at get_failed status (Malformed cause) reads
     let good : fault_of has.bytes ≡ None = has.good in
     absurd (cc)
 refused command contents name shard at get_failed status (Outside place value) reads named has is why =
-    let same : why.1.bytes ≡ has.bytes = same_bytes contents (image_name command) name why.1.bytes has.bytes named why.1.is_there has.held in
-    absurd (has.inside place (subst (λ (l : List ℕ). PointsOutside (image_in l) place) same why.1.points))
+    let same : why.0.bytes ≡ has.bytes = same_bytes contents (image_name command) name why.0.bytes has.bytes named why.0.is_there has.held in
+    absurd (has.inside place (subst (λ (l : List ℕ). PointsOutside (image_in l) place) same why.0.points))
 refused command contents name shard at get_failed status (BadShard other place) reads named has is why = inl is
 refused command contents name shard at get_failed status (BadLine line) reads named has is why = absurd why
 refused command contents name shard at get_failed status (BadStep line) reads named has is why = absurd why
@@ -86,6 +87,7 @@ no_maps (gen_trace requests seed) reads replays = reads
 no_maps (rebuild_image n budget seed) reads replays = reads
 no_maps (replay_image n seed) reads replays = reads
 no_maps (conservative_image n with_map) reads replays = reads
+no_maps (count_image n with_map) reads replays = reads
 
 -- why a command stopped
 pub stops_bad : (words : List (List ℕ)) (command : Command) (old new : Contents) (left : Option (List ℕ)) (store_failed source_failed sink_failed : Type 0) (taken taken' : Option (List ℕ)) (status : ℕ) (fault : Fault)

@@ -5,7 +5,7 @@ use Rattle.tool_ports.specs.Contents.{Contents}
 use Rattle.tool_ports.specs.Calls.{with_get, with_put}
 use Rattle.tool_ports.specs.declared.store_calls.StoreCalls.{StoreCalls}
 use Rattle.tool_run.specs.Calls.{get_limit, with_making, with_putting, with_command, with_status}
-use Rattle.tool_command.specs.Command.{Command, format_image, show_image, drain_image, gen_trace, run_image, rebuild_image, replay_image, conservative_image, image_name}
+use Rattle.tool_command.specs.Command.{Command, format_image, show_image, drain_image, gen_trace, run_image, rebuild_image, replay_image, conservative_image, count_image, image_name}
 use Rattle.tool_run.specs.declared.fault.Fault.{Fault}
 use Rattle.tool_run.specs.declared.fault.Fault.TheVariants.{Usage, Memory, ReadFault, WriteFault, Absent, Malformed, Outside, BadShard, BadLine, BadStep, TooLong}
 use Rattle.tool_run.specs.Inside.{DeliveryFails, IsStopped, Refuses, RefusesEither, status_of}
@@ -106,6 +106,7 @@ putting_made (run_image image options) contents left put text before made = ap (
 putting_made (rebuild_image image budget seed) contents left put text before made = ap (λ p. with_putting p (with_get get_limit before)) made.put_is
 putting_made (replay_image image seed) contents left put text before made = ap (λ p. with_putting p (with_get get_limit before)) made.0
 putting_made (conservative_image image with_map) contents left put text before made = ap (λ p. with_putting p (with_get get_limit before)) made.0
+putting_made (count_image image with_map) contents left put text before made = ap (λ p. with_putting p (with_get get_limit before)) made.0
 
 -- a command that puts an image back gets once, and puts once where it is carried out
 pub put_back : (command : Command) (before : StoreCalls) → PutsBack command
@@ -118,6 +119,7 @@ put_back (run_image image options) before puts = (refl, refl)
 put_back (rebuild_image image budget seed) before puts = (refl, refl)
 put_back (replay_image image seed) before puts = absurd puts
 put_back (conservative_image image with_map) before puts = absurd puts
+put_back (count_image image with_map) before puts = absurd puts
 
 module _ (command : Command) (contents : Contents) (left image : Option (List ℕ)) (text : List ℕ) (before mid after : StoreCalls) (made : Makes command contents left image text)
     (first : mid ≡ with_making command before) where

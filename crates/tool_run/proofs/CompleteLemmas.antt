@@ -4,12 +4,12 @@ use Rattle.tool_ports.specs.Contents.{Contents}
 use Rattle.tool_run.specs.Making.{image_in}
 use Rattle.dict_model.specs.Shards.{BadShard as IsBadShard}
 use Rattle.dict_model.proofs.ShardLemmas.{no_bad_shard}
-use Rattle.tool_command.specs.Command.{Command, format_image, show_image, drain_image, gen_trace, run_image, rebuild_image, replay_image, conservative_image, image_name, Asks}
+use Rattle.tool_command.specs.Command.{Command, format_image, show_image, drain_image, gen_trace, run_image, rebuild_image, replay_image, conservative_image, count_image, image_name, Asks}
 use Rattle.tool_run.specs.declared.fault.Fault.{Fault}
 use Rattle.tool_run.specs.declared.fault.Fault.TheVariants.{Usage, Memory, ReadFault, WriteFault, Absent, Malformed, Outside, BadShard, BadLine, BadStep, TooLong}
 use Rattle.tool_command.proofs.OneCommandLemmas.{one_command}
 use Rattle.tool_run.specs.Inside.{Refuses, IsTraceFault, IsReplayFault, DeliveryFails, IsStopped, status_of}
-use Rattle.tool_run.specs.Making.{GetsImage, FollowsLinks, kinds_checked, Reads, RunsATrace, ReplaysASchedule, ReadsSource, PointsOutside, HasBadStep, HasTooMuch, fault_within, longest_trace}
+use Rattle.tool_run.specs.Making.{GetsImage, FollowsLinks, RefusesOutside, IsOrderlyIn, HasOutside, kinds_checked, Reads, RunsATrace, ReplaysASchedule, ReadsSource, PointsOutside, HasBadStep, HasTooMuch, fault_within, longest_trace}
 use Rattle.tool_run.specs.Outcome.{HoldsFormed, HoldsGood, HoldsMaps, HoldsTrace, HoldsSchedule, HoldsReplay, CanBeDone, IsCutOff, while_putting, while_printing}
 use Rattle.tool_run.specs.Status.{done, out_of_memory}
 use Rattle.trace_text.specs.Trace.{lines_of, AreLines}
@@ -29,6 +29,7 @@ formed_of (rebuild_image image budget seed) contents left gets can = record { by
 formed_of (replay_image image seed) contents left gets can = record { bytes = can.image.bytes; held = can.image.held; good = can.image.good }
 formed_of (run_image image options) contents left gets can = record { bytes = can.0.bytes; held = can.0.held; good = can.0.good }
 formed_of (conservative_image image with_map) contents left gets can = can
+formed_of (count_image image with_map) contents left gets can = record { bytes = can.bytes; held = can.held; good = can.good }
 
 good_of : (command : Command) (contents : Contents) (left : Option (List ℕ)) → FollowsLinks command → CanBeDone command contents left → HoldsGood contents (image_name command)
 good_of (format_image image capacity) contents left follows can = absurd follows
@@ -39,6 +40,21 @@ good_of (rebuild_image image budget seed) contents left follows can = can
 good_of (replay_image image seed) contents left follows can = can.image
 good_of (run_image image options) contents left follows can = record { bytes = can.0.bytes; held = can.0.held; good = can.0.good; inside = can.0.inside }
 good_of (conservative_image image with_map) contents left follows can = absurd follows
+good_of (count_image image with_map) contents left follows can = absurd follows
+
+-- no word of it that points outside refuses the command
+none_outside : (command : Command) (contents : Contents) (left : Option (List ℕ)) (at value : ℕ) → CanBeDone command contents left
+    → (has : HasOutside contents (image_name command) at value) → RefusesOutside command has.bytes → ⊥
+none_outside (count_image image with_map) contents left at value can has refuses =
+    let same : has.bytes ≡ can.bytes = same_bytes contents image image has.bytes can.bytes (λ i. image) has.is_there can.held in
+    elim can.opens as (λ _. ⊥) [
+      | inl orderly ↦ refuses (subst IsOrderlyIn (sym same) orderly)
+      | inr inside ↦ inside at (subst (λ (l : List ℕ). PointsOutside (image_in l) at) same has.points)
+    ]
+none_outside command contents left at value can has refuses =
+    let good = good_of command contents left refuses can in
+    let same : has.bytes ≡ good.bytes = same_bytes contents (image_name command) (image_name command) has.bytes good.bytes (λ i. image_name command) has.is_there good.held in
+    good.inside at (subst (λ (l : List ℕ). PointsOutside (image_in l) at) same has.points)
 
 maps_of : (command : Command) (contents : Contents) (left : Option (List ℕ)) → Reads command → CanBeDone command contents left → HoldsMaps contents (image_name command)
 maps_of (format_image image capacity) contents left reads can = absurd reads
@@ -49,6 +65,7 @@ maps_of (run_image image options) contents left reads can = can.0
 maps_of (rebuild_image image budget seed) contents left reads can = absurd reads
 maps_of (replay_image image seed) contents left reads can = absurd reads
 maps_of (conservative_image image with_map) contents left reads can = absurd reads
+maps_of (count_image image with_map) contents left reads can = absurd reads
 
 trace_of : (command : Command) (contents : Contents) (left : Option (List ℕ)) → RunsATrace command → CanBeDone command contents left → HoldsTrace left
 trace_of (format_image image capacity) contents left runs can = absurd runs
@@ -59,6 +76,7 @@ trace_of (run_image image options) contents left runs can = can.1
 trace_of (rebuild_image image budget seed) contents left runs can = absurd runs
 trace_of (replay_image image seed) contents left runs can = absurd runs
 trace_of (conservative_image image with_map) contents left runs can = absurd runs
+trace_of (count_image image with_map) contents left runs can = absurd runs
 
 replay_of : (command : Command) (contents : Contents) (left : Option (List ℕ)) → ReplaysASchedule command → CanBeDone command contents left → HoldsReplay contents (image_name command) left
 replay_of (format_image image capacity) contents left replays can = absurd replays
@@ -69,6 +87,7 @@ replay_of (run_image image options) contents left replays can = absurd replays
 replay_of (rebuild_image image budget seed) contents left replays can = absurd replays
 replay_of (replay_image image seed) contents left replays can = can
 replay_of (conservative_image image with_map) contents left replays can = absurd replays
+replay_of (count_image image with_map) contents left replays can = absurd replays
 
 -- the trace is not refused
 trace_good : (left : Option (List ℕ)) (read_failed : Type 0) (status : ℕ) (fault : Fault) → HoldsTrace left → (read_failed → ⊥) → status ≡ status_of fault → IsTraceFault left read_failed fault
@@ -133,10 +152,7 @@ module _ (command : Command) (contents : Contents) (left : Option (List ℕ)) (g
       let bad : fault_within (kinds_checked command) has.bytes ≡ Some cause = subst (λ (l : List ℕ). fault_within (kinds_checked command) l ≡ Some cause) same why.1.fault in
       let good : fault_within (kinds_checked command) has.bytes ≡ None = has.good in
       absurd (cc)
-  refused (Outside at value) is why =
-      let has = good_of command contents left why.0 can in
-      let same : why.1.bytes ≡ has.bytes = same_bytes contents (image_name command) (image_name command) why.1.bytes has.bytes (λ i. image_name command) why.1.is_there has.held in
-      absurd (has.inside at (subst (λ (l : List ℕ). PointsOutside (image_in l) at) same why.1.points))
+  refused (Outside at value) is why = absurd (none_outside command contents left at value can why.0 why.1)
   refused (BadShard shard at) is why =
       let has = maps_of command contents left why.0 can in
       let same : why.1.bytes ≡ has.bytes = same_bytes contents (image_name command) (image_name command) why.1.bytes has.bytes (λ i. image_name command) why.1.is_there has.held in

@@ -22,6 +22,7 @@ use Rattle.tool_run.specs.declared.fault.Fault.TheVariants.{Malformed}
 use Rattle.tool_run.specs.Calls.{get_limit}
 use Rattle.tool_command.specs.Command.{Command, image_name}
 use Rattle.tool_run.specs.Inside.{Refuses, fault_of_recovery, fault_of_get}
+use Rattle.tool_run.proofs.FilterLemmas.{follows_refuses}
 use Rattle.tool_run.specs.Making.{GetsImage, FollowsLinks, kinds_checked, fault_of, fault_within, image_in, Shows, IsMalformed, HasOutside, PointsOutside}
 use Rattle.tool_run.specs.Recovering.{IsGoodImage, HoldsImage, IsRecoveredHeapOf, IsRecoveredFrom, IsRecoveredHeap, IsRecoveryFault, IsTextOf, words_in_bytes}
 use Rattle.std.specs.BTreeMap.{BTreeMap}
@@ -139,7 +140,7 @@ is_refused contents name got shown get_failed (OutsideFound at value) fault is w
     let here : PointsOutside (image_in got) at = subst (λ (l : List ℕ). PointsOutside (image_in l) at) are why.0 in
     let there : value ≡ image_in got at = why.1 ∙ ap (λ (l : List ℕ). image_in l at) are in
     let has : HasOutside contents name at value = record { bytes = got; is_there = whole.is_there; good = whole.good; points = here; value_is = there } in
-    subst (λ (f : Fault). Refuses command contents get_failed f) (sym is) (follows, subst (λ (n : List ℕ). HasOutside contents n at value) (sym named) has)
+    subst (λ (f : Fault). Refuses command contents get_failed f) (sym is) (subst (λ (n : List ℕ). HasOutside contents n at value) (sym named) has, follows_refuses command _ follows)
 
 -- the same of a failed get
 pub is_not_got : (contents : Contents) (name : List ℕ) (get_failed : Type 0) (cause : GetFault) (fault : Fault)

@@ -4,6 +4,7 @@ pub mod DeliveryLemmas
 pub mod ImageLemmas
 pub mod RecoveryLemmas
 pub mod ConservativeLemmas
+pub mod CountLemmas
 pub mod OffsetLemmas
 pub mod DrainLemmas
 pub mod OpenedLemmas

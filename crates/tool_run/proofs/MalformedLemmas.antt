@@ -2,16 +2,16 @@
 use Rattle.std.proofs.Common.{◌≡◌, ◌⊎◌, ℕ, List, Option, Some, None, inl, inr, subst}
 use Rattle.tool_ports.specs.Contents.{Contents}
 use Rattle.heap_model.specs.declared.header.BadHeader.{BadHeader}
-use Rattle.tool_command.specs.Command.{Command, format_image, show_image, drain_image, gen_trace, run_image, rebuild_image, replay_image, conservative_image, image_name, Asks}
+use Rattle.tool_command.specs.Command.{Command, format_image, show_image, drain_image, gen_trace, run_image, rebuild_image, replay_image, conservative_image, count_image, image_name, Asks}
 use Rattle.tool_run.specs.declared.fault.Fault.{Fault}
 use Rattle.tool_run.specs.declared.fault.Fault.TheVariants.{Usage, Memory, ReadFault, WriteFault, Absent, Malformed, Outside, BadShard, BadLine, BadStep, TooLong}
 use Rattle.tool_command.proofs.OneCommandLemmas.{one_command}
 use Rattle.tool_run.specs.Inside.{Refuses, IsCarriedOut, IsStopped, status_of}
 use Rattle.dict_model.specs.Links.{kind_count}
-use Rattle.tool_run.specs.Making.{Makes, GetsImage, FollowsLinks, HasMapped, HasGood, kinds_checked, fault_within}
+use Rattle.tool_run.specs.Making.{Makes, GetsImage, HasMapped, HasGood, kinds_checked, fault_within}
 use Rattle.tool_run.specs.Outcome.{AsksToGet, HoldsMalformed}
 use Rattle.tool_run.specs.Status.{out_of_memory, read_fault, bad_header}
-use Rattle.tool_run.proofs.FilterLemmas.{follows_checks, reads_follows, runs_follows, replays_follows}
+use Rattle.tool_run.proofs.FilterLemmas.{follows_checks, refuses_checks, reads_follows, runs_follows, replays_follows}
 use Rattle.tool_run.proofs.OutsideLemmas.{of_told, same_bytes}
 
 -- bytes with a good header and a malformed one
@@ -20,9 +20,9 @@ both_headers limit bytes other cause same good bad =
     let none : fault_within limit other ≡ None = subst (λ (l : List ℕ). fault_within limit l ≡ None) same good in
     absurd (cc)
 
--- what a command that follows links takes for malformed is so with the filter's kinds
-by_kinds : (command : Command) (contents : Contents) (name : List ℕ) → FollowsLinks command → HoldsMalformed (kinds_checked command) contents name → HoldsMalformed (Some kind_count) contents name
-by_kinds command contents name follows has = subst (λ limit. HoldsMalformed limit contents name) (follows_checks command follows) has
+-- what a command that checks the filter's kinds takes for malformed is so with these
+by_kinds : (command : Command) (contents : Contents) (name : List ℕ) → kinds_checked command ≡ Some kind_count → HoldsMalformed (kinds_checked command) contents name → HoldsMalformed (Some kind_count) contents name
+by_kinds command contents name checks has = subst (λ limit. HoldsMalformed limit contents name) checks has
 
 -- an image that can be run has a good header
 mapped_good : (contents : Contents) (n name : List ℕ) → n ≡ name → HasMapped contents n → HoldsMalformed (Some kind_count) contents name → ⊥
@@ -47,6 +47,8 @@ not_made (show_image n with_map in_parallel) contents name left image text gets 
     both_headers (Some kind_count) made.1.bytes has.bytes has.cause (same_bytes contents n name made.1.bytes has.bytes named made.1.is_there has.held) made.1.good has.fault
 not_made (conservative_image n with_map) contents name left image text gets named has made =
     both_headers None made.1.bytes has.bytes has.cause (same_bytes contents n name made.1.bytes has.bytes named made.1.is_there has.held) made.1.good has.fault
+not_made (count_image n with_map) contents name left image text gets named has made =
+    both_headers (Some kind_count) made.1.bytes has.bytes has.cause (same_bytes contents n name made.1.bytes has.bytes named made.1.is_there has.held) made.1.good has.fault
 not_made (drain_image n class) contents name left image text gets named has made =
     both_headers (Some kind_count) made.1.bytes has.bytes has.cause (same_bytes contents n name made.1.bytes has.bytes named made.1.is_there has.held) made.1.good has.fault
 
@@ -66,11 +68,11 @@ refused command contents name get_failed status (BadLine line) named has is why 
 refused command contents name get_failed status (BadStep line) named has is why = absurd why
 refused command contents name get_failed status TooLong named has is why = absurd why
 refused command contents name get_failed status (BadShard shard place) named has is why =
-    let here = by_kinds command contents name (reads_follows command why.0) has in
+    let here = by_kinds command contents name (follows_checks command (reads_follows command why.0)) has in
     both_headers (Some kind_count) why.1.bytes here.bytes here.cause (same_bytes contents (image_name command) name why.1.bytes here.bytes named why.1.is_there here.held) why.1.good here.fault
 refused command contents name get_failed status (Outside place value) named has is why =
-    let here = by_kinds command contents name why.0 has in
-    both_headers (Some kind_count) why.1.bytes here.bytes here.cause (same_bytes contents (image_name command) name why.1.bytes here.bytes named why.1.is_there here.held) why.1.good here.fault
+    let here = by_kinds command contents name (refuses_checks command why.0.bytes why.1) has in
+    both_headers (Some kind_count) why.0.bytes here.bytes here.cause (same_bytes contents (image_name command) name why.0.bytes here.bytes named why.0.is_there here.held) why.0.good here.fault
 
 -- why a command stopped
 pub stops_malformed : (words : List (List ℕ)) (command : Command) (old new : Contents) (left : Option (List ℕ)) (store_failed source_failed sink_failed : Type 0) (taken taken' : Option (List ℕ)) (status : ℕ) (fault : Fault)
@@ -83,8 +85,8 @@ stops_malformed words command old new left store_failed source_failed sink_faile
     let here : HoldsMalformed (kinds_checked command) old name = subst (λ (c : Command). HoldsMalformed (kinds_checked c) old name) same has in
     elim stopped.cause as (λ _. (status ≡ bad_header) ⊎ (status ≡ out_of_memory) ⊎ (status ≡ read_fault)) [
       | inl (inl why, untouched) ↦ refused command old name store_failed status fault named here is why
-      | inl (inr (inl trace), untouched) ↦ absurd (mapped_good old (image_name command) name named trace.mapped (by_kinds command old name (runs_follows command trace.runs) here))
-      | inl (inr (inr replay), untouched) ↦ absurd (recoverable_good old (image_name command) name named replay.image (by_kinds command old name (replays_follows command replay.replays) here))
+      | inl (inr (inl trace), untouched) ↦ absurd (mapped_good old (image_name command) name named trace.mapped (by_kinds command old name (follows_checks command (runs_follows command trace.runs)) here))
+      | inl (inr (inr replay), untouched) ↦ absurd (recoverable_good old (image_name command) name named replay.image (by_kinds command old name (follows_checks command (replays_follows command replay.replays)) here))
       | inr (image, text, made, why) ↦ absurd (not_made command old name left image text (subst GetsImage same asks.gets) named here made)
     ]
 

@@ -5,7 +5,7 @@ use Rattle.std.proofs.lemmas.Bool.{ne_eqb}
 use Rattle.tool_ports.specs.Calls.{with_get, with_put}
 use Rattle.tool_ports.specs.declared.store_calls.StoreCalls.{StoreCalls}
 use Rattle.tool_run.specs.Calls.{get_limit, with_making, with_command, with_status}
-use Rattle.tool_command.specs.Command.{Command, format_image, show_image, drain_image, gen_trace, run_image, rebuild_image, replay_image, conservative_image, Asks}
+use Rattle.tool_command.specs.Command.{Command, format_image, show_image, drain_image, gen_trace, run_image, rebuild_image, replay_image, conservative_image, count_image, Asks}
 use Rattle.tool_run.specs.declared.fault.Fault.{Fault}
 use Rattle.tool_run.specs.declared.fault.Fault.TheVariants.{Memory}
 use Rattle.tool_command.proofs.OneCommandLemmas.{one_command}
@@ -41,6 +41,7 @@ look_once (run_image image options) before gets none = absurd (none tt)
 look_once (rebuild_image image budget seed) before gets none = absurd (none tt)
 look_once (replay_image image seed) before gets none = (refl, refl)
 look_once (conservative_image image with_map) before gets none = (refl, refl)
+look_once (count_image image with_map) before gets none = (refl, refl)
 
 either : {A : Type 0} (b : Bool) (x y z : A) → x ≡ z → y ≡ z → (if b then x else y) ≡ z
 either true x y z first second = first

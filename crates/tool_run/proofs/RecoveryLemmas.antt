@@ -54,7 +54,7 @@ module _ (words kinds bytes : List ℕ) (count : length kinds ≡ roots) (kinds_
   good_words good = good_in_words (Some kind_count) words bytes of good
 
   -- why the bytes are not recovered
-  pub recovery_fault : (result : Result Recovered RecoverFault) → HasGoodHeader (Some kind_count) (length bytes) (image_of_bytes bytes)
+  pub recovery_fault : {T : Type 0} (result : Result T RecoverFault) → HasGoodHeader (Some kind_count) (length bytes) (image_of_bytes bytes)
       → IfErr result (TellsFault (Some kind_count) words (current_words words kinds) dict_links) → IfErr result (IsRecoveryFault (image_in bytes))
   recovery_fault (Ok answer) good why = tt
   recovery_fault (Err Memory) good why = tt

@@ -3,7 +3,7 @@ use Rattle.std.proofs.Common.{◌≡◌, ◌⊎◌, ℕ, zero, suc, ◌<◌, ◌
 use Rattle.tool_ports.specs.Causes.{Rose}
 use Rattle.tool_ports.specs.Contents.{Contents}
 use Rattle.tool_ports.specs.Taken.{TakesPart}
-use Rattle.tool_command.specs.Command.{Command, format_image, show_image, drain_image, gen_trace, run_image, rebuild_image, replay_image, conservative_image, image_name, Asks}
+use Rattle.tool_command.specs.Command.{Command, format_image, show_image, drain_image, gen_trace, run_image, rebuild_image, replay_image, conservative_image, count_image, image_name, Asks}
 use Rattle.tool_run.specs.declared.fault.Fault.{Fault}
 use Rattle.tool_run.specs.declared.fault.Fault.TheVariants.{Usage, Memory, ReadFault, WriteFault, Absent, Malformed, Outside, BadShard, BadLine, BadStep, TooLong}
 use Rattle.tool_run.specs.Inside.{IsStopped, IsBeforeReading, status_of, line_of}
@@ -12,6 +12,7 @@ use Rattle.tool_run.specs.Making.{RunsATrace, ReplaysASchedule, ReadsSource}
 use Rattle.tool_run.specs.Outcome.{AsksForRun, AsksForReplay, AsksForSource, IsReadFault, at_image, at_trace, at_schedule, IsWriteFault, IsAbsent, IsBadHeader, IsOutsideAt, in_image, in_image_left, IsBadShardAt, IsBadTrace, at_line, too_long, at_step, schedule_too_long}
 use Rattle.tool_run.specs.Status.{statuses, own_line, IsBeforeTrace, usage, read_fault, write_fault, no_image, bad_header, outside, bad_shard, bad_trace}
 use Rattle.tool_run.proofs.CallLemmas.{rose_since}
+use Rattle.tool_run.proofs.FilterLemmas.{refuses_gets}
 
 -- a fault has a status
 pub has_status : (fault : Fault) (status : ℕ) → status ≡ status_of fault → Contains statuses status
@@ -42,6 +43,7 @@ for_run words (gen_trace requests seed) runs asked = absurd runs
 for_run words (rebuild_image image budget seed) runs asked = absurd runs
 for_run words (replay_image image seed) runs asked = absurd runs
 for_run words (conservative_image image with_map) runs asked = absurd runs
+for_run words (count_image image with_map) runs asked = absurd runs
 for_run words (run_image image options) runs asked = record { options = options; asked = asked }
 
 -- and those for one that replays a schedule ask for a replay
@@ -53,6 +55,7 @@ for_replay words (gen_trace requests seed) replays asked = absurd replays
 for_replay words (run_image image options) replays asked = absurd replays
 for_replay words (rebuild_image image budget seed) replays asked = absurd replays
 for_replay words (conservative_image image with_map) replays asked = absurd replays
+for_replay words (count_image image with_map) replays asked = absurd replays
 for_replay words (replay_image image seed) replays asked = record { seed = seed; asked = asked }
 
 -- those for one that reads the source
@@ -118,7 +121,7 @@ module _ (words : List (List ℕ)) (command : Command) (old new : Contents) (lef
       → Tells (line_of fault name) second third mid final
       → status ≡ outside → IsOutsideAt words old left (λ line. Tells line first third taken final)
   is_outside (Outside at value) name stopped is told eight = elim stopped.cause [
-    | inl (inl why, same) ↦ in_image (image_name command) at value (record { command = command; asked = asked; follows = why.0; is_named = refl }) why.1
+    | inl (inl why, same) ↦ in_image (image_name command) at value (record { command = command; asked = asked; gets = refuses_gets command why.0.bytes why.1; is_named = refl }) why.0 why.1
         (tells_since (line_of (Outside at value) name) first second third taken mid final low same.sink told)
     | inl (inr (inl trace), same) ↦ absurd trace.why
     | inl (inr (inr replay), same) ↦ in_image_left (image_name command) at value (for_replay words command replay.replays asked) replay.why

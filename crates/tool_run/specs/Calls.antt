@@ -3,7 +3,7 @@ use Rattle.std.specs.Prelude.{ℕ, ◌+◌, ◌*◌, List, Option, Some, None, n
 use Rattle.heap_model.specs.Geometry.{image_words, largest_capacity}
 use Rattle.tool_ports.specs.Calls.{with_get, with_put}
 use Rattle.tool_ports.specs.declared.store_calls.StoreCalls.{StoreCalls}
-use Rattle.tool_command.specs.Command.{Command, format_image, show_image, drain_image, gen_trace, run_image, rebuild_image, replay_image, conservative_image}
+use Rattle.tool_command.specs.Command.{Command, format_image, show_image, drain_image, gen_trace, run_image, rebuild_image, replay_image, conservative_image, count_image}
 use Rattle.tool_run.specs.Status.{write_fault}
 
 -- the bytes of the longest image
@@ -24,6 +24,7 @@ with_making (run_image image options) before = with_get get_limit before
 with_making (rebuild_image image budget seed) before = with_get get_limit before
 with_making (replay_image image seed) before = with_get get_limit before
 with_making (conservative_image image with_map) before = with_get get_limit before
+with_making (count_image image with_map) before = with_get get_limit before
 
 -- once an image is put, if there is one
 abbrev pub with_putting : Option (List ℕ) → StoreCalls → StoreCalls
@@ -40,6 +41,7 @@ with_command (run_image image options) before = with_put (with_get get_limit bef
 with_command (rebuild_image image budget seed) before = with_put (with_get get_limit before)
 with_command (replay_image image seed) before = with_get get_limit before
 with_command (conservative_image image with_map) before = with_get get_limit before
+with_command (count_image image with_map) before = with_get get_limit before
 
 -- once the command ended with this status: an image was put only where the result was put and printed, or cut off
 abbrev pub with_status : Command → ℕ → StoreCalls → StoreCalls

@@ -7,12 +7,12 @@ use Rattle.heap_model.specs.Geometry.{largest_capacity}
 use Rattle.heap_model.specs.declared.header.BadHeader.TheVariants.{Length, Kind}
 use Rattle.trace_text.specs.Report.{line_feed}
 use Rattle.dict_model.specs.Links.{kind_count}
-use Rattle.tool_command.specs.Command.{Command, show_image, run_image, conservative_image}
+use Rattle.tool_command.specs.Command.{Command, show_image, run_image, conservative_image, count_image}
 use Rattle.tool_ports.specs.Calls.{no_calls, with_get, with_put}
 use Rattle.tool_run.specs.Calls.{get_limit, with_status}
 use Rattle.tool_run.specs.Lines.{no_image_line, bad_header_line, bad_line_line}
 use Rattle.tool_ports.specs.Contents.{Contents}
-use Rattle.tool_run.specs.Making.{Makes, FollowsLinks, kinds_checked, formatted_line, drained_text, HasLeft, HasTooMuch}
+use Rattle.tool_run.specs.Making.{Makes, FollowsLinks, RefusesOutside, IsOrderlyIn, kinds_checked, formatted_line, drained_text, HasLeft, HasTooMuch}
 use Rattle.tool_run.specs.Outcome.{CanBeDone}
 use Rattle.tool_run.specs.Status.{own_line, usage, done, bad_header, write_fault, bad_trace}
 
@@ -79,6 +79,16 @@ no_kinds = refl
 
 no_links : FollowsLinks (conservative_image (codes "h") true) → ⊥
 no_links follows = follows
+
+-- `count` asks for the dictionary's kinds, and is refused for a word outside only where anchors don't tell what is held
+kinds_of_count : kinds_checked (count_image (codes "h") false) ≡ Some kind_count
+kinds_of_count = refl
+
+none_refused : (bytes : List ℕ) → IsOrderlyIn bytes → RefusesOutside (count_image (codes "h") false) bytes → ⊥
+none_refused bytes orderly refuses = refuses orderly
+
+show_refuses : (bytes : List ℕ) → RefusesOutside (show_image (codes "h") false false) bytes
+show_refuses bytes = tt
 
 -- what a source has left, where it tells
 all_left : HasLeft (Some (codes "get 1")) (codes "get 1")

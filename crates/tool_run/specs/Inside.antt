@@ -22,7 +22,7 @@ use Rattle.dictionary.specs.declared.fault.MapFault.{MapFault}
 use Rattle.dictionary.specs.declared.fault.MapFault.TheVariants.{BadShard as NoMap, Memory as MapMemory}
 use Rattle.tool_command.specs.Command.{Command, image_name}
 use Rattle.tool_run.specs.Lines.{usage_line, memory_line, read_line, write_line, no_image_line, bad_header_line, outside_line, bad_shard_line, bad_line_line, bad_step_line, too_long_line}
-use Rattle.tool_run.specs.Making.{Makes, GetsImage, FollowsLinks, kinds_checked, Reads, RunsATrace, ReplaysASchedule, IsMalformed, HasOutside, HasBadShard, HasMapped, HasTrace, HasBadLine, HasTooMuch, HasGood, HasBadStep, HasOutsideLeft}
+use Rattle.tool_run.specs.Making.{Makes, GetsImage, RefusesOutside, kinds_checked, Reads, RunsATrace, ReplaysASchedule, IsMalformed, HasOutside, HasBadShard, HasMapped, HasTrace, HasBadLine, HasTooMuch, HasGood, HasBadStep, HasOutsideLeft}
 use Rattle.tool_run.specs.Outcome.{Puts, IsCutOff}
 use Rattle.tool_run.specs.Status.{usage, out_of_memory, read_fault, write_fault, no_image, bad_header, outside, bad_shard, bad_trace}
 
@@ -76,7 +76,7 @@ Refuses command contents get_failed ReadFault = GetsImage command × get_failed
 Refuses command contents get_failed WriteFault = ⊥
 Refuses command contents get_failed Absent = GetsImage command × Lacks contents (image_name command)
 Refuses command contents get_failed (Malformed cause) = GetsImage command × IsMalformed (kinds_checked command) contents (image_name command) cause
-Refuses command contents get_failed (Outside at value) = FollowsLinks command × HasOutside contents (image_name command) at value
+Refuses command contents get_failed (Outside at value) = (has : HasOutside contents (image_name command) at value) × RefusesOutside command has.bytes
 Refuses command contents get_failed (BadShard shard at) = Reads command × HasBadShard contents (image_name command) shard at
 Refuses command contents get_failed (BadLine line) = ⊥
 Refuses command contents get_failed (BadStep line) = ⊥

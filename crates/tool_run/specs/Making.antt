@@ -10,12 +10,14 @@ use Rattle.dict_model.specs.Shards.{Map, MapOf, BadShard}
 use Rattle.heap_model.specs.Geometry.{image_words}
 use Rattle.heap_model.specs.Image.{Image, bytes_of_words, image_of_bytes}
 use Rattle.heap_model.specs.Sizes.{size_of}
-use Rattle.heap_model.specs.Header.{capacity_of, empty_words, header_fault}
+use Rattle.heap_model.specs.Header.{capacity_of, empty_words, header_fault, first_kinds}
+use Rattle.region_header.specs.Migration.{current_words}
 pub use Rattle.image_run.specs.Reporting.{fault_of, words_in_bytes, image_in, IsKept, PointsOutside, Recovers, IsEntryOf, shown_text, Reports}
 pub use Rattle.image_rebuild.specs.Rebuilding.{Rebuilds}
 pub use Rattle.image_replay.specs.Replaying.{Replays, LeavesOutside}
 pub use Rattle.image_run.specs.Running.{Options, RunsRequests}
 use Rattle.image_conservative.specs.Telling.{TellsByWords}
+use Rattle.image_count.specs.Telling.{IsOrderlyImage, TellsOpened}
 use Rattle.mixed_trace.specs.Conservative.{current_without_kinds}
 use Rattle.tool_ports.specs.Contents.{Contents, Holds}
 use Rattle.worker_run.specs.Said.{Line, requests_of}
@@ -24,7 +26,7 @@ use Rattle.trace_text.specs.Generated.{made_trace}
 use Rattle.trace_text.specs.Report.{line_feed}
 use Rattle.trace_text.specs.Schedule.{IsSchedule, IsFirstBad}
 use Rattle.trace_text.specs.Trace.{lines_of, AreLines, IsFirstOutside}
-use Rattle.tool_command.specs.Command.{Command, format_image, show_image, drain_image, gen_trace, run_image, rebuild_image, replay_image, conservative_image}
+use Rattle.tool_command.specs.Command.{Command, format_image, show_image, drain_image, gen_trace, run_image, rebuild_image, replay_image, conservative_image, count_image}
 
 -- what `format` prints: the capacity, and the length of the image in bytes
 abbrev pub formatted_line : ℕ → List ℕ
@@ -87,6 +89,17 @@ pub record ShowsByWords (contents : Contents) (name : List ℕ) (with_map : Bool
   pub is_there : Holds contents name bytes
   pub good : fault_within None bytes ≡ None
   pub tells : TellsByWords (image_without_kinds bytes) with_map text
+
+-- the image in the bytes of a file, in the new version, tells by its own anchors what it holds
+abbrev pub IsOrderlyIn : List ℕ → Type 0
+IsOrderlyIn bytes = IsOrderlyImage (current_words (words_in_bytes bytes) first_kinds)
+
+-- the text on a named image that is opened by its own anchors where it is orderly, and else recovered
+pub record Counts (contents : Contents) (name : List ℕ) (with_map : Bool) (text : List ℕ) : Type 0 where
+  pub bytes : List ℕ
+  pub is_there : Holds contents name bytes
+  pub good : fault_of bytes ≡ None
+  pub tells : TellsOpened (current_words (words_in_bytes bytes) first_kinds) with_map text
 
 -- the bytes of a named image, whose header has this cause first, under this limit of kinds
 pub record IsMalformed (limit : Option ℕ) (contents : Contents) (name : List ℕ) (cause : BadHeader) : Type 0 where
@@ -223,6 +236,7 @@ Makes (run_image image options) contents left put text = RunsTrace contents left
 Makes (rebuild_image image budget seed) contents left put text = RebuildsNamed contents image budget put text
 Makes (replay_image image seed) contents left put text = (put ≡ None) × ReplaysNamed contents left image text
 Makes (conservative_image image with_map) contents left put text = (put ≡ None) × ShowsByWords contents image with_map text
+Makes (count_image image with_map) contents left put text = (put ≡ None) × Counts contents image with_map text
 
 -- the command gets the image that it names
 abbrev pub GetsImage : Command → Type 0
@@ -234,6 +248,7 @@ GetsImage (run_image image options) = Unit {0}
 GetsImage (rebuild_image image budget seed) = Unit {0}
 GetsImage (replay_image image seed) = Unit {0}
 GetsImage (conservative_image image with_map) = Unit {0}
+GetsImage (count_image image with_map) = Unit {0}
 
 -- the limit of the kinds of roots that the command checks the header of its image against, if it checks any
 abbrev pub kinds_checked : Command → Option ℕ
@@ -245,8 +260,9 @@ kinds_checked (run_image image options) = Some kind_count
 kinds_checked (rebuild_image image budget seed) = Some kind_count
 kinds_checked (replay_image image seed) = Some kind_count
 kinds_checked (conservative_image image with_map) = None
+kinds_checked (count_image image with_map) = Some kind_count
 
--- the command follows the links of the image that it names, as the filter lists them: one that points outside refuses it
+-- the command follows the links of whatever image it names, as the filter lists them
 abbrev pub FollowsLinks : Command → Type 0
 FollowsLinks (format_image image capacity) = ⊥
 FollowsLinks (show_image image with_map in_parallel) = Unit {0}
@@ -256,6 +272,19 @@ FollowsLinks (run_image image options) = Unit {0}
 FollowsLinks (rebuild_image image budget seed) = Unit {0}
 FollowsLinks (replay_image image seed) = Unit {0}
 FollowsLinks (conservative_image image with_map) = ⊥
+FollowsLinks (count_image image with_map) = ⊥
+
+-- a word that points outside refuses the command, in the image in these bytes: `count` follows links alone where anchors don't tell
+abbrev pub RefusesOutside : Command → List ℕ → Type 0
+RefusesOutside (format_image image capacity) bytes = ⊥
+RefusesOutside (show_image image with_map in_parallel) bytes = Unit {0}
+RefusesOutside (drain_image image class) bytes = Unit {0}
+RefusesOutside (gen_trace requests seed) bytes = ⊥
+RefusesOutside (run_image image options) bytes = Unit {0}
+RefusesOutside (rebuild_image image budget seed) bytes = Unit {0}
+RefusesOutside (replay_image image seed) bytes = Unit {0}
+RefusesOutside (conservative_image image with_map) bytes = ⊥
+RefusesOutside (count_image image with_map) bytes = ¬ (IsOrderlyIn bytes)
 
 -- the command reads the maps of the image that it names
 abbrev pub Reads : Command → Type 0
@@ -267,6 +296,7 @@ Reads (run_image image options) = Unit {0}
 Reads (rebuild_image image budget seed) = ⊥
 Reads (replay_image image seed) = ⊥
 Reads (conservative_image image with_map) = ⊥
+Reads (count_image image with_map) = ⊥
 
 -- the command puts an image in the place of the one that it gets
 abbrev pub PutsBack : Command → Type 0
@@ -278,6 +308,7 @@ PutsBack (run_image image options) = Unit {0}
 PutsBack (rebuild_image image budget seed) = Unit {0}
 PutsBack (replay_image image seed) = ⊥
 PutsBack (conservative_image image with_map) = ⊥
+PutsBack (count_image image with_map) = ⊥
 
 -- the command runs a trace
 abbrev pub RunsATrace : Command → Type 0
@@ -289,6 +320,7 @@ RunsATrace (run_image image options) = Unit {0}
 RunsATrace (rebuild_image image budget seed) = ⊥
 RunsATrace (replay_image image seed) = ⊥
 RunsATrace (conservative_image image with_map) = ⊥
+RunsATrace (count_image image with_map) = ⊥
 
 -- the command replays a schedule
 abbrev pub ReplaysASchedule : Command → Type 0
@@ -300,6 +332,7 @@ ReplaysASchedule (run_image image options) = ⊥
 ReplaysASchedule (rebuild_image image budget seed) = ⊥
 ReplaysASchedule (replay_image image seed) = Unit {0}
 ReplaysASchedule (conservative_image image with_map) = ⊥
+ReplaysASchedule (count_image image with_map) = ⊥
 
 -- the command reads the source
 abbrev pub ReadsSource : Command → Type 0

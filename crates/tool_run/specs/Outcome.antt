@@ -1,6 +1,6 @@
 -- What a call of the tool has done, by its status. `old` is what the store held before it, `new` what
 -- it holds after it; `left` is what the source had left before it; `taken` and `taken'` are what the sink had taken.
-use Rattle.std.specs.Prelude.{◌≡◌, ℕ, ◌<◌, ◌≤◌, List, length, Option, Some, None}
+use Rattle.std.specs.Prelude.{◌≡◌, ◌⊎◌, ℕ, ◌<◌, ◌≤◌, List, length, Option, Some, None}
 use Rattle.heap_model.specs.declared.header.BadHeader.{BadHeader}
 use Rattle.tool_ports.specs.Causes.{Rose}
 use Rattle.tool_ports.specs.Contents.{Contents, Holds, HoldsOldOrNew, KeepsOthers, Lacks, told_of}
@@ -9,9 +9,9 @@ use Rattle.worker_run.specs.Said.{Line}
 use Rattle.trace_text.specs.declared.schedule.Schedule.{Schedule}
 use Rattle.trace_text.specs.Schedule.{IsSchedule, IsFirstBad}
 use Rattle.trace_text.specs.Trace.{lines_of, AreLines, IsFirstOutside}
-use Rattle.tool_command.specs.Command.{Command, format_image, show_image, drain_image, gen_trace, run_image, rebuild_image, replay_image, conservative_image, image_name, Asks, AsksToRun, AsksToReplay}
+use Rattle.tool_command.specs.Command.{Command, format_image, show_image, drain_image, gen_trace, run_image, rebuild_image, replay_image, conservative_image, count_image, image_name, Asks, AsksToRun, AsksToReplay}
 use Rattle.tool_run.specs.Lines.{Tells, write_line, no_image_line, bad_header_line, outside_line, bad_shard_line, bad_line_line, bad_step_line, too_long_line}
-use Rattle.tool_run.specs.Making.{Makes, GetsImage, FollowsLinks, kinds_checked, Reads, PutsBack, ReadsSource, Options, IsMalformed, HasOutside, HasBadShard, HasMapped, HasBadLine, HasTooMuch, HasGood, HasBadStep, HasOutsideLeft, PointsOutside, fault_of, fault_within, image_in, longest_trace}
+use Rattle.tool_run.specs.Making.{Makes, GetsImage, RefusesOutside, kinds_checked, Reads, PutsBack, ReadsSource, Options, IsMalformed, HasOutside, HasBadShard, HasMapped, HasBadLine, HasTooMuch, HasGood, HasBadStep, HasOutsideLeft, PointsOutside, fault_of, fault_within, image_in, IsOrderlyIn, longest_trace}
 use Rattle.dict_model.specs.Links.{shards}
 use Rattle.dict_model.specs.Shards.{Map, MapOf, BadShard}
 
@@ -63,13 +63,6 @@ pub record AsksToGet (words : List (List ℕ)) (name : List ℕ) : Type 0 where
   pub command : Command
   pub asked : Asks words command
   pub gets : GetsImage command
-  pub is_named : image_name command ≡ name
-
--- the words ask for a command that follows the links of the image of this name
-pub record AsksToFollow (words : List (List ℕ)) (name : List ℕ) : Type 0 where
-  pub command : Command
-  pub asked : Asks words command
-  pub follows : FollowsLinks command
   pub is_named : image_name command ≡ name
 
 -- the words ask for a command that gets the image of this name, and puts none
@@ -129,10 +122,10 @@ pub record IsBadHeader (words : List (List ℕ)) (contents : Contents) (Told : L
   pub malformed : IsMalformed (kinds_checked asks.command) contents name cause
   pub told : Told (bad_header_line cause)
 
--- a word points outside: in the image whose links the command follows, or in the one that a crash leaves of the replay that is asked for
+-- a word points outside: in an image that the command refuses for it, or in the one that a crash leaves of the replay that is asked for
 pub data IsOutsideAt (words : List (List ℕ)) (contents : Contents) (left : Option (List ℕ)) (Told : List ℕ → Type 0) : Type 0 where
-  in_image : (name : List ℕ) (at value : ℕ) → AsksToFollow words name → HasOutside contents name at value
-      → Told (outside_line at value) → IsOutsideAt words contents left Told
+  in_image : (name : List ℕ) (at value : ℕ) (asks : AsksToGet words name) (has : HasOutside contents name at value)
+      → RefusesOutside asks.command has.bytes → Told (outside_line at value) → IsOutsideAt words contents left Told
   in_image_left : (name : List ℕ) (at value : ℕ) → AsksForReplay words name → HasOutsideLeft contents left name at value
       → Told (outside_line at value) → IsOutsideAt words contents left Told
 
@@ -162,6 +155,14 @@ pub record HoldsGood (contents : Contents) (name : List ℕ) : Type 0 where
   pub held : told_of contents name ≡ Some (Some bytes)
   pub good : fault_of bytes ≡ None
   pub inside : (at : ℕ) → PointsOutside (image_in bytes) at → ⊥
+
+-- the store tells that it has an image of this name with a good header that tells what it holds, by its own anchors or as nothing
+-- points outside
+pub record HoldsOpenable (contents : Contents) (name : List ℕ) : Type 0 where
+  pub bytes : List ℕ
+  pub held : told_of contents name ≡ Some (Some bytes)
+  pub good : fault_of bytes ≡ None
+  pub opens : IsOrderlyIn bytes ⊎ ((at : ℕ) → PointsOutside (image_in bytes) at → ⊥)
 
 -- the words ask for a command that reads the maps of the image of this name
 pub record AsksToRead (words : List (List ℕ)) (name : List ℕ) : Type 0 where
@@ -267,3 +268,4 @@ CanBeDone (run_image image options) contents left = HoldsMaps contents image × 
 CanBeDone (rebuild_image image budget seed) contents left = HoldsGood contents image
 CanBeDone (replay_image image seed) contents left = HoldsReplay contents image left
 CanBeDone (conservative_image image with_map) contents left = HoldsFormed None contents image
+CanBeDone (count_image image with_map) contents left = HoldsOpenable contents image

@@ -2,6 +2,7 @@
 #![tactic(auto)]
 
 mod conservative;
+mod counting;
 mod delivery;
 mod drained;
 mod draining;

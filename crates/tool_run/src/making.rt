@@ -7,10 +7,11 @@ ghost use Rattle.tool_command.specs.Invocations.{command_of};
 ghost use Rattle.tool_run.specs.Inside.{Refuses, RefusesEither, IsBeforeReading};
 ghost use Rattle.tool_command.specs.Command.{show_image, image_name};
 ghost use Rattle.tool_ports.specs.Left.{IsAtEnd};
-ghost use Rattle.tool_run.specs.Making.{Makes, FollowsLinks, ReadsSource, IsFormatted, Shows};
+ghost use Rattle.tool_run.specs.Making.{Makes, RefusesOutside, ReadsSource, IsFormatted, Shows};
 ghost use Rattle.tool_run.specs.Outcome.{HoldsOutside};
 
 use crate::conservative::tell_by_words;
+use crate::counting::count_named;
 use crate::draining::drain_image;
 use crate::fault::Fault;
 use crate::generating::generate;
@@ -52,9 +53,9 @@ pub fn make<R: Threads + Sync, I: ImageStore, T: Source, G: Gate + Sync, C: Chan
         (Rose (T.faults trace.old) (T.faults trace.new))) }
     ensures unread { IfErr result (λ fault. IsBeforeReading (command_of command.entry) fault
         → trace.new ≡ trace.old) }
-    ensures image_first { (at : ℕ) → FollowsLinks (command_of command.entry)
-        → HoldsOutside (I.contents images.old) (image_name (command_of command.entry)) at
-        → trace.new ≡ trace.old }
+    ensures image_first { (at : ℕ)
+        (has : HoldsOutside (I.contents images.old) (image_name (command_of command.entry)) at)
+        → RefusesOutside (command_of command.entry) has.bytes → trace.new ≡ trace.old }
     ensures no_source { ¬ (ReadsSource (command_of command.entry)) → trace.new ≡ trace.old }
     ensures end { OnOk result (ReadsSource (command_of command.entry)
         → IsAtEnd (T.left trace.new)) }
@@ -86,6 +87,7 @@ pub fn make<R: Threads + Sync, I: ImageStore, T: Source, G: Gate + Sync, C: Chan
         Invocation::Conservative { image, with_map } => {
             tell_by_words(alloc, image, with_map, images)
         }
+        Invocation::Count { image, with_map } => count_named(alloc, image, with_map, images),
     }
 }
 

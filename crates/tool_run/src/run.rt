@@ -8,9 +8,9 @@ ghost use Rattle.tool_run.specs.Calls.{get_limit, with_command, with_status};
 ghost use Rattle.tool_command.specs.Command.{Command, Asks, AsksToFormat, AsksToGen, IsUsage, texts, image_name};
 ghost use Rattle.tool_command.specs.Invocations.{command_of};
 ghost use Rattle.tool_run.specs.Inside.{status_of, IsCarriedOut, IsStopped, IsBeforeReading};
-ghost use Rattle.tool_run.specs.Making.{FollowsLinks, ReadsSource, kinds_checked};
+ghost use Rattle.tool_run.specs.Making.{RefusesOutside, ReadsSource, kinds_checked};
 ghost use Rattle.tool_run.specs.Lines.{Tells, memory_line};
-ghost use Rattle.tool_run.specs.Outcome.{IsDone, IsReadFault, IsWriteFault, AsksToGet, AsksToFollow, AsksToLook, AsksToPutBack, AsksToRead, AsksForRun, AsksForReplay, AsksForSource, IsAbsent, IsBadHeader, IsOutsideAt, IsBadShardAt, IsBadTrace, HoldsMalformed, HoldsOutside, HoldsOutsideLeft, HoldsBadShard, HoldsGood, HoldsMaps, HoldsBadLine, HoldsBadStep, HoldsTooMuch, CanBeDone};
+ghost use Rattle.tool_run.specs.Outcome.{IsDone, IsReadFault, IsWriteFault, AsksToGet, AsksToLook, AsksToPutBack, AsksToRead, AsksForRun, AsksForReplay, AsksForSource, IsAbsent, IsBadHeader, IsOutsideAt, IsBadShardAt, IsBadTrace, HoldsMalformed, HoldsOutside, HoldsOutsideLeft, HoldsBadShard, HoldsGood, HoldsMaps, HoldsBadLine, HoldsBadStep, HoldsTooMuch, CanBeDone};
 ghost use Rattle.tool_run.specs.Status.{done, usage, out_of_memory, read_fault, write_fault, no_image, bad_header, outside, bad_shard, bad_trace, statuses, LeavesStore, IsBeforeTrace, own_line};
 
 use crate::delivery::deliver;
@@ -25,7 +25,9 @@ use tool_ports::{Chances, Gate, ImageStore, Sink, Source};
 /// Does what the words ask for. They are those after the program's name: `format IMAGE S` puts an
 /// empty image of S superblocks, `show IMAGE` recovers an image and prints a report on it, with
 /// `--map` a map too, and with `--par` recovers by threads; `conservative IMAGE [--map]` recovers
-/// an image with no filter, and prints the report without keys; `run IMAGE --workers N` runs the
+/// an image with no filter, and prints the report without keys; `count IMAGE [--map]` opens an image
+/// by its own anchors where it is orderly, and else recovers it, and prints by which way and that
+/// report; `run IMAGE --workers N` runs the
 /// trace that the source has left over an image, puts the image that is left and prints the replies
 /// and a report, with `--stop K` and `--seed X` as far as step K, with early write-backs by that
 /// seed, and with `--sum` and `--map` other texts; `rebuild IMAGE [--stop K] [--seed X]` recovers
@@ -87,8 +89,9 @@ pub fn run_tool<R: Threads + Sync, I: ImageStore, T: Source, O: Sink, G: Gate + 
     ensures not_yet_read { IsBeforeTrace result
         → (result ≡ outside → (name : List ℕ) → ¬ (AsksForReplay (texts words.now) name))
         → trace.new ≡ trace.old }
-    ensures image_first { (name : List ℕ) (at : ℕ) → AsksToFollow (texts words.now) name
-        → HoldsOutside (I.contents images.old) name at → trace.new ≡ trace.old }
+    ensures image_first { (name : List ℕ) (at : ℕ) (asks : AsksToGet (texts words.now) name)
+        (has : HoldsOutside (I.contents images.old) name at)
+        → RefusesOutside asks.command has.bytes → trace.new ≡ trace.old }
     ensures read_to_the_end { (name : List ℕ) → AsksForSource (texts words.now) name
         → result ≡ done → IsAtEnd (T.left trace.new) }
 
@@ -122,8 +125,9 @@ pub fn run_tool<R: Threads + Sync, I: ImageStore, T: Source, O: Sink, G: Gate + 
     ensures always_cause { (name : List ℕ) (asks : AsksToGet (texts words.now) name)
         → HoldsMalformed (kinds_checked asks.command) (I.contents images.old) name
         → (result ≡ bad_header) ⊎ (result ≡ out_of_memory) ⊎ (result ≡ read_fault) }
-    ensures always_outside { (name : List ℕ) (at : ℕ) → AsksToFollow (texts words.now) name
-        → HoldsOutside (I.contents images.old) name at
+    ensures always_outside { (name : List ℕ) (at : ℕ) (asks : AsksToGet (texts words.now) name)
+        (has : HoldsOutside (I.contents images.old) name at)
+        → RefusesOutside asks.command has.bytes
         → (result ≡ outside) ⊎ (result ≡ out_of_memory) ⊎ (result ≡ read_fault) }
     ensures always_outside_left { (name : List ℕ) (at : ℕ) → AsksForReplay (texts words.now) name
         → HoldsOutsideLeft (I.contents images.old) name (T.left trace.old) at
@@ -190,9 +194,9 @@ fn carry_out<R: Threads + Sync, I: ImageStore, T: Source, O: Sink, G: Gate + Syn
         (Rose (O.faults out.old) (O.faults out.new)) (O.taken out.old) (O.taken out.new)) }
     ensures unread { IfErr result (λ fault. IsBeforeReading (command_of command.entry) fault
         → trace.new ≡ trace.old) }
-    ensures image_first { (at : ℕ) → FollowsLinks (command_of command.entry)
-        → HoldsOutside (I.contents images.old) (image_name (command_of command.entry)) at
-        → trace.new ≡ trace.old }
+    ensures image_first { (at : ℕ)
+        (has : HoldsOutside (I.contents images.old) (image_name (command_of command.entry)) at)
+        → RefusesOutside (command_of command.entry) has.bytes → trace.new ≡ trace.old }
     ensures no_source { ¬ (ReadsSource (command_of command.entry)) → trace.new ≡ trace.old }
     ensures end { OnOk result (ReadsSource (command_of command.entry)
         → IsAtEnd (T.left trace.new)) }

@@ -1,5 +1,5 @@
 use Rattle.std.proofs.Common.{◌≡◌, ◌∙◌, ap, rules, codes, List, ℕ, Some}
-use Rattle.tool_command.proofs.CommandLemmas.{usage_format, usage_show, usage_drain, usage_gen, usage_run, usage_rebuild, usage_replay, usage_conservative}
+use Rattle.tool_command.proofs.CommandLemmas.{usage_format, usage_show, usage_drain, usage_gen, usage_run, usage_rebuild, usage_replay, usage_conservative, usage_count}
 use Rattle.tool_command.proofs.command.parse_command.Goals as goal
 
 pub returns-then-eq-clause-err : goal.returns-then-eq-clause-err
@@ -41,3 +41,8 @@ pub returns-then-eq-8-clause-err : goal.returns-then-eq-8-clause-err
 returns-then-eq-8-clause-err c is =
     let word : c.args.command.now ≡ codes "conservative" = search rules in
     usage_conservative _ (c.requires ∙ ap (λ (w : List ℕ). Some w) word) (λ image with_map asks. c.parse_conservative.ensures.err is asks.taken.faultless)
+
+pub returns-then-eq-9-clause-err : goal.returns-then-eq-9-clause-err
+returns-then-eq-9-clause-err c is =
+    let word : c.args.command.now ≡ codes "count" = search rules in
+    usage_count _ (c.requires ∙ ap (λ (w : List ℕ). Some w) word) (λ image with_map asks. c.parse_count.ensures.err is asks.taken.faultless)

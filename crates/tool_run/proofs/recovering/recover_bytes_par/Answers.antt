@@ -1,6 +1,7 @@
 use Rattle.std.proofs.Common.{ℕ, Err, slice_index, subst, arith}
 use Rattle.heap_model.specs.Image.{Image}
 use Rattle.std.proofs.lemmas.Result.{err_from_is_err_and}
+use Rattle.heap_recover.specs.declared.answer.Recovered.{Recovered}
 use Rattle.region_header.specs.Migration.{current_words}
 use Rattle.tool_run.specs.Making.{image_in, PointsOutside}
 use Rattle.tool_run.proofs.RecoveryLemmas.{recovered_heap, image_is, formed_in, recovery_fault}
@@ -28,6 +29,6 @@ returns-clause-none g c =
 pub returns-in_err-recovered-clause-err : goal.returns-in_err-recovered-clause-err
 returns-in_err-recovered-clause-err g c =
     let why = recovery_fault c.in_ok-words.words.items c.root_kinds.result c.args.bytes.items (omega arith) c.root_kinds.ensures.kinds
-    c.in_ok-words.ensures.ok (Err c.in_err-recovered.field-0.0) c.requires c.in_err-recovered.ensures.cause in
+    c.in_ok-words.ensures.ok {T = Recovered} (Err c.in_err-recovered.field-0.0) c.requires c.in_err-recovered.ensures.cause in
     let p = err_from_is_err_and c.from_residual-in_err-recovered.result c.from_residual-in_err-recovered.ensures.1 in
     rw (p.1, p.2) why
