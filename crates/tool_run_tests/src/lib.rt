@@ -9,6 +9,8 @@ mod conservative;
 #[cfg(test)]
 mod contended;
 #[cfg(test)]
+mod counting;
+#[cfg(test)]
 mod damage;
 #[cfg(test)]
 mod faults;

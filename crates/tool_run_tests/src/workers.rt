@@ -130,7 +130,7 @@ fn play_with(
 }
 
 /// Plays the session with one worker, with two, and with eight.
-fn play_with_each(
+pub fn play_with_each(
     rt: &(impl Abort + AllocGlobal + Threads + Sync),
     session: &str,
 ) -> Result<(), AllocError> {

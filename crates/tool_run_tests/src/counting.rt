@@ -1,0 +1,439 @@
+//! Images opened by their own anchors where these tell what is held, and else recovered.
+use crate::harness::{NO_CALL, has_image, must_hold, runs, store, store_with};
+use crate::session::{play, shows_each, shows_rows};
+use crate::words::are_usage;
+use crate::workers::play_with_each;
+use std::test::Fail;
+use tool_ports::FailedPut;
+
+/// What a run left, and what `format` put; a dirty image is recovered.
+const LEFT: &str = "
+$ format h 4
+> formatted 4 bytes 279104
+$ run h --workers 1
+< put 5 6162
+< get 5
+< del 5
+< get 5
+> ok
+> 6162
+> ok
+> none
+> run closed
+> heap 4 clean
+> held 1024 1
+$ count h --map
+> quick
+> heap 4 clean
+> held 1024 1
+> used 2 free 1 fresh 2
+> sb 0 class 12 held 0
+> sb 1 free
+~ 279104
+$ run h --workers 1 --stop 0
+< put 5 6162
+> unanswered
+> run stopped
+> heap 4 dirty
+> held 1024 1
+$ count h --map
+> traced
+> heap 4 dirty
+> held 1024 1
+> used 2 free 1 fresh 2
+> sb 0 class 12 held 0
+> sb 1 free
+$ rebuild h
+> rebuild done
+> heap 4 dirty
+> held 1024 1
+$ count h
+> traced
+> heap 4 dirty
+> held 1024 1
+$ run h --workers 2
+< get 5
+> none
+> run closed
+> heap 4 clean
+> held 1024 1
+$ count --map -- h
+> quick
+> heap 4 clean
+> held 1024 1
+> used 2 free 1 fresh 2
+> sb 0 class 12 held 0
+> sb 1 free
+$ format h 1
+> formatted 1 bytes 82304
+$ count h
+> quick
+> heap 1 clean
+";
+
+#[test]
+fn what_a_run_closes_is_opened_by_its_anchors(rt: HostRuntime) -> Result<(), Fail> {
+    play(&rt, &mut store(rt.alloc()), LEFT);
+    Ok(())
+}
+
+/// Runs with so many workers in place of N: values replaced and deleted, large ones held and freed,
+/// with a seed and a step that no run comes to.
+const CLOSED: &str = "
+$ format h 24
+> formatted 24 bytes 1591104
+$ run h --workers N
+< put 0 aa
+< put 1 bb
+< put 2 -
+< put 3 0102030405060708
+< put 4 dd
+< put 5 ee
+< put 6 ff
+< put 7 00
+< del 2
+<0 8 14400
+<0 9 100
+< put 10 aabb
+< del 9
+< del 8
+> ok
+> ok
+> ok
+> ok
+> ok
+> ok
+> ok
+> ok
+> ok
+> ok
+> ok
+> ok
+> ok
+> ok
+> run closed
+> heap 24 clean
+> key 0 aa
+> key 1 bb
+> key 3 0102030405060708
+> key 4 dd
+> key 5 ee
+> key 6 ff
+> key 7 00
+> key 10 aabb
+> held 32 8
+> held 1024 8
+$ show h
+> heap 24 clean
+> key 0 aa
+> key 1 bb
+> key 3 0102030405060708
+> key 4 dd
+> key 5 ee
+> key 6 ff
+> key 7 00
+> key 10 aabb
+> held 32 8
+> held 1024 8
+$ count h
+> quick
+> heap 24 clean
+> held 32 8
+> held 1024 8
+$ run h --workers N --seed 7 --stop 1099511627775 --sum
+<0 16 14400
+< del 0
+< put 1 1234
+< get 3
+<0 24 65600
+> requests 5 ok 4 none 0 value 1 full 0 unanswered 0
+> run closed
+> heap 24 clean
+> keys 9 bytes 80016
+> held 32 7
+> held 1024 8
+> held large 1 1
+> held large 2 1
+$ count h
+> quick
+> heap 24 clean
+> held 32 7
+> held 1024 8
+> held large 1 1
+> held large 2 1
+";
+
+#[test]
+fn what_any_workers_close_is_opened_by_its_anchors(rt: HostRuntime) -> Result<(), Fail> {
+    play_with_each(&rt, CLOSED)?;
+    Ok(())
+}
+
+/// A put that finds no room.
+const FULL: &str = "
+$ format h 2
+> formatted 2 bytes 147904
+$ run h --workers 1 --sum
+<0 0 14312
+<0 1 14312
+<0 8 14312
+<0 9 14312
+> requests 4 ok 4 none 0 value 0 full 0 unanswered 0
+> run closed
+> heap 2 clean
+> keys 4 bytes 57248
+> held 1024 2
+> held 14336 4
+$ run h --workers N --sum
+<0 16 14312
+> requests 1 ok 0 none 0 value 0 full 1 unanswered 0
+> run closed
+> heap 2 clean
+> keys 4 bytes 57248
+> held 1024 2
+> held 14336 4
+$ count h --map
+> quick
+> heap 2 clean
+> held 1024 2
+> held 14336 4
+> used 2 free 0 fresh 0
+> sb 0 class 12 held 0-1
+> sb 1 class 20 held 0-3
+";
+
+#[test]
+fn a_full_heap_is_opened_by_its_anchors(rt: HostRuntime) -> Result<(), Fail> {
+    play_with_each(&rt, FULL)?;
+    Ok(())
+}
+
+/// Anchors alone are believed, where they tell what is held, and roots and links where they don't.
+const BELIEVED: &str = "
+@ 1
+$ count h
+> quick
+> heap 1 clean
+@ 1: 16 1
+$ count h
+> traced
+> heap 1 clean
+# Empty anchors hold nothing, whatever the roots reach.
+@ table
+$ count h --map
+> quick
+> heap 2 clean
+> used 2 free 2 fresh 0
+> sb 0 free
+> sb 1 free
+@ table: state 2
+$ count h --map
+> traced
+> heap 2 dirty
+> held 32 1
+> held 1024 1
+> used 2 free 0 fresh 0
+> sb 0 class 12 held 0
+> sb 1 class 2 held 0
+@ table: anchor:0 2, anchor:1 2
+$ count h --map
+> quick
+> heap 2 clean
+> held 32 2048
+> held 1024 64
+> used 2 free 0 fresh 0
+> sb 0 class 12 held 0-63
+> sb 1 class 2 held 0-2047
+# Another state of an anchor, and one superblock in the free list that isn't empty.
+@ table: anchor:0 3
+$ count h
+> traced
+> heap 2 clean
+> held 32 1
+> held 1024 1
+@ table: anchor:0 2, 16 1
+$ count h
+> traced
+> heap 2 clean
+> held 32 1
+> held 1024 1
+# A chain from block 1 to block 3 of four, one that leads back, and one that is too long.
+@ 1: used 1, info:0 20, anchor:0 17179869189, 2864 6448
+$ count h --map
+> quick
+> heap 1 clean
+> held 14336 2
+> used 1 free 0 fresh 0
+> sb 0 class 20 held 0 2
+@ 1: used 1, info:0 20, anchor:0 17179869189, 2864 2864
+$ count h --map
+> traced
+> heap 1 clean
+> used 1 free 1 fresh 0
+> sb 0 free
+@ 1: used 1, info:0 20, anchor:0 34359738373, 2864 6448
+$ count h
+> traced
+> heap 1 clean
+# A large block, and the same freed: its superblocks are in the free list.
+@ 2: used 2, info:0 767
+$ count h --map
+> quick
+> heap 2 clean
+> held large 2 1
+> used 2 free 0 fresh 0
+> sb 0 large 2
+> sb 1 inside 0
+@ 2: used 2, info:0 767, 16 1, link:0 2
+$ count h --map
+> quick
+> heap 2 clean
+> used 2 free 2 fresh 0
+> sb 0 free
+> sb 1 free
+# One of its superblocks alone, and a word of a superblock that has not been taken.
+@ 2: used 2, info:0 767, 16 2
+$ count h
+> traced
+> heap 2 clean
+@ 2: used 1, info:0 511, link:1 1
+$ count h
+> traced
+> heap 2 clean
+";
+
+#[test]
+fn anchors_are_believed_where_they_tell_what_is_held(rt: HostRuntime) -> Result<(), Fail> {
+    shows_each(&rt, BELIEVED)
+}
+
+/// Images of version 1 stay as they are.
+const OLD: &str = "
+@ table: 1 1, anchor:0 2; 139712
+$ count h
+> quick
+> heap 2 clean
+> held 1024 64
+~ 139712
+@ table: 1 1, anchor:0 3; 139712
+$ count h
+> traced
+> heap 2 clean
+> held 32 1
+> held 1024 1
+~ 139712
+";
+
+#[test]
+fn an_image_of_the_old_version_is_opened_by_its_anchors_too(rt: HostRuntime) -> Result<(), Fail> {
+    shows_each(&rt, OLD)
+}
+
+/// A word that points outside, and a shard without a map, where anchors tell what is held and where
+/// they don't.
+const OUTSIDE: &str = "
+@ 1: used 1, info:0 12, root:0 @1073
+$ show h
+= 8
+> pointer outside at 40 value 5250000000002188
+$ count h
+> quick
+> heap 1 clean
+@ 1: used 1, info:0 12, root:0 @1073, state 2
+$ count h --map
+= 8
+> pointer outside at 40 value 5250000000002188
+@ 1: used 1, info:0 12, root:0 @1073, anchor:0 1
+$ count h
+= 8
+> pointer outside at 40 value 5250000000002188
+@ table: 9273 8
+$ show h
+= 9
+> bad shard 0 at 1080
+$ count h
+> quick
+> heap 2 clean
+@ table: 9273 8, state 2
+$ count h
+> traced
+> heap 2 dirty
+> held 32 1
+> held 1024 1
+";
+
+#[test]
+fn a_word_outside_refuses_what_is_recovered_alone(rt: HostRuntime) -> Result<(), Fail> {
+    shows_each(&rt, OUTSIDE)
+}
+
+/// Each cause of a bad header.
+const HEADERS: &str = "
+1; 0 | 7 | bad header short
+1; 8511 | 7 | bad header short
+1: 0 5 | 7 | bad header magic
+1: 1 3 | 7 | bad header version
+1: 2 0 | 7 | bad header capacity
+1: 1 1, 2 257; 74112 | 7 | bad header capacity
+1; 8512 | 7 | bad header length
+1; 82303 | 7 | bad header length
+1: 1 1; 74111 | 7 | bad header length
+1: state 0, used 2 | 7 | bad header state
+1: used 2 | 7 | bad header used
+1: kind:9 3 | 7 | bad header kind
+1: kind:0 18446744073709551615, state 2 | 7 | bad header kind
+";
+
+#[test]
+fn a_bad_header_is_refused_whatever_the_anchors_tell(rt: HostRuntime) -> Result<(), Fail> {
+    shows_rows(&rt, "count h", HEADERS)
+}
+
+const FAILING: &str = "
+$ count none.img
+= 6
+> no image none.img
+$ format h 1
+> formatted 1 bytes 82304
+$ count h
+! 0
+= 5
+> write fault
+$ count h
+! 1
+= 5
+> quick
+> hewrite fault
+$ count h
+> quick
+> heap 1 clean
+~ 82304
+";
+
+#[test]
+fn faults_are_told_of_a_count_too(rt: HostRuntime) -> Result<(), Fail> {
+    play(&rt, &mut store(rt.alloc()), FAILING);
+    let mut failing = store_with(rt.alloc(), b"old", 1, FailedPut::LeavesOld)?;
+    runs(&rt, &mut failing, "count h", b"", 4, "read fault\n");
+    must_hold(&rt, has_image(&failing, b"old"), "the store is as it was");
+    Ok(())
+}
+
+const NO_FORM: &str = "count
+count -h
+count h h
+count h --mapp
+count h --map 1
+count h --map=1
+count h --map --map
+count h --par
+count h --seed 1
+count --help
+counts h
+Count h
+coun h";
+
+#[test]
+fn other_words_ask_for_no_count(rt: HostRuntime) {
+    are_usage(&rt, NO_FORM);
+}
