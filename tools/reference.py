@@ -10,6 +10,7 @@ SIZES = [0, 16, 32, 48, 64, 96, 128, 192, 256, 384, 512, 768, 1024, 1536, 2048, 
 BLOCKS = [0] + [65536 // size for size in SIZES[1:]]
 LARGEST_SMALL = SIZES[-1]
 FIXED = 1064  # the words before the first descriptor
+FREE_HEAD = 16  # the head of the free list
 ROOTS = range(40, 1064)
 SUPERBLOCK = 8192
 VERSION, USED, STATE = 1, 8, 3
@@ -79,8 +80,19 @@ class Image:
     def info(self, d):
         return self.words[FIXED + 8 * d]
 
+    def anchor(self, d):
+        return self.words[FIXED + 8 * d + 1]
+
+    def link(self, d):
+        return self.words[FIXED + 8 * d + 2]
+
     def start(self, d):
         return FIXED + 8 * self.capacity + SUPERBLOCK * d
+
+    def blocks(self, d):
+        """The first words of the blocks of a superblock of a class."""
+        return range(self.start(d), self.start(d) + BLOCKS[self.info(d)] * SIZES[self.info(d)] // 8,
+                     SIZES[self.info(d)] // 8)
 
     def superblock(self, block):
         return (block[0] - self.start(0)) // SUPERBLOCK
@@ -254,6 +266,71 @@ def conservative(data, with_map):
     image = Image(data, asks_kinds=False)
     held = image.held_by_words()
     lines = [f"heap {image.capacity} {image.state()}"] + held_lines(held)
+    return lines + (map_lines(image, image.used, image.info, held) if with_map else [])
+
+
+def listed(image):
+    """The superblocks of the free list, or None where it leads elsewhere or back."""
+    found, d = [], (image.words[FREE_HEAD] % 2**24) - 1
+    while d != -1:
+        if d in found or not 0 <= d < image.used or image.anchor(d) & 3:
+            return None
+        found.append(d)
+        d = image.link(d) - 1
+    return found
+
+
+def held_in(image, d):
+    """The blocks that the anchor of a superblock of a class holds, or None where it doesn't tell."""
+    blocks, anchor = image.blocks(d), image.anchor(d)
+    state, first, count = anchor & 3, anchor >> 2 & (2**31 - 1), anchor >> 33
+    if state == 0:
+        return []
+    if anchor == 2:
+        return blocks
+    if state != 1 or not 0 < count < len(blocks) or len(blocks) <= first:
+        return None
+    chain, place = [], blocks[first]
+    while len(chain) < count:
+        if place in chain or place not in blocks:
+            return None
+        chain.append(place)
+        place = image.words[place]
+    return [place for place in blocks if place not in chain]
+
+
+def held_by_anchors(image):
+    """The blocks that a closed image's anchors hold, or None where they can't be relied on."""
+    free = listed(image)
+    behind = range(image.used, image.capacity)
+    if image.words[STATE] != 1 or free is None:
+        return None
+    if any(image.info(d) or image.anchor(d) or image.link(d) for d in behind):
+        return None
+    held, inside = [], 0
+    for d in range(image.used):
+        large = image.named(8 * image.start(d)) if image.info(d) > 255 else None
+        if d in free or d < inside:
+            if d in free and d < inside:
+                return None
+        elif large:
+            held.append(large)
+            inside = d + large[1] // SUPERBLOCK
+        else:
+            blocks = held_in(image, d) if 1 <= image.info(d) <= 20 else None
+            if blocks is None:
+                return None
+            held += [(place, SIZES[image.info(d)] // 8) for place in blocks]
+    return held
+
+
+def count(data, with_map):
+    """What `count` prints: by the anchors where they can be relied on, and else recovered."""
+    image = Image(data)
+    held = held_by_anchors(image)
+    way = "traced" if held is None else "quick"
+    held = image.held() if held is None else held
+    lines = [way, f"heap {image.capacity} {image.state()}"] + held_lines(held)
     return lines + (map_lines(image, image.used, image.info, held) if with_map else [])
 
 
