@@ -20,11 +20,7 @@ use std::alloc::{AllocError, Global};
 ///
 /// The faults are those of recovery. `Outside` comes of an image alone that is not orderly, and
 /// `Memory` may come at any image.
-pub fn count_text(
-    alloc: Global,
-    words: Vec<u64>,
-    with_map: bool,
-) -> Result<Bytes, RecoverFault>
+pub fn count_text(alloc: Global, words: Vec<u64>, with_map: bool) -> Result<Bytes, RecoverFault>
     ensures ok { IfOk result (TellsOpened (current_words words.items first_kinds) with_map) }
     ensures good { OnOk result
         (HasGoodHeader (Some kind_count) (8 * length words.items) (slice_index words.items)) }

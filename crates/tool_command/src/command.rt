@@ -6,9 +6,9 @@ ghost use Rattle.tool_command.specs.CommandLine.{format_app, show_app, drain_app
 ghost use Rattle.tool_command.specs.Invocations.{command_of};
 
 use crate::command_line::{
-    Refusal, conservative_command, count_command, drain_command, format_command, gen_command, has_flag,
-    match_words, number_of, number_or, rebuild_command, replay_command, run_command, show_command,
-    text_of,
+    Refusal, conservative_command, count_command, drain_command, format_command, gen_command,
+    has_flag, match_words, number_of, number_or, rebuild_command, replay_command, run_command,
+    show_command, text_of,
 };
 use crate::trace_plan::TracePlan;
 use clap::ArgMatches;
