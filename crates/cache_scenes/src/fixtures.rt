@@ -4,12 +4,12 @@ ghost use Rattle.std.specs.Prelude.{◌≡◌, ◌<◌, ◌≤◌, IfOk, Contain
 ghost use Rattle.heap_rule.specs.Seated.{IsSeatOf};
 ghost use Rattle.cache_scenes.specs.Holding.{IsFresh};
 
-use crash_core::Owners;
 use dictionary::{DictFilter, root_kinds};
 use heap_recover::{RecoverFault, Recovered, recover};
 use heap_rule::{Seat, Shared, close_shared, open_shared};
 use image_text::image_of;
 use line_memory::Closed;
+use seat_notes::Owners;
 use seat_rows::an_opened_seat_is_idle;
 use std::alloc::{AllocError, Global};
 use std::process::Abort;

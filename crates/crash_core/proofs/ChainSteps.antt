@@ -2,34 +2,28 @@
 use Rattle.std.proofs.Common.{◌≡◌, ◌≢◌, ℕ, ◌+◌, ◌<◌, ◌≤◌, List, [], ◌∷◌, get_or, set, length, refl, ap, sym, le-leb, lt-ltb, arith}
 use Rattle.heap_model.specs.Chains.{Walks}
 use Rattle.heap_model.specs.Geometry.{lists, start_word, superblocks_end}
-use Rattle.heap_model.specs.Sizes.{IsClass, words_of_class}
+use Rattle.heap_model.specs.Sizes.{IsClass}
 use Rattle.heap_model.specs.Counting.{times, total}
-use Rattle.heap_model.proofs.SizeLemmas.{two_words}
 use Rattle.crash_core.specs.declared.owners.BlockPlace.TheVariants as place
 use Rattle.crash_core.specs.declared.owners.BlockOwner.{BlockOwner}
-use Rattle.crash_core.specs.declared.owners.SeatNotes.{SeatNotes}
+use Rattle.seat_notes.specs.declared.notes.SeatNotes.{SeatNotes}
 use Rattle.crash_core.specs.declared.state.CoreState.{CoreState}
 use Rattle.core_model.specs.Cells.{data_cell}
 use Rattle.core_model.specs.Memory.{volatile_at, next}
 use Rattle.core_model.specs.View.{Setup, View, of_class, times_block}
 use Rattle.core_model.specs.Effects.{chain, first_of}
 use Rattle.core_model.specs.Sound.{IsCutBlock}
-use Rattle.crash_core.specs.Standing.{place_for, no_block, IsPlace, HasBlocksOf, HasCaches, HasNewOwner, IsKept, KeepsViews}
+use Rattle.crash_core.specs.Standing.{place_for, no_block, IsPlace, HasBlocksOf, HasNewOwner, IsKept, KeepsViews}
+use Rattle.seat_notes.specs.Notes.{HasCaches}
 use Rattle.core_model.proofs.TotalLemmas.{total_at}
 use Rattle.core_model.proofs.PlaceLemmas.{and_is}
-use Rattle.core_model.proofs.BlockLemmas.{inside_of, walks_chain, total_lists}
+use Rattle.core_model.proofs.BlockLemmas.{walks_chain, total_lists}
 use Rattle.crash_core.proofs.StandingLemmas.{memory_in}
-use Rattle.crash_core.proofs.CacheLemmas.{cache_set}
-use Rattle.crash_core.proofs.ShareLemmas.{no_place}
+use Rattle.seat_notes.proofs.CacheLemmas.{cache_set}
+use Rattle.crash_core.proofs.BlockPlaces.{no_place}
 use Rattle.crash_core.proofs.GivenLemmas.{given_mine, given_theirs, walks_other}
-use Rattle.crash_core.proofs.WordLemmas.{read_is}
-
-within : (n d b words : ℕ) → start_word n d ≤ b → b + words ≤ start_word n (d + 1) → 2 ≤ words → d < n → (start_word n 0 ≤ b) × (b < superblocks_end n)
-within n d b words low high two less = (omega arith, omega arith)
-
--- a block of a cut superblock lies in the image
-pub cut_range : (n class d b : ℕ) → IsClass class → d < n → IsCutBlock n class d b → (start_word n 0 ≤ b) × (b < superblocks_end n)
-cut_range n class d b is less cut = let ends = inside_of n class d b is cut in within n d b (words_of_class class) ends.0 ends.1 (two_words class is) less
+use Rattle.seat_notes.proofs.WordLemmas.{read_is}
+use Rattle.seat_notes.proofs.BlockRanges.{cut_range}
 
 pub none_of : {A : Type 0} (xs : List A) → length xs ≡ 0 → xs ≡ []
 none_of [] none = refl

@@ -4,8 +4,7 @@ use Rattle.std.proofs.Common.{◌≡◌, ℕ, zero, suc, map, ap₂, ◌∷◌, 
 use Rattle.std.proofs.lemmas.Bool.{cases_lt}
 use Rattle.std.proofs.lemmas.List.{map-append, get_or-set_same, get_or-set_other}
 use Rattle.heap_model.specs.Geometry.{image_words, fixed_words, lists, head_word, info_word, anchor_word, link_word}
-use Rattle.heap_model.specs.Durability.{IsTransient, is_head, is_anchor, is_link}
-use Rattle.heap_model.specs.Durability.{IsCrashImage}
+use Rattle.heap_model.specs.Durability.{IsTransient, is_head, is_anchor, is_link, IsCrashImage}
 use Rattle.core_model.specs.Memory.{table_length}
 use Rattle.core_model.specs.Held.{durable_image}
 use Rattle.crash_core.specs.Crash.{GivesAll, IsLeft, descriptors_below, heads_below, transient_words}

@@ -11,29 +11,31 @@ use Rattle.heap_model.specs.Counting.{times, total, without}
 use Rattle.heap_model.proofs.SizeLemmas.{four_blocks}
 use Rattle.crash_core.specs.declared.owners.BlockPlace.TheVariants as place
 use Rattle.crash_core.specs.declared.owners.BlockOwner.{BlockOwner}
-use Rattle.crash_core.specs.declared.owners.SeatNotes.{SeatNotes}
-use Rattle.crash_core.specs.declared.owners.Seen.{Seen}
-use Rattle.crash_core.specs.declared.owners.Share.{Share}
-use Rattle.crash_core.specs.declared.owners.Share.TheVariants as share
-use Rattle.crash_core.specs.declared.owners.SuperblockOwner.{SuperblockOwner}
+use Rattle.seat_notes.specs.declared.notes.SeatNotes.{SeatNotes}
+use Rattle.seat_notes.specs.declared.notes.Seen.{Seen}
+use Rattle.seat_notes.specs.declared.superblocks.SuperblockUsage.{SuperblockUsage}
+use Rattle.seat_notes.specs.declared.superblocks.SuperblockUsage.TheVariants as usage
+use Rattle.seat_notes.specs.declared.superblocks.SuperblockOwner.{SuperblockOwner}
 use Rattle.crash_core.specs.declared.state.CoreState.{CoreState}
 use Rattle.core_model.specs.Memory.{used, durable_used, durable_info, info, next, memory_of}
 use Rattle.core_model.specs.View.{Setup, View, Claim, Span, of_class, times_block, times_raw}
 use Rattle.core_model.specs.Effects.{chain, steps, first_of, class_blocks, cleared, after_cut}
 use Rattle.core_model.specs.Guards.{MayCut}
 use Rattle.core_model.specs.Sound.{tally_of, times_cut, IsCutBlock, Good}
-use Rattle.crash_core.specs.Standing.{share_for, no_superblock, cutting_in, IsShare, HasSuperblocks, HasCaches, HasBlocksOf, HasNewOwner, IsKept, IsCore, KeepsViews, IsMoved, Decides, memory_at, snapshot}
+use Rattle.seat_notes.specs.Superblocks.{usage_for, no_superblock, cutting_in, IsUsage, HasSuperblocks}
+use Rattle.seat_notes.specs.Notes.{HasCaches, snapshot}
+use Rattle.crash_core.specs.Standing.{HasBlocksOf, HasNewOwner, IsKept, IsCore, KeepsViews, IsMoved, Decides, memory_at}
 use Rattle.core_model.proofs.TotalLemmas.{total_at}
 use Rattle.heap_model.proofs.ListLemmas.{one_at_most, without_at}
 use Rattle.core_model.proofs.CountLemmas.{length_steps, block_once}
 use Rattle.core_model.proofs.BlockLemmas.{superblock_is}
 use Rattle.core_model.proofs.SpanLemmas.{block_of}
 use Rattle.crash_core.proofs.StandingLemmas.{memory_in}
-use Rattle.crash_core.proofs.ShareLemmas.{shares_mine, shares_theirs, share_alone}
-use Rattle.crash_core.proofs.ClaimLemmas.{without_off}
-use Rattle.crash_core.proofs.MoveSteps.{no_cache}
+use Rattle.seat_notes.proofs.UsageLemmas.{usages_mine, usages_theirs, usage_alone}
+use Rattle.seat_notes.proofs.CountLemmas.{without_off}
+use Rattle.seat_notes.proofs.NewSeat.{no_cache}
 use Rattle.crash_core.proofs.ChainSteps.{chain_is, block_fits, none_of, caches_given, blocks_given, blocks_theirs}
-use Rattle.crash_core.proofs.WordLemmas.{entry_is, entry_there}
+use Rattle.seat_notes.proofs.WordLemmas.{entry_is, entry_there}
 
 -- blocks of which the first ones are linked, from one on
 pub record IsHalfLinked (f : ℕ → ℕ) (start words n block left : ℕ) : Type 0 where
@@ -79,9 +81,9 @@ half_whole f start words n block left half is = (subst (IsHalfLinked f start wor
 -- a superblock whose blocks were made is given up
 cut_given_up : (owners : List SuperblockOwner) (i d : ℕ) (raw split cutting : List ℕ) (classed : List Claim) (large : List Span) → d < length owners → 0 < times d cutting
     → HasSuperblocks owners i raw split cutting classed large
-    → HasSuperblocks (set owners d (record { seat = i; share = share.Nothing })) i raw split (without d cutting) classed large
+    → HasSuperblocks (set owners d (record { seat = i; usage = usage.Nothing })) i raw split (without d cutting) classed large
 cut_given_up owners i d raw split cutting classed large less some old =
-    shares_mine owners i d share.Nothing (λ e y. IsShare e y raw split (without d cutting) classed large) less (gone (share_for i (get_or owners d no_superblock)) (old d))
+    usages_mine owners i d usage.Nothing (λ e y. IsUsage e y raw split (without d cutting) classed large) less (gone (usage_for i (get_or owners d no_superblock)) (old d))
     (λ e other. let o = old e in record {
       is_raw = o.is_raw;
       is_split = o.is_split;
@@ -91,13 +93,13 @@ cut_given_up owners i d raw split cutting classed large less some old =
       is_large = o.is_large;
       count = o.count;
     }) where
-      gone : (x : Share) → IsShare d x raw split cutting classed large → IsShare d share.Nothing raw split (without d cutting) classed large
-      gone share.Nothing o = absurd (let a = o.is_cutting in omega arith)
-      gone share.Raw o = absurd (let a = o.is_cutting in omega arith)
-      gone share.Split o = absurd (let a = o.is_cutting in omega arith)
-      gone share.Cutting o = record { is_raw = o.is_raw; is_split = o.is_split; is_cutting = without_at d cutting (let a = o.is_cutting in omega arith); is_classed = o.is_classed; class = o.class; is_large = o.is_large; count = o.count }
-      gone (share.Classed class) o = absurd (let a = o.is_cutting in omega arith)
-      gone (share.Large count) o = absurd (let a = o.is_cutting in omega arith)
+      gone : (x : SuperblockUsage) → IsUsage d x raw split cutting classed large → IsUsage d usage.Nothing raw split (without d cutting) classed large
+      gone usage.Nothing o = absurd (let a = o.is_cutting in omega arith)
+      gone usage.Raw o = absurd (let a = o.is_cutting in omega arith)
+      gone usage.Split o = absurd (let a = o.is_cutting in omega arith)
+      gone usage.Cutting o = record { is_raw = o.is_raw; is_split = o.is_split; is_cutting = without_at d cutting (let a = o.is_cutting in omega arith); is_classed = o.is_classed; class = o.class; is_large = o.is_large; count = o.count }
+      gone (usage.Classed class) o = absurd (let a = o.is_cutting in omega arith)
+      gone (usage.Large count) o = absurd (let a = o.is_cutting in omega arith)
 
 module _ (c : CoreState) (k : Setup) (views : List View) (i : ℕ) (v : View) (t : SeatNotes) (keeps : KeepsViews c k views) (below : i < length views) (at : get_or views i v ≡ v)
     (at_t : get_or c.seats.items i t ≡ t) (d : ℕ) where
@@ -113,10 +115,10 @@ module _ (c : CoreState) (k : Setup) (views : List View) (i : ℕ) (v : View) (t
   cap : v.setup.capacity ≡ k.capacity
   cap = ap (λ (s : Setup). s.capacity) (good.set_up i v below at).setup
 
-  s : IsShare d (share_for i (get_or c.superblocks.items d no_superblock)) v.raw v.split v.cutting v.classed v.large
+  s : IsUsage d (usage_for i (get_or c.superblocks.items d no_superblock)) v.raw v.split v.cutting v.classed v.large
   s = kept.superblocks d
 
-  pub cut_unclaimed : cutting_in (share_for i (get_or c.superblocks.items d no_superblock)) ≡ 0 → MayCut (memory_in c k) v d → ⊥
+  pub cut_unclaimed : cutting_in (usage_for i (get_or c.superblocks.items d no_superblock)) ≡ 0 → MayCut (memory_in c k) v d → ⊥
   cut_unclaimed none may = let g = may.cutting in let f = s.is_cutting in omega arith
 
   pub cut_undurable : (mark : ℕ) → mark ≡ durable_used (memory_at c) → mark ≤ d → MayCut (memory_in c k) v d → ⊥
@@ -153,7 +155,7 @@ module _ (c : CoreState) (k : Setup) (views : List View) (i : ℕ) (v : View) (t
       walks_are = ap₂ (λ m n. Walks (next m) (start_word n d) (class_blocks n class d)) same (sym keeps.capacity ∙ sym cap)
           ∙ ap (λ x. Walks (next (memory_in c k)) (start_word v.setup.capacity d) (class_blocks v.setup.capacity x d)) (sym now)
 
-      pub cut_decided : 0 < cutting_in (share_for i (get_or c.superblocks.items d no_superblock)) → (mark held : ℕ) → mark ≡ durable_used (memory_at c) → d < mark → held ≡ durable_info (memory_at c) d → held ≡ class
+      pub cut_decided : 0 < cutting_in (usage_for i (get_or c.superblocks.items d no_superblock)) → (mark held : ℕ) → mark ≡ durable_used (memory_at c) → d < mark → held ≡ durable_info (memory_at c) d → held ≡ class
           → (get_or t.caches class no_cache).count ≡ 0 → (answer : Bool)
           → (answer ≡ true) ↔ Walks (next (memory_at c)) (start_word c.geometry.capacity d) (class_blocks c.geometry.capacity class d) → (answer ≡ true) ↔ MayCut (memory_in c k) v d
       cut_decided cutting mark held mark_is durable held_is held_same none answer linked = (
@@ -221,7 +223,7 @@ module _ (c : CoreState) (k : Setup) (views : List View) (i : ℕ) (v : View) (t
           → (anchor : Option Seen) → snapshot anchor ≡ cleared d 1 (snapshot t.seen_anchor)
           → IsMoved c (record c {
             blocks = blocks;
-            superblocks = with_item c.superblocks d (record { seat = i; share = share.Nothing });
+            superblocks = with_item c.superblocks d (record { seat = i; usage = usage.Nothing });
             seats = with_item c.seats i (record t { caches = set t.caches class (record { first = first; count = count }); seen_anchor = anchor });
           }) views i t (after_cut (memory_in c k) v d)
       cut first count first_is count_is blocks given anchor anchor_is = record {
@@ -233,7 +235,7 @@ module _ (c : CoreState) (k : Setup) (views : List View) (i : ℕ) (v : View) (t
         geometry = refl;
         budget = refl;
         blocks = given.long;
-        superblocks = length-set c.superblocks.items d (record { seat = i; share = share.Nothing });
+        superblocks = length-set c.superblocks.items d (record { seat = i; usage = usage.Nothing });
         roots = refl;
         mine = record {
           notes = (let n = kept.notes in record { ticket = n.ticket; stopped = n.stopped; seen_used = n.seen_used; seen_head = n.seen_head; seen_link = n.seen_link; seen_anchor = ap (cleared d 1) n.seen_anchor ∙ sym anchor_is });
@@ -249,7 +251,7 @@ module _ (c : CoreState) (k : Setup) (views : List View) (i : ℕ) (v : View) (t
           caches = h.caches;
           batch = h.batch;
           blocks = blocks_theirs c k views i v t keeps below at at_t class less_class cs empty free blocks.items given_cs j r u other b a h;
-          superblocks = shares_theirs c.superblocks.items i j d share.Nothing (λ e y. IsShare e y u.raw u.split u.cutting u.classed u.large) long other (share_alone i j (get_or c.superblocks.items d no_superblock) other mine_share) h.superblocks;
+          superblocks = usages_theirs c.superblocks.items i j d usage.Nothing (λ e y. IsUsage e y u.raw u.split u.cutting u.classed u.large) long other (usage_alone i j (get_or c.superblocks.items d no_superblock) other mine_usage) h.superblocks;
           roots = h.roots;
         };
       } where
@@ -268,8 +270,8 @@ module _ (c : CoreState) (k : Setup) (views : List View) (i : ℕ) (v : View) (t
         long : d < length c.superblocks.items
         long = let l = d_less in let n = keeps.superblocks in omega arith
 
-        mine_share : share_for i (get_or c.superblocks.items d no_superblock) ≡ share.Nothing → ⊥
-        mine_share none = let g = may.cutting in let f = s.is_cutting in let z = ap cutting_in none in omega arith
+        mine_usage : usage_for i (get_or c.superblocks.items d no_superblock) ≡ usage.Nothing → ⊥
+        mine_usage none = let g = may.cutting in let f = s.is_cutting in let z = ap cutting_in none in omega arith
 
         first_step : first_of cs ≡ start_word k.capacity d
         first_step = first_steps (start_word k.capacity d) (words_of_class class) (blocks_of class) (let four = four_blocks class cut_class in omega arith) where

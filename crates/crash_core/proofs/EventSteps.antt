@@ -4,14 +4,14 @@ use Rattle.core_model.specs.declared.answer.StepAnswer.{StepAnswer}
 use Rattle.core_model.specs.declared.answer.StepAnswer.TheVariants.{Done, Stopped, NotNow}
 use Rattle.core_model.specs.declared.event.Event.{Event}
 use Rattle.core_model.specs.declared.event.Event.TheVariants.{Tick, Load, Store, Settle, LookUsed, TakeFresh, KeepUsed, LookHead, LookLink, Pop, Push, LookAnchor, TakeAll, Give}
-use Rattle.crash_core.specs.declared.owners.SeatNotes.{SeatNotes}
+use Rattle.seat_notes.specs.declared.notes.SeatNotes.{SeatNotes}
 use Rattle.crash_core.specs.declared.state.CoreState.{CoreState}
 use Rattle.core_model.specs.View.{Setup, View, one_if_some}
 use Rattle.core_model.specs.Guards.{HasTicketFor}
 use Rattle.core_model.specs.Memory.{memory_of}
 use Rattle.core_model.specs.Steps.{TableState, StepsTo, is_done, stops, not_now, has_stopped, state_after, seat_after}
 use Rattle.crash_core.specs.Standing.{IsCore, KeepsViews, StandsFor, HasTicketAt, Takes, Follows, Steps, steps_done, steps_stopped, steps_not, state_of}
-use Rattle.crash_core.proofs.WordLemmas.{entry_is, entry_there}
+use Rattle.seat_notes.proofs.WordLemmas.{entry_is, entry_there}
 
 -- what a seat has by its ticket
 ticket_for : (v : View) (ticket : Option ℕ) (event : Event) → v.ticket ≡ ticket → HasTicketAt ticket event → HasTicketFor v event

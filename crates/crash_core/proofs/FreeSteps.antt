@@ -1,14 +1,14 @@
 -- The core when a held block goes in front of a cache.
-use Rattle.std.proofs.Common.{◌≡◌, ◌≢◌, ℕ, zero, suc, ◌+◌, ◌<◌, ◌≤◌, ◌↔◌, inl, inr, true, nat_eq, List, [], ◌∷◌, get_or, set, length, refl, ap, sym, subst, ◌∙◌, length-set, eq-eqb, eqb-true, arith}
-use Rattle.std.proofs.lemmas.Bool.{cases_eq, cases_lt}
+use Rattle.std.proofs.Common.{◌≡◌, ◌≢◌, ℕ, suc, ◌+◌, ◌<◌, ◌≤◌, ◌↔◌, inl, inr, true, nat_eq, List, ◌∷◌, get_or, set, length, refl, ap, sym, subst, ◌∙◌, length-set, eq-eqb, eqb-true, arith}
+use Rattle.std.proofs.lemmas.Bool.{cases_lt}
 use Rattle.std.specs.Vec.{with_item}
 use Rattle.heap_model.specs.Geometry.{lists, start_word, superblocks_end}
 use Rattle.heap_model.specs.Sizes.{IsClass}
 use Rattle.heap_model.specs.Counting.{times, total, without}
 use Rattle.crash_core.specs.declared.owners.BlockPlace.{BlockPlace}
 use Rattle.crash_core.specs.declared.owners.BlockPlace.TheVariants as place
-use Rattle.crash_core.specs.declared.owners.Cache.{Cache}
-use Rattle.crash_core.specs.declared.owners.SeatNotes.{SeatNotes}
+use Rattle.seat_notes.specs.declared.notes.Cache.{Cache}
+use Rattle.seat_notes.specs.declared.notes.SeatNotes.{SeatNotes}
 use Rattle.crash_core.specs.declared.state.CoreState.{CoreState}
 use Rattle.core_model.specs.Cells.{superblock_at}
 use Rattle.core_model.specs.Memory.{next, info, memory_of}
@@ -21,32 +21,12 @@ use Rattle.core_model.proofs.TotalLemmas.{total_at, eq-eqb-one, ne-eqb-none}
 use Rattle.core_model.proofs.BlockLemmas.{total_lists}
 use Rattle.core_model.proofs.OwnerLemmas.{in_lists_total, which_class}
 use Rattle.crash_core.proofs.StandingLemmas.{memory_in, seat_capacity}
-use Rattle.crash_core.proofs.ClaimLemmas.{without_off}
-use Rattle.crash_core.proofs.ShareLemmas.{places_mine, places_theirs, place_alone}
-use Rattle.crash_core.proofs.WordLemmas.{entry_is}
-use Rattle.crash_core.proofs.CacheLemmas.{cache_set}
+use Rattle.seat_notes.proofs.CountLemmas.{without_off, short, list_at_most}
+use Rattle.crash_core.proofs.BlockPlaces.{places_mine, places_theirs, place_alone}
+use Rattle.seat_notes.proofs.WordLemmas.{entry_is}
+use Rattle.seat_notes.proofs.CacheLemmas.{cache_set}
 use Rattle.crash_core.proofs.MoveSteps as moves
-use Rattle.heap_model.proofs.ListLemmas.{length_without, without_at}
-
--- numbers below a limit, each there once at most, are at most as many
-pub short : (limit : ℕ) (bs : List ℕ) → ((b : ℕ) → 0 < times b bs → b < limit) → ((b : ℕ) → times b bs ≤ 1) → length bs ≤ limit
-short zero [] low once = omega arith
-short zero (b ∷ bs) low once = absurd (let l = low b (let one = eq-eqb-one b b refl in omega arith) in omega arith)
-short (suc n) bs low once = let l = length_without n bs in let rest = short n (without n bs)
-    (λ b some. elim (cases_eq b n) [
-      | inl here ↦ absurd (let z = without_at n bs (once n) in let e = ap (λ x. times x (without n bs)) here in omega arith)
-      | inr other ↦ let w = without_off b n bs other in let a = low b (omega arith) in omega arith
-    ])
-    (λ b. elim (cases_eq b n) [
-      | inl here ↦ let z = without_at n bs (once n) in let e = ap (λ x. times x (without n bs)) here in omega arith
-      | inr other ↦ let w = without_off b n bs other in let a = once b in omega arith
-    ]) in omega arith
-
--- one of some lists has a number no more often than all of them
-pub list_at_most : (b n : ℕ) (lists : List (List ℕ)) → times b (get_or lists n []) ≤ total (times b) lists
-list_at_most b n [] = omega arith
-list_at_most b zero (bs ∷ lists) = omega arith
-list_at_most b (suc n) (bs ∷ lists) = let rest = list_at_most b n lists in omega arith
+use Rattle.heap_model.proofs.ListLemmas.{without_at}
 
 held_only : (p : BlockPlace) → 0 < held_in p → (held_in p ≡ 1) × (cached_in p ≡ 0) × (batched_in p ≡ 0)
 held_only place.Nowhere some = absurd (omega arith)

@@ -7,10 +7,10 @@ use Rattle.std.specs.Vec.{with_item}
 use Rattle.heap_model.specs.Counting.{times}
 use Rattle.core_model.specs.declared.answer.StepAnswer.TheVariants.{Done, NotNow}
 use Rattle.core_model.specs.declared.event.Event.TheVariants.{TakeFresh}
-use Rattle.crash_core.specs.declared.owners.SeatNotes.{SeatNotes}
-use Rattle.crash_core.specs.declared.owners.Seen.{Seen}
-use Rattle.crash_core.specs.declared.owners.Share.TheVariants as share
-use Rattle.crash_core.specs.declared.owners.SuperblockOwner.{SuperblockOwner}
+use Rattle.seat_notes.specs.declared.notes.SeatNotes.{SeatNotes}
+use Rattle.seat_notes.specs.declared.notes.Seen.{Seen}
+use Rattle.seat_notes.specs.declared.superblocks.SuperblockUsage.TheVariants as usage
+use Rattle.seat_notes.specs.declared.superblocks.SuperblockOwner.{SuperblockOwner}
 use Rattle.crash_core.specs.declared.state.CoreState.{CoreState}
 use Rattle.core_model.specs.Memory.{used}
 use Rattle.core_model.specs.View.{Setup, View, one_if_some, times_raw, times_classed, times_large}
@@ -18,15 +18,17 @@ use Rattle.core_model.specs.Effects.{seen, cleared, steps, taken_fresh, lost}
 use Rattle.core_model.specs.Guards.{IsThere}
 use Rattle.core_model.specs.Sound.{Good}
 use Rattle.core_model.specs.Steps.{seat_after}
-use Rattle.crash_core.specs.Standing.{share_for, no_superblock, IsShare, IsKept, IsRange, KeepsViews, Steps, snapshot}
+use Rattle.seat_notes.specs.Superblocks.{usage_for, no_superblock, IsUsage, IsRange}
+use Rattle.crash_core.specs.Standing.{IsKept, KeepsViews, Steps}
+use Rattle.seat_notes.specs.Notes.{snapshot}
 use Rattle.core_model.proofs.TotalLemmas.{total_at}
 use Rattle.core_model.proofs.FrameLemmas.{below_is, below_not, times_steps}
 use Rattle.heap_model.proofs.ListLemmas.{times_append}
 use Rattle.core_model.proofs.PlaceLemmas.{pick}
 use Rattle.crash_core.proofs.StandingLemmas.{step_done, step_not, memory_in}
-use Rattle.crash_core.proofs.ShareLemmas.{no_share}
-use Rattle.crash_core.proofs.RangeLemmas.{range_mine, range_theirs}
-use Rattle.crash_core.proofs.WordLemmas.{entry_is}
+use Rattle.seat_notes.proofs.UsageLemmas.{no_usage}
+use Rattle.seat_notes.proofs.RangeLemmas.{range_mine, range_theirs}
+use Rattle.seat_notes.proofs.WordLemmas.{entry_is}
 
 module _ (c : CoreState) (k : Setup) (views : List View) (i : ℕ) (v : View) (t : SeatNotes) (keeps : KeepsViews c k views) (below_i : i < length views) (at : get_or views i v ≡ v)
     (at_t : get_or c.seats.items i t ≡ t) where
@@ -57,7 +59,7 @@ module _ (c : CoreState) (k : Setup) (views : List View) (i : ℕ) (v : View) (t
     lost_take n found is differs = step_not c k views i v (TakeFresh n) (λ may seen_now. differs (sym (now found is) ∙ seen_now ∙ ap seen saw))
 
     pub take_fresh : v.stopped ≡ None → IsThere v.ticket → (n found word : ℕ) → found ≡ get_or c.words.items 8 found → found ≡ mark → 1 ≤ n → mark + n ≤ k.capacity → word ≡ mark + n
-        → (owners : Vec SuperblockOwner Global) (anchor : Option Seen) → IsRange c.superblocks.items owners.items mark n (record { seat = i; share = share.Raw }) → snapshot anchor ≡ cleared mark n (snapshot t.seen_anchor)
+        → (owners : Vec SuperblockOwner Global) (anchor : Option Seen) → IsRange c.superblocks.items owners.items mark n (record { seat = i; usage = usage.Raw }) → snapshot anchor ≡ cleared mark n (snapshot t.seen_anchor)
         → Steps c (record c { words = with_item c.words 8 word; superblocks = owners; seats = with_item c.seats i (record t { ticket = None; seen_used = Some word; seen_anchor = anchor }) }) k views i v (TakeFresh n) Done
     take_fresh going ticket n found word is same some_n room word_is owners anchor range anchor_is =
         step_done c c' k views i v t t' (TakeFresh n) keeps below_i at at_t going ticket
@@ -77,8 +79,8 @@ module _ (c : CoreState) (k : Setup) (views : List View) (i : ℕ) (v : View) (t
           caches = kept.caches;
           batch = kept.batch;
           blocks = kept.blocks;
-          superblocks = range_mine c.superblocks.items owners.items i u n share.Raw (λ d y. IsShare d y (v.raw ++ steps u 1 n) v.split v.cutting v.classed v.large) range_u
-              (λ d low high. let o = subst (λ y. IsShare d y v.raw v.split v.cutting v.classed v.large) (fresh d low i t v below_i at kept) (kept.superblocks d) in record {
+          superblocks = range_mine c.superblocks.items owners.items i u n usage.Raw (λ d y. IsUsage d y (v.raw ++ steps u 1 n) v.split v.cutting v.classed v.large) range_u
+              (λ d low high. let o = subst (λ y. IsUsage d y v.raw v.split v.cutting v.classed v.large) (fresh d low i t v below_i at kept) (kept.superblocks d) in record {
                 is_raw = (let a = times_append d v.raw (steps u 1 n) in let b = times_steps d u n in let low_is = below_not d u low in let high_is = below_is d (u + n) high in let r = o.is_raw in omega arith);
                 is_split = o.is_split;
                 is_cutting = o.is_cutting;
@@ -103,7 +105,7 @@ module _ (c : CoreState) (k : Setup) (views : List View) (i : ℕ) (v : View) (t
           caches = h.caches;
           batch = h.batch;
           blocks = h.blocks;
-          superblocks = range_theirs c.superblocks.items owners.items i j u n share.Raw (λ d y. IsShare d y w.raw w.split w.cutting w.classed w.large) other range_u (λ d low high. fresh d low j s w b a h) h.superblocks;
+          superblocks = range_theirs c.superblocks.items owners.items i j u n usage.Raw (λ d y. IsUsage d y w.raw w.split w.cutting w.classed w.large) other range_u (λ d low high. fresh d low j s w b a h) h.superblocks;
           roots = h.roots;
         })
       where
@@ -113,8 +115,8 @@ module _ (c : CoreState) (k : Setup) (views : List View) (i : ℕ) (v : View) (t
         c' : CoreState
         c' = record c { words = with_item c.words 8 word; superblocks = owners; seats = with_item c.seats i t' }
 
-        range_u : IsRange c.superblocks.items owners.items u n (record { seat = i; share = share.Raw })
-        range_u = subst (λ x. IsRange c.superblocks.items owners.items x n (record { seat = i; share = share.Raw })) (sym (ap seen saw)) range
+        range_u : IsRange c.superblocks.items owners.items u n (record { seat = i; usage = usage.Raw })
+        range_u = subst (λ x. IsRange c.superblocks.items owners.items x n (record { seat = i; usage = usage.Raw })) (sym (ap seen saw)) range
 
         as_seen : used (memory_in c k) ≡ seen v.seen_used
         as_seen = now found is ∙ same ∙ sym (ap seen saw)
@@ -125,10 +127,10 @@ module _ (c : CoreState) (k : Setup) (views : List View) (i : ℕ) (v : View) (t
         won_it : seat_after (memory_in c k) v (TakeFresh n) ≡ taken_fresh v n
         won_it = pick (nat_eq (used (memory_in c k)) (seen v.seen_used)) (taken_fresh v n) (record (lost v (used (memory_in c k))) { seen_used = None }) test
 
-        fresh : (d : ℕ) → u ≤ d → (j : ℕ) (s : SeatNotes) (w : View) → j < length views → get_or views j w ≡ w → IsKept c j s w → share_for j (get_or c.superblocks.items d no_superblock) ≡ share.Nothing
+        fresh : (d : ℕ) → u ≤ d → (j : ℕ) (s : SeatNotes) (w : View) → j < length views → get_or views j w ≡ w → IsKept c j s w → usage_for j (get_or c.superblocks.items d no_superblock) ≡ usage.Nothing
         fresh d low j s w b a h = let p = good.shaped.placed.one_place d in let e = as_seen in let none = below_not d (used (memory_in c k)) (omega arith) in
             let raw = total_at (times_raw d) views j w b a in let classed = total_at (λ (x : View). times_classed d x.classed) views j w b a in let large = total_at (λ (x : View). times_large d x.large) views j w b a in
-            no_share d (share_for j (get_or c.superblocks.items d no_superblock)) w.raw w.split w.cutting w.classed w.large (h.superblocks d) (omega arith) (omega arith) (omega arith)
+            no_usage d (usage_for j (get_or c.superblocks.items d no_superblock)) w.raw w.split w.cutting w.classed w.large (h.superblocks d) (omega arith) (omega arith) (omega arith)
 
         none_there : (d : ℕ) → (u ≤ d → d < u + n → ⊥) → times d (steps u 1 n) ≡ 0
         none_there d out = elim (cases_lt d u) [

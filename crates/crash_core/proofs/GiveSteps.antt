@@ -1,5 +1,5 @@
 -- The core when a batch goes back to its superblock.
-use Rattle.std.proofs.Common.{◌≡◌, ◌≢◌, ℕ, ◌+◌, ◌-◌, ◌*◌, ◌/◌, ◌<◌, ◌≤◌, ◌↔◌, inl, inr, true, false, cond, nat_eq, List, [], ◌++◌, get_or, set, length, None, Some, refl, ap, ap₂, sym, subst, ◌∙◌, length-set, eq-eqb, eqb-true, ne_eqb, arith}
+use Rattle.std.proofs.Common.{◌≡◌, ◌≢◌, ℕ, ◌+◌, ◌-◌, ◌*◌, ◌/◌, ◌<◌, ◌≤◌, ◌↔◌, inl, inr, true, cond, nat_eq, List, [], ◌++◌, get_or, set, length, None, Some, refl, ap, ap₂, sym, subst, ◌∙◌, length-set, eq-eqb, eqb-true, ne_eqb, arith}
 use Rattle.std.proofs.lemmas.Bool.{cases_lt}
 use Rattle.std.specs.Prelude.{Vec}
 use Rattle.std.specs.declared.alloc.Global.{Global}
@@ -13,11 +13,10 @@ use Rattle.core_model.specs.declared.answer.StepAnswer.TheVariants.{Done, NotNow
 use Rattle.core_model.specs.declared.event.Event.TheVariants.{Give}
 use Rattle.crash_core.specs.declared.owners.BlockPlace.TheVariants as place
 use Rattle.crash_core.specs.declared.owners.BlockOwner.{BlockOwner}
-use Rattle.crash_core.specs.declared.owners.Group.{Group}
-use Rattle.crash_core.specs.declared.owners.SeatNotes.{SeatNotes}
-use Rattle.crash_core.specs.declared.owners.Seen.{Seen}
-use Rattle.crash_core.specs.declared.owners.Share.{Share}
-use Rattle.crash_core.specs.declared.owners.Share.TheVariants as share
+use Rattle.seat_notes.specs.declared.notes.SeatNotes.{SeatNotes}
+use Rattle.seat_notes.specs.declared.notes.Seen.{Seen}
+use Rattle.seat_notes.specs.declared.superblocks.SuperblockUsage.{SuperblockUsage}
+use Rattle.seat_notes.specs.declared.superblocks.SuperblockUsage.TheVariants as usage
 use Rattle.crash_core.specs.declared.state.CoreState.{CoreState}
 use Rattle.core_model.specs.Cells.{superblock_at}
 use Rattle.core_model.specs.Memory.{anchor, info, next, memory_of}
@@ -26,13 +25,15 @@ use Rattle.core_model.specs.Effects.{chain, first_of, last_of, seen_word, seen_o
 use Rattle.core_model.specs.Guards.{IsThere, MayGive}
 use Rattle.core_model.specs.Sound.{tally_of, times_cut, IsCutBlock, Good}
 use Rattle.core_model.specs.Steps.{seat_after}
-use Rattle.crash_core.specs.Standing.{share_for, no_superblock, no_block, listed, batched_in, IsPlace, IsShare, HasBlocksOf, HasNewOwner, IsKept, IsCore, KeepsViews, Steps, Decides, memory_at}
+use Rattle.seat_notes.specs.Superblocks.{usage_for, no_superblock, listed, IsUsage}
+use Rattle.crash_core.specs.Standing.{no_block, batched_in, IsPlace, HasBlocksOf, HasNewOwner, IsKept, IsCore, KeepsViews, Steps, Decides, memory_at}
 use Rattle.core_model.proofs.TotalLemmas.{total_at}
 use Rattle.core_model.proofs.SoundLemmas.{batched}
 use Rattle.core_model.proofs.PlaceLemmas.{pick}
 use Rattle.core_model.proofs.BlockLemmas.{first_there}
 use Rattle.crash_core.proofs.StandingLemmas.{step_done, step_not, memory_in}
-use Rattle.crash_core.proofs.ShareLemmas.{no_share, shares_theirs, place_alone}
+use Rattle.seat_notes.proofs.UsageLemmas.{no_usage, usages_theirs}
+use Rattle.crash_core.proofs.BlockPlaces.{place_alone}
 use Rattle.crash_core.proofs.ClaimLemmas.{claimed_kept}
 use Rattle.crash_core.proofs.ListSteps.{claimed_going}
 use Rattle.crash_core.proofs.KeptFacts as facts
@@ -42,10 +43,8 @@ use Rattle.crash_core.proofs.GivenLemmas.{given_mine, given_theirs}
 use Rattle.crash_core.proofs.ChainSteps.{chain_is, block_fits}
 use Rattle.core_model.proofs.AnchorLemmas as on_anchor
 use Rattle.core_model.proofs.GiveLemmas as gives
-use Rattle.crash_core.proofs.WordLemmas.{entry_there}
-
-abbrev pub empty_group : Group
-empty_group = record { descriptor = 0; class = 0; first = 0; last = 0; count = 0; linked = false }
+use Rattle.seat_notes.proofs.WordLemmas.{entry_there}
+use Rattle.seat_notes.proofs.NewSeat.{empty_group}
 
 trimmed_kept : (c : CoreState) (i : ℕ) (t : SeatNotes) (v : View) → IsKept c i t v → IsKept c i t (trimmed v)
 trimmed_kept c i t v h = record {
@@ -243,10 +242,10 @@ module _ (c : CoreState) (k : Setup) (views : List View) (i : ℕ) (v : View) (t
                     is = seat_is ∙ ap (λ x. trimmed (cond x (claimed w0 d class) w0)) (ne_eqb (seen_word v.seen_anchor) full_anchor (λ e. part (sym now ∙ as_seen ∙ e)))
 
               -- one that was full comes into the hand
-              pub give_full : v.stopped ≡ None → found ≡ full_anchor → (x : Share) → x ≡ listed t.batch.class
-                  → Steps c (record c { words = with_item c.words at_word left; blocks = blocks; superblocks = with_item c.superblocks d (record { seat = i; share = x }); seats = with_item c.seats i (record t { ticket = None; seen_anchor = None; batch = empty_group }) }) k views i v (Give d) Done
+              pub give_full : v.stopped ≡ None → found ≡ full_anchor → (x : SuperblockUsage) → x ≡ listed t.batch.class
+                  → Steps c (record c { words = with_item c.words at_word left; blocks = blocks; superblocks = with_item c.superblocks d (record { seat = i; usage = x }); seats = with_item c.seats i (record t { ticket = None; seen_anchor = None; batch = empty_group }) }) k views i v (Give d) Done
               give_full going full x x_is = step_done c c' k views i v t t' (Give d) keeps below at at_t going ticket may as_seen (ap (λ (y : View). y.stopped) is ∙ claimed_going w0 d class ∙ going) words_are
-                  refl (record { capacity = refl; budget = refl; blocks = given_chain.long; superblocks = length-set c.superblocks.items d (record { seat = i; share = x }); roots = refl })
+                  refl (record { capacity = refl; budget = refl; blocks = given_chain.long; superblocks = length-set c.superblocks.items d (record { seat = i; usage = x }); roots = refl })
                   (subst (IsKept c' i t') (sym is) (trimmed_kept c' i t' (claimed w0 d class)
                   (claimed_kept c' i t' w0 c.superblocks.items d class x (x_is ∙ ap listed (sym kept.batch.class)) refl long (nothing i t v below at kept) kept.superblocks
                   (let n = kept.notes in record { ticket = refl; stopped = n.stopped; seen_used = n.seen_used; seen_head = n.seen_head; seen_link = n.seen_link; seen_anchor = refl })
@@ -256,11 +255,11 @@ module _ (c : CoreState) (k : Setup) (views : List View) (i : ℕ) (v : View) (t
                     caches = h.caches;
                     batch = h.batch;
                     blocks = blocks_theirs j s u other h;
-                    superblocks = shares_theirs c.superblocks.items i j d x (λ e y. IsShare e y u.raw u.split u.cutting u.classed u.large) long other (nothing j s u b a h) h.superblocks;
+                    superblocks = usages_theirs c.superblocks.items i j d x (λ e y. IsUsage e y u.raw u.split u.cutting u.classed u.large) long other (nothing j s u b a h) h.superblocks;
                     roots = h.roots;
                   }) where
                     c' : CoreState
-                    c' = record c { words = with_item c.words at_word left; blocks = blocks; superblocks = with_item c.superblocks d (record { seat = i; share = x }); seats = with_item c.seats i t' }
+                    c' = record c { words = with_item c.words at_word left; blocks = blocks; superblocks = with_item c.superblocks d (record { seat = i; usage = x }); seats = with_item c.seats i t' }
 
                     is : seat_after (memory_in c k) v (Give d) ≡ trimmed (claimed w0 d class)
                     is = seat_is ∙ ap (λ y. trimmed (cond y (claimed w0 d class) w0)) (eq-eqb (seen_word v.seen_anchor) full_anchor (sym as_seen ∙ now ∙ full))
@@ -268,9 +267,9 @@ module _ (c : CoreState) (k : Setup) (views : List View) (i : ℕ) (v : View) (t
                     long : d < length c.superblocks.items
                     long = let l = d_less in let n = keeps.superblocks in omega arith
 
-                    nothing : (j : ℕ) (s : SeatNotes) (u : View) → j < length views → get_or views j u ≡ u → IsKept c j s u → share_for j (get_or c.superblocks.items d no_superblock) ≡ share.Nothing
+                    nothing : (j : ℕ) (s : SeatNotes) (u : View) → j < length views → get_or views j u ≡ u → IsKept c j s u → usage_for j (get_or c.superblocks.items d no_superblock) ≡ usage.Nothing
                     nothing j s u b a h = let none = on_anchor.not_here k (memory_in c k) views i v below at good d (batch_anchor v d) cut_d j u b a in
-                        no_share d (share_for j (get_or c.superblocks.items d no_superblock)) u.raw u.split u.cutting u.classed u.large (h.superblocks d) (let z = none.0 in omega arith)
+                        no_usage d (usage_for j (get_or c.superblocks.items d no_superblock)) u.raw u.split u.cutting u.classed u.large (h.superblocks d) (let z = none.0 in omega arith)
                         (elim (cases_lt 0 (times_classed d u.classed)) [
                           | inl claimed_it ↦ absurd (let l = ((good.claims j u b a).is_classed d claimed_it).2 in let e = ap anchor_state (now ∙ full) in let two : anchor_state 2 ≡ 2 = refl in omega arith)
                           | inr not_claimed ↦ omega arith

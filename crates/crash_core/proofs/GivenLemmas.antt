@@ -10,7 +10,7 @@ use Rattle.crash_core.specs.declared.owners.BlockOwner.{BlockOwner}
 use Rattle.core_model.specs.Effects.{chain}
 use Rattle.crash_core.specs.Standing.{place_for, no_block, HasNewOwner}
 use Rattle.core_model.proofs.TotalLemmas.{eq-eqb-one, ne-eqb-none}
-use Rattle.crash_core.proofs.ShareLemmas.{place_own, place_theirs}
+use Rattle.crash_core.proofs.BlockPlaces.{place_own, place_theirs}
 
 pub some_left : (next : ℕ → ℕ) (at left : ℕ) → 0 < left → 0 < times at (chain next at left)
 some_left next at zero some = absurd (omega arith)

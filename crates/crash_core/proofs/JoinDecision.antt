@@ -2,14 +2,15 @@
 use Rattle.std.proofs.Common.{◌≡◌, ◌≢◌, ℕ, ◌+◌, ◌<◌, ◌≤◌, ◌↔◌, inl, inr, true, cond, nat_eq, List, get_or, length, refl, ap, sym, subst, ◌∙◌, eq-eqb, eqb-true, arith}
 use Rattle.std.proofs.lemmas.Bool.{cases_eq}
 use Rattle.heap_model.specs.Words.{anchor_state, large_info}
-use Rattle.crash_core.specs.declared.owners.SeatNotes.{SeatNotes}
-use Rattle.crash_core.specs.declared.owners.Share.{Share}
-use Rattle.crash_core.specs.declared.owners.Share.TheVariants as share
+use Rattle.seat_notes.specs.declared.notes.SeatNotes.{SeatNotes}
+use Rattle.seat_notes.specs.declared.superblocks.SuperblockUsage.{SuperblockUsage}
+use Rattle.seat_notes.specs.declared.superblocks.SuperblockUsage.TheVariants as usage
 use Rattle.crash_core.specs.declared.state.CoreState.{CoreState}
 use Rattle.core_model.specs.Memory.{info, anchor, durable_used, durable_info, memory_of}
 use Rattle.core_model.specs.View.{Setup, View}
 use Rattle.core_model.specs.Guards.{MayHoldLarge}
-use Rattle.crash_core.specs.Standing.{share_for, no_superblock, raw_in, split_in, IsKept, IsCore, KeepsViews, MayJoin, memory_at}
+use Rattle.seat_notes.specs.Superblocks.{usage_for, no_superblock, raw_in, split_in}
+use Rattle.crash_core.specs.Standing.{IsKept, IsCore, KeepsViews, MayJoin, memory_at}
 use Rattle.core_model.proofs.PlaceLemmas.{pick, skip, not-eq}
 use Rattle.crash_core.proofs.StandingLemmas.{memory_in}
 
@@ -59,7 +60,7 @@ module _ (c : CoreState) (k : Setup) (views : List View) (i : ℕ) (v : View) (t
     pub other_durable : (found : ℕ) → found ≡ durable_info (memory_at c) e → found ≢ wanted → MayJoin (memory_in c k) v d n e → ⊥
     other_durable found is differs may = differs (is ∙ ap (λ m. durable_info m e) same ∙ may.durable ∙ may.holds ∙ sym wanted_is)
 
-    pub unclaimed : (x : Share) → x ≡ share_for i (get_or c.superblocks.items e no_superblock) → raw_in x + split_in x ≡ 0 → MayJoin (memory_in c k) v d n e → ⊥
+    pub unclaimed : (x : SuperblockUsage) → x ≡ usage_for i (get_or c.superblocks.items e no_superblock) → raw_in x + split_in x ≡ 0 → MayJoin (memory_in c k) v d n e → ⊥
     unclaimed x is none may = let o = kept.superblocks e in let a = o.is_raw in let b = o.is_split in let g = may.claimed in let h = ap (λ y. raw_in y + split_in y) is in omega arith
 
     module _ (now kept_now : ℕ) (now_is : now ≡ info (memory_at c) e) (same_now : now ≡ wanted) (kept_is : kept_now ≡ durable_info (memory_at c) e) (same_kept : kept_now ≡ wanted) where
@@ -69,10 +70,10 @@ module _ (c : CoreState) (k : Setup) (views : List View) (i : ℕ) (v : View) (t
       durable_now : durable_info (memory_in c k) e ≡ info (memory_in c k) e
       durable_now = ap (λ m. durable_info m e) (sym same) ∙ sym kept_is ∙ same_kept ∙ sym same_now ∙ now_is ∙ ap (λ m. info m e) same
 
-      pub join_split : share.Split ≡ share_for i (get_or c.superblocks.items e no_superblock) → MayJoin (memory_in c k) v d n e
+      pub join_split : usage.Split ≡ usage_for i (get_or c.superblocks.items e no_superblock) → MayJoin (memory_in c k) v d n e
       join_split is = let o = kept.superblocks e in let b = o.is_split in let h = ap split_in is in record { claimed = omega arith; empty = inr (omega arith); holds = info_now; durable = durable_now }
 
-      pub join_raw : (state word : ℕ) → share.Raw ≡ share_for i (get_or c.superblocks.items e no_superblock) → state ≡ anchor_state word → word ≡ anchor (memory_at c) e → (nat_eq state 0 ≡ true) ↔ MayJoin (memory_in c k) v d n e
+      pub join_raw : (state word : ℕ) → usage.Raw ≡ usage_for i (get_or c.superblocks.items e no_superblock) → state ≡ anchor_state word → word ≡ anchor (memory_at c) e → (nat_eq state 0 ≡ true) ↔ MayJoin (memory_in c k) v d n e
       join_raw state word is state_is word_is = (
         λ h. let o = kept.superblocks e in let a = o.is_raw in let f = ap raw_in is in record { claimed = omega arith; empty = inl (at_now ∙ eqb-true state 0 h); holds = info_now; durable = durable_now },
         λ may. eq-eqb state 0 (elim may.empty [

@@ -1,23 +1,23 @@
 -- What is so of a seat of a state that the core stands for.
-use Rattle.std.proofs.Common.{◌≡◌, ◌≢◌, ℕ, ◌-◌, ◌<◌, ◌≤◌, inl, inr, List, [], ◌∷◌, get_or, length, None, Some, ap, sym, subst, ◌∙◌, arith}
-use Rattle.std.proofs.lemmas.Bool.{cases_eq}
-use Rattle.heap_model.specs.Counting.{times, total}
+use Rattle.std.proofs.Common.{◌≡◌, ◌≢◌, ℕ, ◌-◌, ◌<◌, ◌≤◌, List, get_or, length, None, Some, ap, sym, subst, ◌∙◌, arith}
 use Rattle.heap_model.specs.Rest.{list_numbers}
 use Rattle.heap_model.specs.Geometry.{lists}
 use Rattle.heap_model.specs.Words.{head_first, head_pops}
-use Rattle.crash_core.specs.declared.owners.SeatNotes.{SeatNotes}
-use Rattle.crash_core.specs.declared.owners.Seen.{Seen}
+use Rattle.seat_notes.specs.declared.notes.SeatNotes.{SeatNotes}
+use Rattle.seat_notes.specs.declared.notes.Seen.{Seen}
 use Rattle.crash_core.specs.declared.state.CoreState.{CoreState}
 use Rattle.core_model.specs.Cells.{head_cell}
 use Rattle.core_model.specs.Memory.{memory_of, table_length}
 use Rattle.core_model.specs.View.{Setup, View, one_if_some}
 use Rattle.core_model.specs.Effects.{seen_word, seen_of}
 use Rattle.core_model.specs.Guards.{IsThere}
-use Rattle.crash_core.specs.Standing.{IsKept, IsCore, KeepsViews, snapshot}
+use Rattle.crash_core.specs.Standing.{IsKept, IsCore, KeepsViews}
+use Rattle.seat_notes.specs.Notes.{snapshot}
 use Rattle.core_model.proofs.QuietLemmas.{not_there}
-use Rattle.core_model.proofs.TotalLemmas.{total_at, ne-eqb-none}
+use Rattle.core_model.proofs.TotalLemmas.{total_at}
 use Rattle.core_model.proofs.ListLemmas.{number_once}
-use Rattle.crash_core.proofs.WordLemmas.{entry_there}
+use Rattle.seat_notes.proofs.WordLemmas.{entry_there}
+use Rattle.seat_notes.proofs.CountLemmas.{total_member}
 
 module _ (c : CoreState) (k : Setup) (views : List View) (i : ℕ) (v : View) (t : SeatNotes) (keeps : KeepsViews c k views) (below : i < length views) (at : get_or views i v ≡ v)
     (at_t : get_or c.seats.items i t ≡ t) where
@@ -69,13 +69,6 @@ head_fits c i t head core less at_t some =
       long = omega arith;
       superblocks = omega arith;
     }
-
-pub total_member : (f : ℕ → ℕ) (n : ℕ) (ns : List ℕ) → 0 < times n ns → f n ≤ total f ns
-total_member f n [] some = absurd (omega arith)
-total_member f n (m ∷ ns) some = elim (cases_eq m n) [
-  | inl here ↦ let e = ap f here in omega arith
-  | inr other ↦ let none = ne-eqb-none m n other in let rest = total_member f n ns (omega arith) in omega arith
-]
 
 -- a head that is as it was seen, and whose link was read, has a first descriptor, and may count one pop more
 pub record PopFits (head : Seen) : Type 0 where

@@ -1,7 +1,6 @@
 pub mod CrashLemmas
 pub mod StandingLemmas
-pub mod WordLemmas
-pub mod ShareLemmas
+pub mod BlockPlaces
 pub mod ReadLemmas
 pub mod KeptFacts
 pub mod ClaimLemmas
@@ -17,11 +16,9 @@ pub mod LiftSteps
 pub mod SplitSteps
 pub mod LargeSteps
 pub mod JoinDecision
-pub mod RangeLemmas
 pub mod FreshSteps
 pub mod LookSteps
 pub mod GivenLemmas
-pub mod CacheLemmas
 pub mod ChainSteps
 pub mod TakeAllSteps
 pub mod CutSteps
@@ -29,7 +26,5 @@ pub mod GiveSteps
 pub mod TickSteps
 pub mod EventSteps
 pub mod RunSteps
-pub mod PickedLemmas
 pub mod OpenedBlocks
-pub mod OpenedSuperblocks
 pub mod OpenedCore

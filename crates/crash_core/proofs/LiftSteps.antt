@@ -2,10 +2,9 @@
 use Rattle.std.proofs.Common.{◌≡◌, ◌≢◌, ℕ, ◌+◌, ◌-◌, ◌<◌, ◌≤◌, ◌↔◌, true, false, cond, nat_eq, List, [], ◌∷◌, ◌++◌, get_or, set, length, refl, ap, ap₂, sym, subst, ◌∙◌, length-set, eq-eqb, eqb-true, true≢false, arith}
 use Rattle.std.specs.Vec.{with_item}
 use Rattle.heap_model.specs.Geometry.{start_word, superblocks_end}
-use Rattle.heap_model.specs.Counting.{times}
 use Rattle.crash_core.specs.declared.owners.BlockPlace.TheVariants as place
-use Rattle.crash_core.specs.declared.owners.Cache.{Cache}
-use Rattle.crash_core.specs.declared.owners.SeatNotes.{SeatNotes}
+use Rattle.seat_notes.specs.declared.notes.Cache.{Cache}
+use Rattle.seat_notes.specs.declared.notes.SeatNotes.{SeatNotes}
 use Rattle.crash_core.specs.declared.state.CoreState.{CoreState}
 use Rattle.core_model.specs.Cells.{superblock_at}
 use Rattle.core_model.specs.Memory.{next, memory_of}
@@ -17,30 +16,12 @@ use Rattle.crash_core.specs.Standing.{no_block, IsPlace, IsKept, KeepsViews, IsM
 use Rattle.core_model.proofs.TotalLemmas.{eq-eqb-one, ne-eqb-none}
 use Rattle.heap_model.proofs.ListLemmas.{times_append}
 use Rattle.core_model.proofs.BlockLemmas.{total_lists}
-use Rattle.core_model.proofs.PlaceLemmas.{skip, not-eq}
 use Rattle.crash_core.proofs.StandingLemmas.{memory_in, seat_capacity}
-use Rattle.crash_core.proofs.ShareLemmas.{places_mine, places_theirs, place_alone}
-use Rattle.crash_core.proofs.FreeSteps.{short, once}
+use Rattle.crash_core.proofs.BlockPlaces.{places_mine, places_theirs, place_alone}
+use Rattle.seat_notes.proofs.CountLemmas.{short}
+use Rattle.crash_core.proofs.FreeSteps.{once}
 use Rattle.crash_core.proofs.MoveSteps as moves
-
-pub first_append : (bs : List ℕ) (b : ℕ) → first_of (bs ++ b ∷ []) ≡ cond (nat_eq (length bs) 0) b (first_of bs)
-first_append [] b = refl
-first_append (a ∷ bs) b = sym (skip (nat_eq (length (a ∷ bs)) 0) b a (not-eq (length (a ∷ bs)) 0 (λ e. omega (arith, e))))
-
-pub last_append : (bs : List ℕ) (b : ℕ) → last_of (bs ++ b ∷ []) ≡ b
-last_append [] b = refl
-last_append (a ∷ []) b = refl
-last_append (a ∷ n ∷ bs) b = last_append (n ∷ bs) b
-
-pub length_append : (bs : List ℕ) (b : ℕ) → length (bs ++ b ∷ []) ≡ length bs + 1
-length_append [] b = refl
-length_append (a ∷ bs) b = let rest = length_append bs b in omega arith
-
--- the last of some blocks is one of them
-pub last_there : (bs : List ℕ) → 1 ≤ length bs → 0 < times (last_of bs) bs
-last_there [] some = absurd (omega arith)
-last_there (a ∷ []) some = let one = eq-eqb-one a a refl in omega arith
-last_there (a ∷ n ∷ bs) some = let rest = last_there (n ∷ bs) (omega arith) in omega arith
+use Rattle.seat_notes.proofs.EndLemmas.{first_append, last_append, length_append, last_there}
 
 module _ (c : CoreState) (k : Setup) (views : List View) (i : ℕ) (v : View) (t : SeatNotes) (keeps : KeepsViews c k views) (below : i < length views) (at : get_or views i v ≡ v)
     (at_t : get_or c.seats.items i t ≡ t) where

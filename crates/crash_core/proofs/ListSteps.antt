@@ -7,10 +7,10 @@ use Rattle.heap_model.specs.Geometry.{lists}
 use Rattle.heap_model.specs.Words.{head_of, head_first, head_pops}
 use Rattle.core_model.specs.declared.answer.StepAnswer.TheVariants.{Done, NotNow}
 use Rattle.core_model.specs.declared.event.Event.TheVariants.{Pop, Push}
-use Rattle.crash_core.specs.declared.owners.SeatNotes.{SeatNotes}
-use Rattle.crash_core.specs.declared.owners.Seen.{Seen}
-use Rattle.crash_core.specs.declared.owners.Share.{Share}
-use Rattle.crash_core.specs.declared.owners.Share.TheVariants as share
+use Rattle.seat_notes.specs.declared.notes.SeatNotes.{SeatNotes}
+use Rattle.seat_notes.specs.declared.notes.Seen.{Seen}
+use Rattle.seat_notes.specs.declared.superblocks.SuperblockUsage.{SuperblockUsage}
+use Rattle.seat_notes.specs.declared.superblocks.SuperblockUsage.TheVariants as usage
 use Rattle.crash_core.specs.declared.state.CoreState.{CoreState}
 use Rattle.core_model.specs.Cells.{head_cell, link_cell}
 use Rattle.core_model.specs.Memory.{volatile_at, used}
@@ -19,16 +19,18 @@ use Rattle.core_model.specs.Effects.{seen, seen_word, seen_of, before, cleared, 
 use Rattle.core_model.specs.Guards.{IsThere, MayPush, MayList, as_free, of_its_class}
 use Rattle.core_model.specs.Sound.{Good, KnowsHead}
 use Rattle.core_model.specs.Steps.{seat_after}
-use Rattle.crash_core.specs.Standing.{share_for, no_superblock, listed, IsShare, IsKept, KeepsViews, Steps, snapshot}
+use Rattle.seat_notes.specs.Superblocks.{usage_for, no_superblock, listed, IsUsage}
+use Rattle.crash_core.specs.Standing.{IsKept, KeepsViews, Steps}
+use Rattle.seat_notes.specs.Notes.{snapshot}
 use Rattle.core_model.proofs.TotalLemmas.{total_at}
 use Rattle.heap_model.proofs.ListLemmas.{one_at_most}
 use Rattle.core_model.proofs.ListLemmas.{in_lists_at, before_is}
 use Rattle.core_model.proofs.PlaceLemmas.{pick, skip}
 use Rattle.crash_core.proofs.StandingLemmas.{step_done, step_not, memory_in}
 use Rattle.crash_core.proofs.KeptFacts as facts
-use Rattle.crash_core.proofs.ShareLemmas.{no_share, share_alone, shares_theirs}
+use Rattle.seat_notes.proofs.UsageLemmas.{no_usage, usage_alone, usages_theirs}
 use Rattle.crash_core.proofs.ClaimLemmas.{claimed_kept, raw_given_up, class_given_up}
-use Rattle.crash_core.proofs.WordLemmas.{entry_is, read_is}
+use Rattle.seat_notes.proofs.WordLemmas.{entry_is, read_is}
 
 pub claimed_going : (base : View) (d list : ℕ) → (claimed base d list).stopped ≡ base.stopped
 claimed_going base d zero = refl
@@ -56,9 +58,9 @@ module _ (c : CoreState) (k : Setup) (views : List View) (i : ℕ) (v : View) (t
       (omega arith, omega arith, omega arith)
 
   nothing : (list d : ℕ) → list < lists → 0 < times d (good.shape.lists list) → (j : ℕ) (s : SeatNotes) (u : View) → j < length views → get_or views j u ≡ u → IsKept c j s u
-      → share_for j (get_or c.superblocks.items d no_superblock) ≡ share.Nothing
+      → usage_for j (get_or c.superblocks.items d no_superblock) ≡ usage.Nothing
   nothing list d is some j s u b a h = let z = listed_alone list d is some j u b a in
-      no_share d (share_for j (get_or c.superblocks.items d no_superblock)) u.raw u.split u.cutting u.classed u.large (h.superblocks d) z.0 z.1 z.2
+      no_usage d (usage_for j (get_or c.superblocks.items d no_superblock)) u.raw u.split u.cutting u.classed u.large (h.superblocks d) z.0 z.1 z.2
 
   module _ (head : Seen) (some : t.seen_head ≡ Some head) where
     is : v.seen_head ≡ Some (record { of = head.of; word = head.word })
@@ -98,18 +100,18 @@ module _ (c : CoreState) (k : Setup) (views : List View) (i : ℕ) (v : View) (t
       index : at_word ≡ 16 + seen_of v.seen_head
       index = let e = of_is in omega arith
 
-      pub pop : (link : ℕ) → t.seen_link ≡ Some link → (word d : ℕ) (x : Share) (anchor : Option Seen) → word ≡ head_of (head_first link) (head_pops head.word + 1)
+      pub pop : (link : ℕ) → t.seen_link ≡ Some link → (word d : ℕ) (x : SuperblockUsage) (anchor : Option Seen) → word ≡ head_of (head_first link) (head_pops head.word + 1)
           → d ≡ head_first head.word - 1 → x ≡ listed head.of → snapshot anchor ≡ cleared d 1 (snapshot t.seen_anchor)
           → Steps c (record c {
             words = with_item c.words at_word word;
-            superblocks = with_item c.superblocks d (record { seat = i; share = x });
+            superblocks = with_item c.superblocks d (record { seat = i; usage = x });
             seats = with_item c.seats i (record t { ticket = None; seen_head = None; seen_link = None; seen_anchor = anchor });
           }) k views i v Pop Done
       pop link some_link word d x anchor word_new d_new x_is anchor_is =
           step_done c c' k views i v t t' Pop keeps below at at_t going ticket (record { is_seen = ap one_if_some is; link = ap one_if_some saw_link }) as_seen
           (ap (λ (y : View). y.stopped) seat_is ∙ claimed_going base d (seen_of v.seen_head) ∙ going)
           (ap₂ (λ n y. set c.words.items n y) index (word_new ∙ sym (pick (nat_eq ((memory_in c k).volatile (head_cell (seen_of v.seen_head))) (seen_word v.seen_head)) (popped_head v) ((memory_in c k).volatile (head_cell (seen_of v.seen_head))) test ∙ left)))
-          refl (record { capacity = refl; budget = refl; blocks = refl; superblocks = length-set c.superblocks.items d (record { seat = i; share = x }); roots = refl })
+          refl (record { capacity = refl; budget = refl; blocks = refl; superblocks = length-set c.superblocks.items d (record { seat = i; usage = x }); roots = refl })
           (subst (IsKept c' i t') (sym seat_is)
           (claimed_kept c' i t' base c.superblocks.items d (seen_of v.seen_head) x (x_is ∙ ap listed (sym of_is)) refl (subst (λ n. d < n) (sym keeps.superblocks) less) (nothing (seen_of v.seen_head) d is_list in_list i t v below at kept)
           kept.superblocks
@@ -120,7 +122,7 @@ module _ (c : CoreState) (k : Setup) (views : List View) (i : ℕ) (v : View) (t
             caches = h.caches;
             batch = h.batch;
             blocks = h.blocks;
-            superblocks = shares_theirs c.superblocks.items i j d x (λ e y. IsShare e y u.raw u.split u.cutting u.classed u.large) (subst (λ n. d < n) (sym keeps.superblocks) less) other (nothing (seen_of v.seen_head) d is_list in_list j s u b a h) h.superblocks;
+            superblocks = usages_theirs c.superblocks.items i j d x (λ e y. IsUsage e y u.raw u.split u.cutting u.classed u.large) (subst (λ n. d < n) (sym keeps.superblocks) less) other (nothing (seen_of v.seen_head) d is_list in_list j s u b a h) h.superblocks;
             roots = h.roots;
           })
         where
@@ -128,7 +130,7 @@ module _ (c : CoreState) (k : Setup) (views : List View) (i : ℕ) (v : View) (t
           t' = record t { ticket = None; seen_head = None; seen_link = None; seen_anchor = anchor }
 
           c' : CoreState
-          c' = record c { words = with_item c.words at_word word; superblocks = with_item c.superblocks d (record { seat = i; share = x }); seats = with_item c.seats i t' }
+          c' = record c { words = with_item c.words at_word word; superblocks = with_item c.superblocks d (record { seat = i; usage = x }); seats = with_item c.seats i t' }
 
           base : View
           base = record (won v) { seen_head = None; seen_link = None; seen_anchor = cleared d 1 v.seen_anchor }
@@ -158,7 +160,7 @@ module _ (c : CoreState) (k : Setup) (views : List View) (i : ℕ) (v : View) (t
           → snapshot anchor ≡ cleared d 1 (snapshot t.seen_anchor)
           → Steps c (record c {
             words = with_item c.words at_word word;
-            superblocks = with_item c.superblocks d (record { seat = i; share = share.Nothing });
+            superblocks = with_item c.superblocks d (record { seat = i; usage = usage.Nothing });
             seats = with_item c.seats i (record t { ticket = None; seen_head = None; seen_anchor = anchor });
           }) k views i v (Push d) Done
       push d may less word anchor word_new anchor_is = by_claim (nat_lt 0 (times d v.raw + times d v.split)) refl where
@@ -166,7 +168,7 @@ module _ (c : CoreState) (k : Setup) (views : List View) (i : ℕ) (v : View) (t
         t' = record t { ticket = None; seen_head = None; seen_anchor = anchor }
 
         c' : CoreState
-        c' = record c { words = with_item c.words at_word word; superblocks = with_item c.superblocks d (record { seat = i; share = share.Nothing }); seats = with_item c.seats i t' }
+        c' = record c { words = with_item c.words at_word word; superblocks = with_item c.superblocks d (record { seat = i; usage = usage.Nothing }); seats = with_item c.seats i t' }
 
         won_it : seat_after (memory_in c k) v (Push d) ≡ pushed v d
         won_it = pick (nat_eq ((memory_in c k).volatile (head_cell (seen_of v.seen_head))) (seen_word v.seen_head)) (pushed v d) (record (lost v ((memory_in c k).volatile (head_cell (seen_of v.seen_head)))) { seen_head = None }) test
@@ -175,10 +177,10 @@ module _ (c : CoreState) (k : Setup) (views : List View) (i : ℕ) (v : View) (t
         words_are = ap₂ (λ n y. set c.words.items n y) index (word_new ∙ sym (pick (nat_eq ((memory_in c k).volatile (head_cell (seen_of v.seen_head))) (seen_word v.seen_head)) (pushed_head v d) ((memory_in c k).volatile (head_cell (seen_of v.seen_head))) test
             ∙ ap (λ b. head_of (d + 1) (head_pops b)) word_is))
 
-        mine_share : share_for i (get_or c.superblocks.items d no_superblock) ≡ share.Nothing → ⊥
-        mine_share none = let o = subst (λ y. IsShare d y v.raw v.split v.cutting v.classed v.large) none (kept.superblocks d) in
+        mine_usage : usage_for i (get_or c.superblocks.items d no_superblock) ≡ usage.Nothing → ⊥
+        mine_usage none = let o = subst (λ y. IsUsage d y v.raw v.split v.cutting v.classed v.large) none (kept.superblocks d) in
             claims_none (seen_of v.seen_head) may.listed o where
-              claims_none : (list : ℕ) → MayList (memory_in c k) v d list → IsShare d share.Nothing v.raw v.split v.cutting v.classed v.large → ⊥
+              claims_none : (list : ℕ) → MayList (memory_in c k) v d list → IsUsage d usage.Nothing v.raw v.split v.cutting v.classed v.large → ⊥
               claims_none list (as_free l is_zero claimed empty) o = let a = o.is_raw in let b = o.is_split in let e = o.is_cutting in let f = o.is_classed in let g = claimed.claimed in absurd (omega arith)
               claims_none list (of_its_class l apart classed class_is state_now) o = let f = o.is_classed in absurd (omega arith)
 
@@ -188,14 +190,14 @@ module _ (c : CoreState) (k : Setup) (views : List View) (i : ℕ) (v : View) (t
           caches = h.caches;
           batch = h.batch;
           blocks = h.blocks;
-          superblocks = shares_theirs c.superblocks.items i j d share.Nothing (λ e y. IsShare e y u.raw u.split u.cutting u.classed u.large) less other
-              (share_alone i j (get_or c.superblocks.items d no_superblock) other mine_share) h.superblocks;
+          superblocks = usages_theirs c.superblocks.items i j d usage.Nothing (λ e y. IsUsage e y u.raw u.split u.cutting u.classed u.large) less other
+              (usage_alone i j (get_or c.superblocks.items d no_superblock) other mine_usage) h.superblocks;
           roots = h.roots;
         }
 
         done : (w : View) → seat_after (memory_in c k) v (Push d) ≡ w → w.stopped ≡ None → IsKept c' i t' w → Steps c c' k views i v (Push d) Done
         done w is_w on mine = step_done c c' k views i v t t' (Push d) keeps below at at_t going ticket may as_seen (ap (λ (y : View). y.stopped) is_w ∙ on) words_are refl
-            (record { capacity = refl; budget = refl; blocks = refl; superblocks = length-set c.superblocks.items d (record { seat = i; share = share.Nothing }); roots = refl })
+            (record { capacity = refl; budget = refl; blocks = refl; superblocks = length-set c.superblocks.items d (record { seat = i; usage = usage.Nothing }); roots = refl })
             (subst (IsKept c' i t') (sym is_w) mine) theirs
 
         by_claim : (some : Bool) → nat_lt 0 (times d v.raw + times d v.split) ≡ some → Steps c c' k views i v (Push d) Done

@@ -1,11 +1,12 @@
 -- When an anchor may be read, by what the core keeps.
 use Rattle.std.proofs.Common.{◌≡◌, ◌≢◌, ℕ, ◌+◌, ◌<◌, ◌≤◌, ◌↔◌, inl, inr, true, nat_eq, List, get_or, length, sym, ◌∙◌, eq-eqb, eqb-true, arith}
-use Rattle.crash_core.specs.declared.owners.SeatNotes.{SeatNotes}
-use Rattle.crash_core.specs.declared.owners.Share.{Share}
+use Rattle.seat_notes.specs.declared.notes.SeatNotes.{SeatNotes}
+use Rattle.seat_notes.specs.declared.superblocks.SuperblockUsage.{SuperblockUsage}
 use Rattle.crash_core.specs.declared.state.CoreState.{CoreState}
 use Rattle.core_model.specs.View.{Setup, View}
 use Rattle.core_model.specs.Guards.{MayLookAt}
-use Rattle.crash_core.specs.Standing.{share_for, no_superblock, raw_in, split_in, classed_in, IsShare, IsKept, KeepsViews}
+use Rattle.seat_notes.specs.Superblocks.{usage_for, no_superblock, raw_in, split_in, classed_in, IsUsage}
+use Rattle.crash_core.specs.Standing.{IsKept, KeepsViews}
 use Rattle.core_model.proofs.SoundLemmas.{taken, batched}
 use Rattle.crash_core.proofs.StandingLemmas.{memory_in}
 use Rattle.crash_core.proofs.PushDecision.{freely_not_cutting}
@@ -15,10 +16,10 @@ module _ (c : CoreState) (k : Setup) (views : List View) (i : ℕ) (v : View) (t
   kept : IsKept c i t v
   kept = keeps.each i t v below at_t at
 
-  abbrev x : Share
-  x = share_for i (get_or c.superblocks.items d no_superblock)
+  abbrev x : SuperblockUsage
+  x = usage_for i (get_or c.superblocks.items d no_superblock)
 
-  s : IsShare d x v.raw v.split v.cutting v.classed v.large
+  s : IsUsage d x v.raw v.split v.cutting v.classed v.large
   s = kept.superblocks d
 
   pub anchor_beyond : c.geometry.capacity ≤ d → MayLookAt v d → ⊥

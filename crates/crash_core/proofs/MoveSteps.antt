@@ -1,15 +1,14 @@
 -- The core when a block goes from a cache to what its seat holds.
-use Rattle.std.proofs.Common.{◌≡◌, ◌≢◌, ℕ, ◌+◌, ◌-◌, ◌<◌, ◌≤◌, ◌↔◌, true, nat_eq, nat_lt, List, [], ◌∷◌, get_or, set, length, refl, ap, sym, subst, ◌∙◌, length-set, lt-ltb, ltb-true, arith}
+use Rattle.std.proofs.Common.{◌≡◌, ◌≢◌, ℕ, ◌+◌, ◌-◌, ◌<◌, ◌≤◌, ◌↔◌, true, nat_eq, nat_lt, List, ◌∷◌, get_or, set, length, refl, ap, sym, subst, ◌∙◌, length-set, lt-ltb, ltb-true, arith}
 use Rattle.std.specs.Vec.{with_item}
 use Rattle.heap_model.specs.Geometry.{lists, start_word, superblocks_end}
 use Rattle.heap_model.specs.Sizes.{words_of_class, last_class}
 use Rattle.heap_model.specs.Counting.{times, total, one_if}
-use Rattle.heap_model.specs.Chains.{Walks}
 use Rattle.heap_model.proofs.SizeLemmas.{two_words}
 use Rattle.crash_core.specs.declared.owners.BlockPlace.{BlockPlace}
 use Rattle.crash_core.specs.declared.owners.BlockPlace.TheVariants as place
-use Rattle.crash_core.specs.declared.owners.Cache.{Cache}
-use Rattle.crash_core.specs.declared.owners.SeatNotes.{SeatNotes}
+use Rattle.seat_notes.specs.declared.notes.Cache.{Cache}
+use Rattle.seat_notes.specs.declared.notes.SeatNotes.{SeatNotes}
 use Rattle.crash_core.specs.declared.state.CoreState.{CoreState}
 use Rattle.core_model.specs.Cells.{superblock_at}
 use Rattle.core_model.specs.Memory.{next, info, memory_of}
@@ -17,33 +16,24 @@ use Rattle.core_model.specs.View.{Setup, View, of_class, times_block}
 use Rattle.core_model.specs.Effects.{first_of, rest_of, after_alloc}
 use Rattle.core_model.specs.Guards.{MayAlloc}
 use Rattle.core_model.specs.Sound.{Good}
-use Rattle.crash_core.specs.Standing.{HasCaches, place_for, no_block, held_in, cached_in, batched_in, IsPlace, IsKept, IsCore, KeepsViews, IsMoved, Decides, memory_at}
+use Rattle.seat_notes.specs.Notes.{HasCaches}
+use Rattle.crash_core.specs.Standing.{place_for, no_block, held_in, cached_in, batched_in, IsPlace, IsKept, IsCore, KeepsViews, IsMoved, Decides, memory_at}
 use Rattle.core_model.proofs.TotalLemmas.{total_at, eq-eqb-one, ne-eqb-none}
 use Rattle.core_model.proofs.BlockLemmas.{inside_of, first_there, total_lists}
 use Rattle.core_model.proofs.OwnerLemmas.{in_lists_total}
 use Rattle.core_model.proofs.ShiftLemmas.{first_rest}
 use Rattle.crash_core.proofs.StandingLemmas.{memory_in}
-use Rattle.crash_core.proofs.CacheLemmas.{cache_set}
-use Rattle.crash_core.proofs.ShareLemmas.{places_mine, places_theirs, place_alone}
-use Rattle.crash_core.proofs.WordLemmas.{entry_is, entry_there}
-
-abbrev pub no_cache : Cache
-no_cache = record { first = 0; count = 0 }
+use Rattle.seat_notes.proofs.CacheLemmas.{cache_set}
+use Rattle.crash_core.proofs.BlockPlaces.{places_mine, places_theirs, place_alone}
+use Rattle.seat_notes.proofs.WordLemmas.{entry_is, entry_there}
+use Rattle.seat_notes.proofs.NewSeat.{no_cache}
+use Rattle.seat_notes.proofs.EndLemmas.{rest_length, rest_first}
 
 cached_only : (p : BlockPlace) → 0 < cached_in p → (held_in p ≡ 0) × (cached_in p ≡ 1) × (batched_in p ≡ 0)
 cached_only place.Nowhere some = absurd (omega arith)
 cached_only place.Held some = absurd (omega arith)
 cached_only place.Cached some = (refl, refl, refl)
 cached_only place.Batched some = absurd (omega arith)
-
-pub rest_length : (bs : List ℕ) → length (rest_of bs) ≡ length bs - 1
-rest_length [] = refl
-rest_length (b ∷ bs) = omega arith
-
-pub rest_first : (f : ℕ → ℕ) (bs : List ℕ) → Walks f (first_of bs) bs → 1 ≤ length (rest_of bs) → first_of (rest_of bs) ≡ f (first_of bs)
-rest_first f [] walks some = absurd (omega arith)
-rest_first f (b ∷ []) walks some = absurd (omega arith)
-rest_first f (b ∷ n ∷ bs) walks some = sym walks.1.0
 
 module _ (c : CoreState) (k : Setup) (views : List View) (i : ℕ) (v : View) (t : SeatNotes) (keeps : KeepsViews c k views) (below : i < length views) (at : get_or views i v ≡ v)
     (at_t : get_or c.seats.items i t ≡ t) where

@@ -1,33 +1,17 @@
 -- Whose each small block is, as the held blocks of a heap at rest get their seats one after the other.
-use Rattle.std.proofs.Common.{◌≡◌, ◌≢◌, ℕ, zero, suc, ◌+◌, ◌<◌, ◌≤◌, inl, inr, true, false, cond, nat_eq, ◌&&◌, List, [], ◌∷◌, Contains, get_or, set, length, take, replicate, slice_index, refl, ap, ap₂, sym, subst, ◌∙◌, length-set, add-one, eq-eqb, eqb-true, arith}
+use Rattle.std.proofs.Common.{◌≡◌, ℕ, suc, ◌+◌, ◌<◌, ◌≤◌, inl, inr, true, false, List, get_or, set, length, slice_index, refl, sym, subst, ◌∙◌, length-set, add-one, arith}
 use Rattle.std.proofs.lemmas.Bool.{cases_eq}
-use Rattle.std.proofs.lemmas.List.{take_all, length-replicate}
-use Rattle.std.proofs.lemmas.List.Elements.{Contains-get_or}
 use Rattle.heap_model.specs.declared.block.Block.{Block}
-use Rattle.heap_model.specs.Geometry.{lists, roots, info_word, image_words}
-use Rattle.heap_model.specs.Counting.{times, total, one_if}
+use Rattle.heap_model.specs.Geometry.{lists, image_words}
 use Rattle.heap_model.specs.Rest.{IsReady}
-use Rattle.heap_model.proofs.CountingLemmas.{one_if_true, one_if_false}
-use Rattle.heap_model.proofs.MemberLemmas.{in_none, head_or_rest}
-use Rattle.heap_model.proofs.SizeLemmas.{two_words}
-use Rattle.core_model.specs.Cells.{superblock_at}
-use Rattle.core_model.specs.Opening.{picked, is_small, small_blocks, tabulate, AreOwners}
-use Rattle.core_model.proofs.BlockLemmas.{inside_of}
-use Rattle.core_model.proofs.PlaceLemmas.{pick, skip, not-eq, and_both, and_is}
-use Rattle.core_model.proofs.OpenLemmas.{picked_in, tabulate_sum, small_at, small_sum}
-use Rattle.core_model.proofs.OpenedLemmas as opened
+use Rattle.core_model.specs.Opening.{is_small}
 use Rattle.crash_core.specs.declared.owners.BlockPlace.{BlockPlace}
 use Rattle.crash_core.specs.declared.owners.BlockPlace.TheVariants as place
 use Rattle.crash_core.specs.declared.owners.BlockOwner.{BlockOwner}
 use Rattle.crash_core.specs.OpenedOwners.{AreBlockOwners}
 use Rattle.crash_core.specs.Standing.{place_for, held_in, cached_in, batched_in, no_block}
-use Rattle.crash_core.proofs.PickedLemmas.{picked_more, total_append, none_before, small_once}
-use Rattle.crash_core.proofs.ShareLemmas.{places_mine, places_theirs}
-
--- empty caches have no blocks
-pub none_cached : (n b : ℕ) → total (times b) (replicate n []) ≡ 0
-none_cached zero b = refl
-none_cached (suc n) b = let rest = none_cached n b in omega arith
+use Rattle.crash_core.proofs.BlockPlaces.{places_mine, places_theirs}
+use Rattle.seat_notes.proofs.HeldSoFar.{none_cached, held_so_far, block_there, within, more_theirs, large_more, mine_here, mine_elsewhere, none_yet, all_held}
 
 -- a seat holds the block so often, and has it nowhere else
 pub record IsHeldOnly (n : ℕ) (x : BlockPlace) : Type 0 where
@@ -41,126 +25,44 @@ held_nowhere n place.Held is none = absurd (let h = is.held in omega arith)
 held_nowhere n place.Cached is none = absurd (let h = is.cached in omega arith)
 held_nowhere n place.Batched is none = absurd (let h = is.batched in omega arith)
 
--- how often seat j has, of the first held blocks, one that begins at b
-abbrev pub held_so_far : List Block → List ℕ → ℕ → ℕ → ℕ → ℕ
-held_so_far held owners i j b = total (small_at b) (picked j (take i held) (take i owners))
-
 -- the first held blocks have got their seats
 pub record HaveSeats (held : List Block) (owners : List ℕ) (i words : ℕ) (blocks : List BlockOwner) : Type 0 where
   pub long : length blocks ≡ words
   pub each : (j b : ℕ) → IsHeldOnly (held_so_far held owners i j b) (place_for j (get_or blocks b no_block))
 
--- the block at an index is held
-pub block_there : (held : List Block) (i : ℕ) (p : Block) → i < length held → get_or held i p ≡ p → Contains held p
-block_there held i p below at = subst (Contains held) at (Contains-get_or held i p below)
-
 module _ (words : List ℕ) (held : List Block) (owners : List ℕ) (ready : IsReady words held) (long : length owners ≡ length held) where
-  abbrev pub c : ℕ
+  abbrev c : ℕ
   c = slice_index words 2
 
-  -- a heap may be opened for one seat
-  abbrev pub alone : List ℕ
-  alone = replicate (length held) 0
+  module _ (i : ℕ) (p : Block) (o : ℕ) (below : i < length held) (at : get_or held i p ≡ p) (at_o : get_or owners i o ≡ o) (blocks : List BlockOwner) (before : HaveSeats held owners i (image_words c) blocks) where
+    pub large_seated : is_small p ≡ false → HaveSeats held owners (i + 1) (image_words c) blocks
+    large_seated large = subst (λ n. HaveSeats held owners n (image_words c) blocks) (sym (add-one i)) (record {
+      long = before.long;
+      each = λ j b. subst (λ n. IsHeldOnly n (place_for j (get_or blocks b no_block))) (sym (large_more words held owners ready long i p o below at at_o large j b)) (before.each j b);
+    })
 
-  pub for_one : AreOwners held 1 alone (replicate roots 0)
-  for_one = record {
-    blocks = length-replicate {A = ℕ} (length held) 0;
-    roots_all = length-replicate {A = ℕ} roots 0;
-    block_seats = λ owner there. only_one (length held) owner there;
-    root_seats = λ owner there. only_one roots owner there;
-  } where
-    only_one : (n owner : ℕ) → Contains (replicate n 0) owner → owner < 1
-    only_one zero owner there = absurd (in_none owner there)
-    only_one (suc n) owner there = elim (head_or_rest 0 owner (replicate n 0) there) [
-      | inl same ↦ omega (arith, same)
-      | inr later ↦ only_one n owner later
-    ]
-
-  pub small_of : (p : Block) → Contains held p → is_small p ≡ true → opened.IsSmall words held 0 1 alone (replicate roots 0) ready for_one p
-  small_of p there small = opened.small_of words held 0 1 alone (replicate roots 0) ready for_one p there small
-
-  pub within : (p : Block) → Contains held p → is_small p ≡ true → p.first_word < image_words c
-  within p there small = let s = small_of p there small in let at = inside_of c s.class s.d p.first_word s.is_class s.is in let u = ready.formed.used in let t = s.taken in
-      let two = two_words s.class s.is_class in omega (arith, at.0, at.1)
-
-  module _ (i : ℕ) (p : Block) (o : ℕ) (below : i < length held) (at : get_or held i p ≡ p) (at_o : get_or owners i o ≡ o) where
-    there : Contains held p
-    there = block_there held i p below at
-
-    more : (j b : ℕ) → held_so_far held owners (suc i) j b ≡ held_so_far held owners i j b + total (small_at b) (cond (nat_eq o j) (p ∷ []) [])
-    more j b = ap (total (small_at b)) (picked_more j held owners i p o below at (omega arith) at_o)
-        ∙ total_append (small_at b) (picked j (take i held) (take i owners)) (cond (nat_eq o j) (p ∷ []) [])
-
-    more_mine : (b : ℕ) → held_so_far held owners (suc i) o b ≡ held_so_far held owners i o b + small_at b p
-    more_mine b = let m = more o b in let e = ap (total (small_at b)) (pick (nat_eq o o) (p ∷ []) [] (eq-eqb o o refl)) in omega arith
-
-    pub more_theirs : (j b : ℕ) → j ≢ o → held_so_far held owners (suc i) j b ≡ held_so_far held owners i j b
-    more_theirs j b other = let m = more j b in let e = ap (total (small_at b)) (skip (nat_eq o j) (p ∷ []) [] (not-eq o j (λ e. other (sym e)))) in omega arith
-
-    -- a large block leaves all as it is
-    pub large_more : is_small p ≡ false → (j b : ℕ) → held_so_far held owners (suc i) j b ≡ held_so_far held owners i j b
-    large_more large j b = elim (cases_eq j o) [
-      | inl mine ↦ subst (λ n. held_so_far held owners (suc i) n b ≡ held_so_far held owners i n b) (sym mine) (let m = more_mine b in let z = none b in omega arith)
-      | inr other ↦ more_theirs j b other
-    ] where
-      none : (b : ℕ) → small_at b p ≡ 0
-      none b = ap (λ t. one_if (t && nat_eq p.first_word b)) large
-
-    -- a small block is its seat's, and was nobody's
-    module _ (small : is_small p ≡ true) where
-      once : small_at p.first_word p ≡ 1
-      once = one_if_true (is_small p && nat_eq p.first_word p.first_word) (and_is (is_small p) (nat_eq p.first_word p.first_word) small (eq-eqb p.first_word p.first_word refl))
-
-      elsewhere : (b : ℕ) → b ≢ p.first_word → small_at b p ≡ 0
-      elsewhere b apart = one_if_false (is_small p && nat_eq p.first_word b) (λ t. apart (sym (eqb-true p.first_word b (and_both (is_small p) (nat_eq p.first_word b) t).1)))
-
-      none : (j : ℕ) → held_so_far held owners i j p.first_word ≡ 0
-      none j = none_before (small_at p.first_word) j held (take i owners) i p below at (let s = small_once held p ready.ascending there small in omega arith) once
-
-      pub mine_here : held_so_far held owners (suc i) o p.first_word ≡ 1
-      mine_here = let m = more_mine p.first_word in let z = none o in let y = once in omega arith
-
-      pub mine_elsewhere : (b : ℕ) → b ≢ p.first_word → held_so_far held owners (suc i) o b ≡ held_so_far held owners i o b
-      mine_elsewhere b apart = let m = more_mine b in let z = elsewhere b apart in omega arith
-
-    module _ (blocks : List BlockOwner) (before : HaveSeats held owners i (image_words c) blocks) where
-      pub large_seated : is_small p ≡ false → HaveSeats held owners (i + 1) (image_words c) blocks
-      large_seated large = subst (λ n. HaveSeats held owners n (image_words c) blocks) (sym (add-one i)) (record {
-        long = before.long;
-        each = λ j b. subst (λ n. IsHeldOnly n (place_for j (get_or blocks b no_block))) (sym (large_more large j b)) (before.each j b);
-      })
-
-      pub small_seated : is_small p ≡ true → HaveSeats held owners (i + 1) (image_words c) (set blocks p.first_word (record { seat = o; place = place.Held }))
-      small_seated small = subst (λ n. HaveSeats held owners n (image_words c) (set blocks p.first_word (record { seat = o; place = place.Held }))) (sym (add-one i)) (record {
-        long = length-set blocks p.first_word (record { seat = o; place = place.Held }) ∙ before.long;
-        each = λ j b. elim (cases_eq j o) as (λ _. IsHeldOnly (held_so_far held owners (suc i) j b) (place_for j (get_or (set blocks p.first_word (record { seat = o; place = place.Held })) b no_block))) [
-          | inl mine ↦ subst (λ n. IsHeldOnly (held_so_far held owners (suc i) n b) (place_for n (get_or (set blocks p.first_word (record { seat = o; place = place.Held })) b no_block))) (sym mine)
-              (places_mine blocks o p.first_word place.Held (λ e x. IsHeldOnly (held_so_far held owners (suc i) o e) x) less
-              (record { held = mine_here small; cached = refl; batched = refl })
-              (λ e apart. subst (λ n. IsHeldOnly n (place_for o (get_or blocks e no_block))) (sym (mine_elsewhere small e apart)) (before.each o e)) b)
-          | inr other ↦ places_theirs blocks o j p.first_word place.Held (λ e x. IsHeldOnly (held_so_far held owners (suc i) j e) x) less other
-              (held_nowhere (held_so_far held owners i j p.first_word) (place_for j (get_or blocks p.first_word no_block)) (before.each j p.first_word) (none small j))
-              (λ e. subst (λ n. IsHeldOnly n (place_for j (get_or blocks e no_block))) (sym (more_theirs j e other)) (before.each j e)) b
-        ];
-      }) where
-        less : p.first_word < length blocks
-        less = let w = within p there small in let l = before.long in omega arith
-
-  -- all of a seat's small blocks, in the list of their class
-  pub all_held : (i : ℕ) → length held ≤ i → (j b : ℕ)
-      → total (times b) (tabulate (λ class. small_blocks c (λ d. slice_index words (info_word d)) class (picked j held owners)) 0 lists) ≡ held_so_far held owners i j b
-  all_held i past j b = tabulate_sum (times b) (λ class. small_blocks c (λ d. slice_index words (info_word d)) class (picked j held owners)) 0 lists
-      ∙ small_sum c (λ d. slice_index words (info_word d)) b (picked j held owners) (λ p m small. is_class j p m small)
-      ∙ sym (ap₂ (λ ps os. total (small_at b) (picked j ps os)) (take_all i held past) (take_all i owners (omega arith))) where
-        is_class : (j : ℕ) (p : Block) → Contains (picked j held owners) p → is_small p ≡ true → slice_index words (info_word (superblock_at c p.first_word)) < lists
-        is_class j p m small = let s = small_of p (picked_in j held owners p m) small in let e = ap (λ d. slice_index words (info_word d)) s.here in let f = s.info_at in let l = s.is_class.last in omega arith
+    pub small_seated : is_small p ≡ true → HaveSeats held owners (i + 1) (image_words c) (set blocks p.first_word (record { seat = o; place = place.Held }))
+    small_seated small = subst (λ n. HaveSeats held owners n (image_words c) (set blocks p.first_word (record { seat = o; place = place.Held }))) (sym (add-one i)) (record {
+      long = length-set blocks p.first_word (record { seat = o; place = place.Held }) ∙ before.long;
+      each = λ j b. elim (cases_eq j o) as (λ _. IsHeldOnly (held_so_far held owners (suc i) j b) (place_for j (get_or (set blocks p.first_word (record { seat = o; place = place.Held })) b no_block))) [
+        | inl mine ↦ subst (λ n. IsHeldOnly (held_so_far held owners (suc i) n b) (place_for n (get_or (set blocks p.first_word (record { seat = o; place = place.Held })) b no_block))) (sym mine)
+            (places_mine blocks o p.first_word place.Held (λ e x. IsHeldOnly (held_so_far held owners (suc i) o e) x) less
+            (record { held = mine_here words held owners ready long i p o below at at_o small; cached = refl; batched = refl })
+            (λ e apart. subst (λ n. IsHeldOnly n (place_for o (get_or blocks e no_block))) (sym (mine_elsewhere words held owners ready long i p o below at at_o small e apart)) (before.each o e)) b)
+        | inr other ↦ places_theirs blocks o j p.first_word place.Held (λ e x. IsHeldOnly (held_so_far held owners (suc i) j e) x) less other
+            (held_nowhere (held_so_far held owners i j p.first_word) (place_for j (get_or blocks p.first_word no_block)) (before.each j p.first_word) (none_yet words held owners ready long i p o below at at_o small j))
+            (λ e. subst (λ n. IsHeldOnly n (place_for j (get_or blocks e no_block))) (sym (more_theirs words held owners ready long i p o below at at_o j e other)) (before.each j e)) b
+      ];
+    }) where
+      less : p.first_word < length blocks
+      less = let w = within words held owners ready long p (block_there held i p below at) small in let l = before.long in omega arith
 
   -- all have their seats
   pub all_seated : (i : ℕ) (blocks : List BlockOwner) → HaveSeats held owners i (image_words c) blocks → length held ≤ i → AreBlockOwners words held owners blocks
   all_seated i blocks seated past = record {
     long = seated.long;
     each = λ j b. let s = seated.each j b in record {
-      held = all_held i past j b ∙ s.held;
+      held = all_held words held owners ready long i past j b ∙ s.held;
       cached = none_cached lists b ∙ s.cached;
       batched = s.batched;
     };

@@ -1,46 +1,21 @@
 -- What is kept of a heap at rest, as it is opened for some seats.
-use Rattle.std.proofs.Common.{◌≡◌, ℕ, ◌+◌, ◌<◌, ◌≤◌, false, nat_eq, List, [], ◌∷◌, ◌++◌, get_or, length, replicate, slice_index, None, refl, ap, sym, subst, ◌∙◌, arith}
+use Rattle.std.proofs.Common.{◌≡◌, ℕ, ◌+◌, ◌<◌, ◌≤◌, nat_eq, List, [], ◌∷◌, ◌++◌, get_or, length, replicate, slice_index, refl, ap, sym, subst, ◌∙◌, arith}
 use Rattle.std.proofs.lemmas.List.{get_or-replicate, length-replicate}
 use Rattle.heap_model.specs.declared.block.Block.{Block}
-use Rattle.heap_model.specs.Geometry.{lists, roots, capacity_word}
+use Rattle.heap_model.specs.Geometry.{roots, capacity_word}
 use Rattle.heap_model.specs.Counting.{one_if}
 use Rattle.heap_model.specs.Rest.{IsReady}
 use Rattle.core_model.specs.Opening.{AreOwners, setup_of, opened_view, opened_state}
-use Rattle.core_model.specs.View.{Setup, View, of_class}
+use Rattle.core_model.specs.View.{Setup, View}
 use Rattle.core_model.specs.Sound.{Sound}
 use Rattle.core_model.proofs.OpenLemmas.{length_tabulate, tabulate_at}
 use Rattle.core_model.proofs.OpenedLemmas.{opened}
-use Rattle.crash_core.specs.declared.owners.Cache.{Cache}
-use Rattle.crash_core.specs.declared.owners.SeatNotes.{SeatNotes}
 use Rattle.crash_core.specs.declared.state.CoreState.{CoreState}
-use Rattle.crash_core.specs.OpenedOwners.{AreBlockOwners, AreSuperblockOwners}
-use Rattle.crash_core.specs.Standing.{HasCaches, IsKept, StandsFor}
-use Rattle.crash_core.proofs.PickedLemmas.{roots_of}
-
-abbrev pub empty_cache : Cache
-empty_cache = record { first = 0; count = 0 }
-
--- a seat that has done nothing yet
-abbrev pub new_seat : SeatNotes
-new_seat = record {
-  ticket = None;
-  stopped = None;
-  seen_used = None;
-  seen_head = None;
-  seen_link = None;
-  seen_anchor = None;
-  caches = replicate lists empty_cache;
-  batch = record { descriptor = 0; class = 0; first = 0; last = 0; count = 0; linked = false };
-}
-
-pub no_caches : HasCaches (replicate lists empty_cache) (replicate lists [])
-no_caches = record {
-  long = length-replicate lists empty_cache;
-  first = λ class c is less some. absurd (let e = none class less in omega arith);
-  count = λ class c is less. none class less ∙ ap (λ (x : Cache). x.count) (sym (get_or-replicate lists class empty_cache c less) ∙ is);
-} where
-  none : (class : ℕ) → class < lists → length (of_class (replicate lists []) class) ≡ 0
-  none class less = ap length (get_or-replicate {A = List ℕ} lists class [] [] less)
+use Rattle.crash_core.specs.OpenedOwners.{AreBlockOwners}
+use Rattle.seat_notes.specs.OpenedSuperblocks.{AreSuperblockOwners}
+use Rattle.crash_core.specs.Standing.{IsKept, StandsFor}
+use Rattle.seat_notes.proofs.PickedLemmas.{roots_of}
+use Rattle.seat_notes.proofs.NewSeat.{new_seat, no_caches}
 
 -- what a core has that keeps an opened heap
 pub record IsOpened (c : CoreState) (words : List ℕ) (held : List Block) (budget seats : ℕ) (block_owners root_owners : List ℕ) : Type 0 where

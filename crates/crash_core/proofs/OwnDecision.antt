@@ -1,46 +1,28 @@
 -- Which words are a seat's own, by what the core keeps.
-use Rattle.std.proofs.Common.{◌≡◌, ℕ, zero, suc, ◌+◌, ◌-◌, ◌*◌, ◌/◌, ◌<◌, ◌≤◌, ◌↔◌, inl, inr, Bool, true, false, ◌&&◌, nat_eq, nat_lt, nat_le, List, [], ◌∷◌, get_or, length, refl, ap, sym, subst, ◌∙◌, le-leb, lt-ltb, true≢false, arith}
+use Rattle.std.proofs.Common.{◌≡◌, ℕ, ◌+◌, ◌-◌, ◌*◌, ◌/◌, ◌<◌, ◌≤◌, ◌↔◌, inl, inr, Bool, true, false, nat_eq, List, get_or, length, refl, ap, sym, subst, ◌∙◌, arith}
 use Rattle.std.proofs.Math.Nat.{div-mul-le_self, lt-div-mul-add}
-use Rattle.std.proofs.lemmas.Bool.{cases_eq, cases_lt, cases_order}
+use Rattle.std.proofs.lemmas.Bool.{cases_lt, cases_order}
 use Rattle.heap_model.specs.Geometry.{roots, start_word, superblocks_end}
 use Rattle.heap_model.specs.Sizes.{IsClass, words_of_class}
 use Rattle.heap_model.specs.Counting.{times, total, one_if}
-use Rattle.heap_model.proofs.CountingLemmas.{one_if_true}
 use Rattle.heap_model.proofs.BlockLemmas.{block_step}
 use Rattle.heap_model.proofs.SizeLemmas.{two_words}
 use Rattle.crash_core.specs.declared.owners.BlockPlace.{BlockPlace}
-use Rattle.crash_core.specs.declared.owners.SeatNotes.{SeatNotes}
-use Rattle.crash_core.specs.declared.owners.Share.{Share}
+use Rattle.seat_notes.specs.declared.notes.SeatNotes.{SeatNotes}
+use Rattle.seat_notes.specs.declared.superblocks.SuperblockUsage.{SuperblockUsage}
 use Rattle.crash_core.specs.declared.state.CoreState.{CoreState}
 use Rattle.core_model.specs.Cells.{Cell, info_cell, anchor_cell, link_cell, root_cell, data_cell, cell_at, superblock_at}
 use Rattle.core_model.specs.Memory.{info, memory_of}
-use Rattle.core_model.specs.View.{Setup, View, times_own, times_raw, times_large, times_block, times_within, times_in_classes}
+use Rattle.core_model.specs.View.{Setup, View, times_own, times_raw, times_large, times_block}
 use Rattle.core_model.specs.Guards.{IsOwn}
 use Rattle.core_model.specs.Sound.{Good, IsCutBlock}
-use Rattle.crash_core.specs.Standing.{share_for, place_for, no_superblock, no_block, raw_in, split_in, cutting_in, classed_in, large_in, held_in, cached_in, batched_in, IsShare, IsPlace, IsKept, KeepsViews, memory_at}
-use Rattle.core_model.proofs.PlaceLemmas.{and_is}
-use Rattle.core_model.proofs.TotalLemmas.{ne-eqb-none}
+use Rattle.seat_notes.specs.Superblocks.{usage_for, no_superblock, raw_in, split_in, cutting_in, classed_in, large_in, IsUsage}
+use Rattle.crash_core.specs.Standing.{place_for, no_block, held_in, cached_in, batched_in, IsPlace, IsKept, KeepsViews, memory_at}
 use Rattle.core_model.proofs.OwnerLemmas.{in_blocks, covered, which_class}
 use Rattle.crash_core.proofs.StandingLemmas.{memory_in, seat_capacity}
-use Rattle.crash_core.proofs.WordLemmas.{entry_is}
-use Rattle.crash_core.proofs.PushDecision.{refused}
-
-pub one_true : (b : Bool) (n : ℕ) → one_if b ≡ n → (b ≡ true) ↔ (0 < n)
-one_true true n is = (λ e. omega arith, λ some. refl)
-one_true false n is = (λ e. absurd (true≢false (sym e)), λ some. absurd (omega arith))
-
--- an entry that has the word counts
-pub within_word : (words word b : ℕ) (bs : List ℕ) → 0 < times b bs → b ≤ word → word < b + words → 0 < times_within words word bs
-within_word words word b [] there from until = absurd (omega arith)
-within_word words word b (x ∷ bs) there from until = elim (cases_eq x b) as (λ _. 0 < one_if (nat_le x word && nat_lt word (x + words)) + times_within words word bs) [
-  | inl same ↦ let one : one_if (nat_le x word && nat_lt word (x + words)) ≡ 1 = one_if_true (nat_le x word && nat_lt word (x + words)) (and_is (nat_le x word) (nat_lt word (x + words)) (le-leb x word (omega (arith, same))) (lt-ltb word (x + words) (omega (arith, same)))) in omega arith
-  | inr other ↦ let none = ne-eqb-none x b other in let rest = within_word words word b bs (omega arith) from until in omega arith
-]
-
-pub in_classes_word : (word b class n : ℕ) (lists : List (List ℕ)) → b ≤ word → word < b + words_of_class (class + n) → 0 < times b (get_or lists n []) → 0 < times_in_classes word class lists
-in_classes_word word b class n [] from until there = absurd (omega arith)
-in_classes_word word b class zero (bs ∷ lists) from until there = let here = within_word (words_of_class class) word b bs there from (subst (λ c. word < b + words_of_class c) (let e : class + 0 ≡ class = omega arith in e) until) in omega arith
-in_classes_word word b class (suc n) (bs ∷ lists) from until there = let rest = in_classes_word word b (class + 1) n lists from (subst (λ c. word < b + words_of_class c) (let e : class + suc n ≡ class + 1 + n = omega arith in e) until) there in omega arith
+use Rattle.seat_notes.proofs.WordLemmas.{entry_is}
+use Rattle.seat_notes.proofs.DecisionLemmas.{refused, one_true}
+use Rattle.seat_notes.proofs.BlockRanges.{within_word, in_classes_word}
 
 module _ (c : CoreState) (k : Setup) (views : List View) (i : ℕ) (v : View) (t : SeatNotes) (keeps : KeepsViews c k views) (below : i < length views) (at : get_or views i v ≡ v)
     (at_t : get_or c.seats.items i t ≡ t) where
@@ -63,28 +45,28 @@ module _ (c : CoreState) (k : Setup) (views : List View) (i : ℕ) (v : View) (t
   own_root word n owner part is = own_is word (root_cell n) part.0 (nat_eq owner i)
       (one_true (nat_eq owner i) (times n v.roots) (ap (λ x. one_if (nat_eq x i)) (is ∙ entry_is c.roots.items n owner (i + 1) (let l = keeps.roots in let less = part.1 in omega arith)) ∙ sym (kept.roots.is_owned n)))
 
-  share_is : (d : ℕ) → IsShare d (share_for i (get_or c.superblocks.items d no_superblock)) v.raw v.split v.cutting v.classed v.large
-  share_is d = kept.superblocks d
+  usage_is : (d : ℕ) → IsUsage d (usage_for i (get_or c.superblocks.items d no_superblock)) v.raw v.split v.cutting v.classed v.large
+  usage_is d = kept.superblocks d
 
-  pub own_info : (word d : ℕ) (x : Share) (b : Bool) → cell_at c.geometry.capacity word ≡ info_cell d → x ≡ share_for i (get_or c.superblocks.items d no_superblock) → one_if b ≡ raw_in x + split_in x + cutting_in x → (b ≡ true) ↔ IsOwn v (cell_at v.setup.capacity word)
+  pub own_info : (word d : ℕ) (x : SuperblockUsage) (b : Bool) → cell_at c.geometry.capacity word ≡ info_cell d → x ≡ usage_for i (get_or c.superblocks.items d no_superblock) → one_if b ≡ raw_in x + split_in x + cutting_in x → (b ≡ true) ↔ IsOwn v (cell_at v.setup.capacity word)
   own_info word d x b part x_is is = own_is word (info_cell d) part b (one_true b (times_raw d v)
-      (let s = share_is d in let p = s.is_raw in let q = s.is_split in let r = s.is_cutting in let e = ap (λ y. raw_in y + split_in y + cutting_in y) x_is in omega arith))
+      (let s = usage_is d in let p = s.is_raw in let q = s.is_split in let r = s.is_cutting in let e = ap (λ y. raw_in y + split_in y + cutting_in y) x_is in omega arith))
 
-  pub own_anchor : (word d : ℕ) (x : Share) (b : Bool) → cell_at c.geometry.capacity word ≡ anchor_cell d → x ≡ share_for i (get_or c.superblocks.items d no_superblock) → one_if b ≡ raw_in x + split_in x + cutting_in x → (b ≡ true) ↔ IsOwn v (cell_at v.setup.capacity word)
+  pub own_anchor : (word d : ℕ) (x : SuperblockUsage) (b : Bool) → cell_at c.geometry.capacity word ≡ anchor_cell d → x ≡ usage_for i (get_or c.superblocks.items d no_superblock) → one_if b ≡ raw_in x + split_in x + cutting_in x → (b ≡ true) ↔ IsOwn v (cell_at v.setup.capacity word)
   own_anchor word d x b part x_is is = own_is word (anchor_cell d) part b (one_true b (times_raw d v)
-      (let s = share_is d in let p = s.is_raw in let q = s.is_split in let r = s.is_cutting in let e = ap (λ y. raw_in y + split_in y + cutting_in y) x_is in omega arith))
+      (let s = usage_is d in let p = s.is_raw in let q = s.is_split in let r = s.is_cutting in let e = ap (λ y. raw_in y + split_in y + cutting_in y) x_is in omega arith))
 
-  pub own_link : (word d : ℕ) (x : Share) (b : Bool) → cell_at c.geometry.capacity word ≡ link_cell d → x ≡ share_for i (get_or c.superblocks.items d no_superblock) → one_if b ≡ raw_in x + split_in x + cutting_in x + classed_in x → (b ≡ true) ↔ IsOwn v (cell_at v.setup.capacity word)
+  pub own_link : (word d : ℕ) (x : SuperblockUsage) (b : Bool) → cell_at c.geometry.capacity word ≡ link_cell d → x ≡ usage_for i (get_or c.superblocks.items d no_superblock) → one_if b ≡ raw_in x + split_in x + cutting_in x + classed_in x → (b ≡ true) ↔ IsOwn v (cell_at v.setup.capacity word)
   own_link word d x b part x_is is = own_is word (link_cell d) part b (one_true b (times_own v (link_cell d))
-      (let s = share_is d in let p = s.is_raw in let q = s.is_split in let r = s.is_cutting in let o = s.is_classed in let e = ap (λ y. raw_in y + split_in y + cutting_in y + classed_in y) x_is in omega arith))
+      (let s = usage_is d in let p = s.is_raw in let q = s.is_split in let r = s.is_cutting in let o = s.is_classed in let e = ap (λ y. raw_in y + split_in y + cutting_in y + classed_in y) x_is in omega arith))
 
-  module _ (word : ℕ) (from : start_word c.geometry.capacity 0 ≤ word) (until : word < superblocks_end c.geometry.capacity) (d : ℕ) (d_is : d ≡ superblock_at c.geometry.capacity word) (x : Share)
-      (x_is : x ≡ share_for i (get_or c.superblocks.items d no_superblock)) where
+  module _ (word : ℕ) (from : start_word c.geometry.capacity 0 ≤ word) (until : word < superblocks_end c.geometry.capacity) (d : ℕ) (d_is : d ≡ superblock_at c.geometry.capacity word) (x : SuperblockUsage)
+      (x_is : x ≡ usage_for i (get_or c.superblocks.items d no_superblock)) where
     d_v : superblock_at v.setup.capacity word ≡ d
     d_v = ap (λ n. superblock_at n word) (seat_capacity c k views i v keeps below at) ∙ sym d_is
 
     parts_of : times_large (superblock_at v.setup.capacity word) v.large + times_raw (superblock_at v.setup.capacity word) v ≡ raw_in x + split_in x + cutting_in x + large_in x
-    parts_of = ap (λ n. times_large n v.large + times_raw n v) d_v ∙ (let s = share_is d in let p = s.is_raw in let q = s.is_split in let r = s.is_cutting in let l = s.is_large in
+    parts_of = ap (λ n. times_large n v.large + times_raw n v) d_v ∙ (let s = usage_is d in let p = s.is_raw in let q = s.is_split in let r = s.is_cutting in let l = s.is_large in
         let e = ap (λ y. raw_in y + split_in y + cutting_in y + large_in y) x_is in omega arith)
 
     pub data_whole : 0 < raw_in x + split_in x + cutting_in x + large_in x → IsOwn v (data_cell word)

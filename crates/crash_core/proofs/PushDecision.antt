@@ -1,41 +1,38 @@
 -- When a superblock may go to the list whose head was seen, by what the core keeps.
-use Rattle.std.proofs.Common.{◌≡◌, ◌≢◌, ℕ, zero, suc, ◌+◌, ◌<◌, ◌≤◌, ◌↔◌, inl, inr, Bool, true, false, cond, nat_eq, List, [], ◌∷◌, get_or, length, Some, refl, ap, sym, ◌∙◌, eq-eqb, eqb-true, true≢false, arith}
+use Rattle.std.proofs.Common.{◌≡◌, ◌≢◌, ℕ, zero, suc, ◌+◌, ◌<◌, ◌≤◌, ◌↔◌, inl, inr, Bool, true, false, cond, nat_eq, List, [], ◌∷◌, get_or, length, Some, refl, ap, sym, ◌∙◌, eq-eqb, eqb-true, arith}
 use Rattle.std.proofs.lemmas.Bool.{cases_eq}
 use Rattle.heap_model.specs.Words.{head_first, anchor_state}
-use Rattle.crash_core.specs.declared.owners.SeatNotes.{SeatNotes}
-use Rattle.crash_core.specs.declared.owners.Seen.{Seen}
-use Rattle.crash_core.specs.declared.owners.Share.{Share}
-use Rattle.crash_core.specs.declared.owners.Share.TheVariants as share
-use Rattle.crash_core.specs.declared.owners.SuperblockOwner.{SuperblockOwner}
+use Rattle.seat_notes.specs.declared.notes.SeatNotes.{SeatNotes}
+use Rattle.seat_notes.specs.declared.notes.Seen.{Seen}
+use Rattle.seat_notes.specs.declared.superblocks.SuperblockUsage.{SuperblockUsage}
+use Rattle.seat_notes.specs.declared.superblocks.SuperblockUsage.TheVariants as usage
+use Rattle.seat_notes.specs.declared.superblocks.SuperblockOwner.{SuperblockOwner}
 use Rattle.crash_core.specs.declared.state.CoreState.{CoreState}
 use Rattle.core_model.specs.Memory.{Memory, info, anchor, link, durable_used, memory_of}
 use Rattle.core_model.specs.View.{Setup, View, one_if_some, times_classed}
 use Rattle.core_model.specs.Effects.{seen_word, seen_of}
 use Rattle.core_model.specs.Guards.{MayList, as_free, of_its_class, MayPush}
-use Rattle.crash_core.specs.Standing.{share_for, no_superblock, raw_in, split_in, cutting_in, classed_in, IsKept, KeepsViews, memory_at}
+use Rattle.seat_notes.specs.Superblocks.{usage_for, no_superblock, raw_in, split_in, cutting_in, classed_in}
+use Rattle.crash_core.specs.Standing.{IsKept, KeepsViews, memory_at}
 use Rattle.crash_core.proofs.StandingLemmas.{memory_in}
 use Rattle.crash_core.proofs.KeptFacts as facts
 
--- a guard that does not hold is refused
-pub refused : {G : Type 0} → (G → ⊥) → (false ≡ true) ↔ G
-refused not = (λ e. absurd (true≢false (sym e)), λ may. absurd (not may))
-
-pub none_beyond : (owners : List SuperblockOwner) (i d : ℕ) → length owners ≤ d → share_for i (get_or owners d no_superblock) ≡ share.Nothing
+pub none_beyond : (owners : List SuperblockOwner) (i d : ℕ) → length owners ≤ d → usage_for i (get_or owners d no_superblock) ≡ usage.Nothing
 none_beyond [] i d past = either (nat_eq 0 i) where
-  either : (test : Bool) → cond test share.Nothing share.Nothing ≡ share.Nothing
+  either : (test : Bool) → cond test usage.Nothing usage.Nothing ≡ usage.Nothing
   either true = refl
   either false = refl
 none_beyond (o ∷ owners) i zero past = absurd (omega arith)
 none_beyond (o ∷ owners) i (suc d) past = none_beyond owners i d (omega arith)
 
 -- a superblock that is freely claimed is not being cut
-pub freely_not_cutting : (x : Share) → 0 < raw_in x + split_in x + classed_in x → cutting_in x ≡ 0
-freely_not_cutting share.Nothing some = refl
-freely_not_cutting share.Raw some = refl
-freely_not_cutting share.Split some = refl
-freely_not_cutting share.Cutting some = absurd (omega arith)
-freely_not_cutting (share.Classed class) some = refl
-freely_not_cutting (share.Large count) some = refl
+pub freely_not_cutting : (x : SuperblockUsage) → 0 < raw_in x + split_in x + classed_in x → cutting_in x ≡ 0
+freely_not_cutting usage.Nothing some = refl
+freely_not_cutting usage.Raw some = refl
+freely_not_cutting usage.Split some = refl
+freely_not_cutting usage.Cutting some = absurd (omega arith)
+freely_not_cutting (usage.Classed class) some = refl
+freely_not_cutting (usage.Large count) some = refl
 
 module _ (c : CoreState) (k : Setup) (views : List View) (i : ℕ) (v : View) (t : SeatNotes) (keeps : KeepsViews c k views) (below : i < length views) (at : get_or views i v ≡ v)
     (at_t : get_or c.seats.items i t ≡ t) (d : ℕ) where
@@ -48,18 +45,18 @@ module _ (c : CoreState) (k : Setup) (views : List View) (i : ℕ) (v : View) (t
   same : memory_at c ≡ m
   same = ap (λ n. memory_of n c.words.items) (sym keeps.capacity)
 
-  abbrev x : Share
-  x = share_for i (get_or c.superblocks.items d no_superblock)
+  abbrev x : SuperblockUsage
+  x = usage_for i (get_or c.superblocks.items d no_superblock)
 
   freely_of : (list : ℕ) → MayList m v d list → 0 < raw_in x + split_in x + classed_in x
   freely_of list (as_free l is_zero claimed empty) = let a = (kept.superblocks d).is_raw in let b = (kept.superblocks d).is_split in let e = (kept.superblocks d).is_cutting in let f = (kept.superblocks d).is_classed in let g = claimed.claimed in let h = claimed.not_cutting in omega arith
   freely_of list (of_its_class l some classed is state) = let f = (kept.superblocks d).is_classed in omega arith
 
-  pub not_freely : (y : Share) → y ≡ x → raw_in y + split_in y + classed_in y ≡ 0 → MayPush m v d → ⊥
+  pub not_freely : (y : SuperblockUsage) → y ≡ x → raw_in y + split_in y + classed_in y ≡ 0 → MayPush m v d → ⊥
   not_freely y is none may = let some = freely_of (seen_of v.seen_head) may.listed in let e = ap (λ z. raw_in z + split_in z + classed_in z) is in omega arith
 
   pub beyond : c.geometry.capacity ≤ d → MayPush m v d → ⊥
-  beyond past may = not_freely share.Nothing (sym (none_beyond c.superblocks.items i d (let n = keeps.superblocks in let cap = keeps.capacity in omega arith))) refl may
+  beyond past may = not_freely usage.Nothing (sym (none_beyond c.superblocks.items i d (let n = keeps.superblocks in let cap = keeps.capacity in omega arith))) refl may
 
   pub undurable : (mark : ℕ) → mark ≡ durable_used (memory_at c) → mark ≤ d → MayPush m v d → ⊥
   undurable mark is past may = let less = may.durable in let e : durable_used m ≡ mark = ap durable_used (sym same) ∙ sym is in omega arith

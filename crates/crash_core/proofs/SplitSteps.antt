@@ -5,43 +5,39 @@ use Rattle.std.specs.Prelude.{Vec, Option}
 use Rattle.std.specs.declared.alloc.Global.{Global}
 use Rattle.std.specs.Vec.{with_item}
 use Rattle.heap_model.specs.Geometry.{start_word}
-use Rattle.crash_core.specs.declared.owners.SeatNotes.{SeatNotes}
-use Rattle.crash_core.specs.declared.owners.Seen.{Seen}
-use Rattle.crash_core.specs.declared.owners.Share.{Share}
-use Rattle.crash_core.specs.declared.owners.Share.TheVariants as share
-use Rattle.crash_core.specs.declared.owners.SuperblockOwner.{SuperblockOwner}
+use Rattle.seat_notes.specs.declared.notes.SeatNotes.{SeatNotes}
+use Rattle.seat_notes.specs.declared.notes.Seen.{Seen}
+use Rattle.seat_notes.specs.declared.superblocks.SuperblockUsage.{SuperblockUsage}
+use Rattle.seat_notes.specs.declared.superblocks.SuperblockUsage.TheVariants as usage
+use Rattle.seat_notes.specs.declared.superblocks.SuperblockOwner.{SuperblockOwner}
 use Rattle.crash_core.specs.declared.state.CoreState.{CoreState}
 use Rattle.core_model.specs.Cells.{superblock_at}
 use Rattle.core_model.specs.Memory.{used}
-use Rattle.core_model.specs.View.{Setup, View, Span, times_large}
+use Rattle.core_model.specs.View.{Setup, View, times_large}
 use Rattle.core_model.specs.Effects.{steps, cleared, span_count, without_span, after_split}
 use Rattle.core_model.specs.Guards.{MaySplit}
 use Rattle.core_model.specs.Sound.{Good}
-use Rattle.crash_core.specs.Standing.{share_for, no_superblock, raw_in, split_in, cutting_in, classed_in, class_in, large_in, count_in, IsShare, IsRange, IsKept, IsCore, KeepsViews, IsMoved, Decides, snapshot}
+use Rattle.seat_notes.specs.Superblocks.{usage_for, no_superblock, raw_in, split_in, cutting_in, classed_in, class_in, large_in, count_in, IsUsage, IsRange}
+use Rattle.crash_core.specs.Standing.{IsKept, IsCore, KeepsViews, IsMoved, Decides}
+use Rattle.seat_notes.specs.Notes.{snapshot}
 use Rattle.core_model.proofs.TotalLemmas.{total_at}
 use Rattle.core_model.proofs.FrameLemmas.{below_not}
 use Rattle.heap_model.proofs.ListLemmas.{times_append}
 use Rattle.core_model.proofs.LinkFrameLemmas.{span_covers}
 use Rattle.core_model.proofs.SpanLemmas.{range_is, range_not, times_range, without_span_is, span_other}
 use Rattle.crash_core.proofs.StandingLemmas.{memory_in, seat_capacity}
-use Rattle.crash_core.proofs.ShareLemmas.{share_alone}
-use Rattle.crash_core.proofs.RangeLemmas.{range_mine, range_theirs}
-use Rattle.crash_core.proofs.WordLemmas.{entry_there}
+use Rattle.seat_notes.proofs.UsageLemmas.{usage_alone}
+use Rattle.seat_notes.proofs.RangeLemmas.{range_mine, range_theirs}
+use Rattle.seat_notes.proofs.WordLemmas.{entry_there}
+use Rattle.seat_notes.proofs.CountLemmas.{no_span}
 
-large_only : (x : Share) → 0 < large_in x → (raw_in x ≡ 0) × (split_in x ≡ 0) × (cutting_in x ≡ 0) × (classed_in x ≡ 0) × (class_in x ≡ 0) × (large_in x ≡ 1)
-large_only share.Nothing some = absurd (omega arith)
-large_only share.Raw some = absurd (omega arith)
-large_only share.Split some = absurd (omega arith)
-large_only share.Cutting some = absurd (omega arith)
-large_only (share.Classed class) some = absurd (omega arith)
-large_only (share.Large count) some = (refl, refl, refl, refl, refl, refl)
-
--- where no large block takes it, none begins there
-pub no_span : (e : ℕ) (spans : List Span) → times_large e spans ≡ 0 → span_count e spans ≡ 0
-no_span e spans none = elim (cases_lt 0 (span_count e spans)) [
-  | inl some ↦ absurd (let c = span_covers e e spans some (omega arith) (omega arith) in omega arith)
-  | inr zero_count ↦ omega arith
-]
+large_only : (x : SuperblockUsage) → 0 < large_in x → (raw_in x ≡ 0) × (split_in x ≡ 0) × (cutting_in x ≡ 0) × (classed_in x ≡ 0) × (class_in x ≡ 0) × (large_in x ≡ 1)
+large_only usage.Nothing some = absurd (omega arith)
+large_only usage.Raw some = absurd (omega arith)
+large_only usage.Split some = absurd (omega arith)
+large_only usage.Cutting some = absurd (omega arith)
+large_only (usage.Classed class) some = absurd (omega arith)
+large_only (usage.Large count) some = (refl, refl, refl, refl, refl, refl)
 
 module _ (c : CoreState) (k : Setup) (views : List View) (i : ℕ) (v : View) (t : SeatNotes) (keeps : KeepsViews c k views) (below_i : i < length views) (at : get_or views i v ≡ v)
     (at_t : get_or c.seats.items i t ≡ t) (block : ℕ) where
@@ -60,7 +56,7 @@ module _ (c : CoreState) (k : Setup) (views : List View) (i : ℕ) (v : View) (t
   pub split_first : MaySplit v block → block ≡ start_word c.geometry.capacity d
   split_first may = subst (λ n. block ≡ start_word n (superblock_at n block)) (seat_capacity c k views i v keeps below_i at) may.first
 
-  count_is : span_count d v.large ≡ count_in (share_for i (get_or c.superblocks.items d no_superblock))
+  count_is : span_count d v.large ≡ count_in (usage_for i (get_or c.superblocks.items d no_superblock))
   count_is = (kept.superblocks d).count
 
   pub split_before : block < start_word c.geometry.capacity 0 → MaySplit v block → ⊥
@@ -71,7 +67,7 @@ module _ (c : CoreState) (k : Setup) (views : List View) (i : ℕ) (v : View) (t
     at_start : (n : ℕ) → block ≡ start_word c.geometry.capacity n → (block - start_word c.geometry.capacity 0) % 8192 ≡ 0
     at_start n is = omega arith
 
-  pub split_there : start_word c.geometry.capacity 0 ≤ block → (block - start_word c.geometry.capacity 0) % 8192 ≡ 0 → (x : Share) (n : ℕ) → x ≡ share_for i (get_or c.superblocks.items d no_superblock) → n ≡ count_in x
+  pub split_there : start_word c.geometry.capacity 0 ≤ block → (block - start_word c.geometry.capacity 0) % 8192 ≡ 0 → (x : SuperblockUsage) (n : ℕ) → x ≡ usage_for i (get_or c.superblocks.items d no_superblock) → n ≡ count_in x
       → (nat_lt 0 n ≡ true) ↔ MaySplit v block
   split_there from whole x n x_is n_is = (
     λ h. record {
@@ -88,7 +84,7 @@ module _ (c : CoreState) (k : Setup) (views : List View) (i : ℕ) (v : View) (t
     some : 0 < n
     some = subst (λ m. 0 < span_count m v.large) d_v may.held
 
-    covered : (e : ℕ) → d ≤ e → e < d + n → 0 < large_in (share_for i (get_or c.superblocks.items e no_superblock))
+    covered : (e : ℕ) → d ≤ e → e < d + n → 0 < large_in (usage_for i (get_or c.superblocks.items e no_superblock))
     covered e low high = let o = (kept.superblocks e).is_large in let h = span_covers d e v.large some low high in omega arith
 
     large_low : (e : ℕ) → d ≤ e → e < d + n → e < k.capacity
@@ -101,10 +97,10 @@ module _ (c : CoreState) (k : Setup) (views : List View) (i : ℕ) (v : View) (t
     pub range_fits : d + n ≤ length c.superblocks.items
     range_fits = let s = some in let l = large_low (d + n - 1) (omega arith) (omega arith) in let f = keeps.superblocks in omega arith
 
-    pub split_count : n ≡ count_in (share_for i (get_or c.superblocks.items d no_superblock))
+    pub split_count : n ≡ count_in (usage_for i (get_or c.superblocks.items d no_superblock))
     split_count = count_is
 
-    pub split : (count : ℕ) → count ≡ n → (owners : Vec SuperblockOwner Global) (anchor : Option Seen) → IsRange c.superblocks.items owners.items d count (record { seat = i; share = share.Split }) → snapshot anchor ≡ cleared d count (snapshot t.seen_anchor)
+    pub split : (count : ℕ) → count ≡ n → (owners : Vec SuperblockOwner Global) (anchor : Option Seen) → IsRange c.superblocks.items owners.items d count (record { seat = i; usage = usage.Split }) → snapshot anchor ≡ cleared d count (snapshot t.seen_anchor)
         → IsMoved c (record c { superblocks = owners; seats = with_item c.seats i (record t { seen_anchor = anchor }) }) views i t (after_split v (superblock_at v.setup.capacity block))
     split count count_n owners anchor range_count anchor_is = subst (λ m. IsMoved c (record c { superblocks = owners; seats = with_item c.seats i (record t { seen_anchor = anchor }) }) views i t (after_split v m)) (sym d_v) (record {
       after = record t { seen_anchor = anchor };
@@ -129,8 +125,8 @@ module _ (c : CoreState) (k : Setup) (views : List View) (i : ℕ) (v : View) (t
         caches = kept.caches;
         batch = kept.batch;
         blocks = kept.blocks;
-        superblocks = range_mine c.superblocks.items owners.items i d n share.Split (λ e y. IsShare e y v.raw (v.split ++ steps d 1 n) v.cutting v.classed (without_span d v.large)) range
-            (λ e low high. let o = kept.superblocks e in let z = large_only (share_for i (get_or c.superblocks.items e no_superblock)) (covered e low high) in
+        superblocks = range_mine c.superblocks.items owners.items i d n usage.Split (λ e y. IsUsage e y v.raw (v.split ++ steps d 1 n) v.cutting v.classed (without_span d v.large)) range
+            (λ e low high. let o = kept.superblocks e in let z = large_only (usage_for i (get_or c.superblocks.items e no_superblock)) (covered e low high) in
             let w = without_span_is e d v.large some in let r = range_is d n e low high in let l = o.is_large in let z5 = z.5 in
             let gone : times_large e (without_span d v.large) ≡ 0 = omega arith in record {
               is_raw = o.is_raw ∙ z.0;
@@ -157,18 +153,18 @@ module _ (c : CoreState) (k : Setup) (views : List View) (i : ℕ) (v : View) (t
         caches = h.caches;
         batch = h.batch;
         blocks = h.blocks;
-        superblocks = range_theirs c.superblocks.items owners.items i j d n share.Split (λ e y. IsShare e y u.raw u.split u.cutting u.classed u.large) other range
-            (λ e low high. share_alone i j (get_or c.superblocks.items e no_superblock) other (λ none. let l = covered e low high in let z = ap large_in none in omega arith)) h.superblocks;
+        superblocks = range_theirs c.superblocks.items owners.items i j d n usage.Split (λ e y. IsUsage e y u.raw u.split u.cutting u.classed u.large) other range
+            (λ e low high. usage_alone i j (get_or c.superblocks.items e no_superblock) other (λ none. let l = covered e low high in let z = ap large_in none in omega arith)) h.superblocks;
         roots = h.roots;
       };
     }) where
-      range : IsRange c.superblocks.items owners.items d n (record { seat = i; share = share.Split })
-      range = subst (λ m. IsRange c.superblocks.items owners.items d m (record { seat = i; share = share.Split })) count_n range_count
+      range : IsRange c.superblocks.items owners.items d n (record { seat = i; usage = usage.Split })
+      range = subst (λ m. IsRange c.superblocks.items owners.items d m (record { seat = i; usage = usage.Split })) count_n range_count
 
 -- what fits when a large block may be split
 pub record SplitFits (c : CoreState) (i block : ℕ) : Type 0 where
   pub from : start_word c.geometry.capacity 0 ≤ block
-  pub range : superblock_at c.geometry.capacity block + count_in (share_for i (get_or c.superblocks.items (superblock_at c.geometry.capacity block) no_superblock)) ≤ length c.superblocks.items
+  pub range : superblock_at c.geometry.capacity block + count_in (usage_for i (get_or c.superblocks.items (superblock_at c.geometry.capacity block) no_superblock)) ≤ length c.superblocks.items
 
 pub split_fits : (c : CoreState) (i block : ℕ) (t : SeatNotes) → IsCore c → i < length c.seats.items → get_or c.seats.items i t ≡ t → Decides c i (λ m v. MaySplit v block) true → SplitFits c i block
 split_fits c i block t core less at_t may =

@@ -7,14 +7,16 @@ use Rattle.std.proofs.lemmas.Bool.{cases_eq}
 use Rattle.std.proofs.lemmas.List.{get_or-set_same, get_or-set_other}
 use Rattle.core_model.specs.declared.answer.StepAnswer.TheVariants.{Done, NotNow}
 use Rattle.core_model.specs.declared.event.Event.{Event}
-use Rattle.crash_core.specs.declared.owners.SeatNotes.{SeatNotes}
+use Rattle.seat_notes.specs.declared.notes.SeatNotes.{SeatNotes}
 use Rattle.crash_core.specs.declared.state.CoreState.{CoreState}
 use Rattle.core_model.specs.Memory.{Memory, memory_of}
 use Rattle.core_model.specs.View.{Setup, View, one_if_some}
 use Rattle.core_model.specs.Guards.{IsAsSeen, IsReadyFor, HasTicketFor, MayStep}
 use Rattle.core_model.specs.Sound.{Sound}
 use Rattle.core_model.specs.Steps.{words_after, seat_after, state_after}
-use Rattle.crash_core.specs.Standing.{HasNotes, HasCaches, HasBatch, HasBlocksOf, HasSuperblocks, HasRoots, IsKept, KeepsViews, StandsFor, state_of, Steps, steps_done, steps_not}
+use Rattle.seat_notes.specs.Notes.{HasNotes, HasCaches, HasBatch}
+use Rattle.crash_core.specs.Standing.{HasBlocksOf, HasRoots, IsKept, KeepsViews, StandsFor, state_of, Steps, steps_done, steps_not}
+use Rattle.seat_notes.specs.Superblocks.{HasSuperblocks}
 use Rattle.core_model.proofs.StepLemmas.{Parts, parts}
 use Rattle.core_model.proofs.SoundLemmas.{sound_step}
 

@@ -7,11 +7,11 @@ use Rattle.core_model.specs.declared.answer.StepAnswer.TheVariants.{Done, NotNow
 use Rattle.core_model.specs.declared.event.Event.TheVariants.{Store, Settle}
 use Rattle.crash_core.specs.declared.owners.BlockPlace.{BlockPlace}
 use Rattle.crash_core.specs.declared.owners.BlockPlace.TheVariants as place
-use Rattle.crash_core.specs.declared.owners.SeatNotes.{SeatNotes}
-use Rattle.crash_core.specs.declared.owners.Group.{Group}
-use Rattle.crash_core.specs.declared.owners.Share.{Share}
-use Rattle.crash_core.specs.declared.owners.Share.TheVariants as share
-use Rattle.crash_core.specs.declared.owners.SuperblockOwner.{SuperblockOwner}
+use Rattle.seat_notes.specs.declared.notes.SeatNotes.{SeatNotes}
+use Rattle.seat_notes.specs.declared.notes.Group.{Group}
+use Rattle.seat_notes.specs.declared.superblocks.SuperblockUsage.{SuperblockUsage}
+use Rattle.seat_notes.specs.declared.superblocks.SuperblockUsage.TheVariants as usage
+use Rattle.seat_notes.specs.declared.superblocks.SuperblockOwner.{SuperblockOwner}
 use Rattle.crash_core.specs.declared.state.CoreState.{CoreState}
 use Rattle.core_model.specs.Cells.{Cell, used_cell, head_cell, info_cell, anchor_cell, link_cell, root_cell, data_cell, no_cell, cell_at, is_cell, index_of}
 use Rattle.core_model.specs.Memory.{Memory, anchor, memory_of}
@@ -20,31 +20,33 @@ use Rattle.core_model.specs.Effects.{claim_class, span_count, last_of, learn, us
 use Rattle.core_model.specs.Guards.{IsThere, IsOwn, MayStore, MayAnchor, as_empty, as_full, MayChangeWord}
 use Rattle.crash_core.specs.OwnWords.{IsPlain}
 use Rattle.core_model.specs.Sound.{Good}
-use Rattle.crash_core.specs.Standing.{HasBatch, share_for, place_for, cached_in, batched_in, no_superblock, no_block, anchored, split_in, cutting_in, classed_in, class_in, large_in, count_in, IsShare, HasSuperblocks, IsKept, KeepsViews, Steps, memory_at}
+use Rattle.seat_notes.specs.Notes.{HasBatch}
+use Rattle.seat_notes.specs.Superblocks.{usage_for, no_superblock, anchored, split_in, cutting_in, classed_in, class_in, large_in, count_in, IsUsage, HasSuperblocks}
+use Rattle.crash_core.specs.Standing.{place_for, cached_in, batched_in, no_block, IsKept, KeepsViews, Steps, memory_at}
 use Rattle.core_model.proofs.SoundLemmas.{in_table}
 use Rattle.core_model.proofs.PlaceLemmas.{index_at}
 use Rattle.core_model.proofs.TotalLemmas.{eq-eqb-one, ne-eqb-none}
 use Rattle.crash_core.proofs.StandingLemmas.{step_done, step_not, may_step, memory_in, IsSameHeap}
-use Rattle.crash_core.proofs.ShareLemmas.{shares_mine, shares_theirs, share_alone}
-use Rattle.crash_core.proofs.ClaimLemmas.{without_off}
+use Rattle.seat_notes.proofs.UsageLemmas.{usages_mine, usages_theirs, usage_alone}
+use Rattle.seat_notes.proofs.CountLemmas.{without_off}
 use Rattle.heap_model.proofs.ListLemmas.{without_at}
 
 -- the superblocks of a seat after a store to the anchor of one
 anchored_kept : (owners : List SuperblockOwner) (i d value : ℕ) (raw split cutting : List ℕ) (classed : List Claim) (large : List Span) (base : View) → base.raw ≡ raw → base.split ≡ split → base.cutting ≡ cutting → base.classed ≡ classed → base.large ≡ large
     → d < length owners → 0 < times d raw + times d split + times d cutting → HasSuperblocks owners i raw split cutting classed large
-    → HasSuperblocks (set owners d (record { seat = i; share = anchored value })) i (stored_anchor base d value).raw (stored_anchor base d value).split (stored_anchor base d value).cutting (stored_anchor base d value).classed (stored_anchor base d value).large
+    → HasSuperblocks (set owners d (record { seat = i; usage = anchored value })) i (stored_anchor base d value).raw (stored_anchor base d value).split (stored_anchor base d value).cutting (stored_anchor base d value).classed (stored_anchor base d value).large
 anchored_kept owners i d zero raw split cutting classed large base a b e f g less some old =
-    shares_mine owners i d share.Raw (λ n y. IsShare n y (d ∷ without d base.raw) (without d base.split) (without d base.cutting) base.classed base.large) less
-    (now (share_for i (get_or owners d no_superblock)) (old d)) (λ n other. let o = old n in record {
+    usages_mine owners i d usage.Raw (λ n y. IsUsage n y (d ∷ without d base.raw) (without d base.split) (without d base.cutting) base.classed base.large) less
+    (now (usage_for i (get_or owners d no_superblock)) (old d)) (λ n other. let o = old n in record {
       is_raw = (let z = ne-eqb-none d n (λ h. other (sym h)) in let w = without_off n d base.raw other in let r = o.is_raw in let q = ap (times n) a in omega arith);
       is_split = without_off n d base.split other ∙ ap (times n) b ∙ o.is_split;
       is_cutting = without_off n d base.cutting other ∙ ap (times n) e ∙ o.is_cutting;
-      is_classed = subst (λ l. times_classed n l ≡ classed_in (share_for i (get_or owners n no_superblock))) (sym f) o.is_classed;
-      class = subst (λ l. claim_class n l ≡ class_in (share_for i (get_or owners n no_superblock))) (sym f) o.class;
-      is_large = subst (λ l. times_large n l ≡ large_in (share_for i (get_or owners n no_superblock))) (sym g) o.is_large;
-      count = subst (λ l. span_count n l ≡ count_in (share_for i (get_or owners n no_superblock))) (sym g) o.count;
+      is_classed = subst (λ l. times_classed n l ≡ classed_in (usage_for i (get_or owners n no_superblock))) (sym f) o.is_classed;
+      class = subst (λ l. claim_class n l ≡ class_in (usage_for i (get_or owners n no_superblock))) (sym f) o.class;
+      is_large = subst (λ l. times_large n l ≡ large_in (usage_for i (get_or owners n no_superblock))) (sym g) o.is_large;
+      count = subst (λ l. span_count n l ≡ count_in (usage_for i (get_or owners n no_superblock))) (sym g) o.count;
     }) where
-      now : (x : Share) → IsShare d x raw split cutting classed large → IsShare d share.Raw (d ∷ without d base.raw) (without d base.split) (without d base.cutting) base.classed base.large
+      now : (x : SuperblockUsage) → IsUsage d x raw split cutting classed large → IsUsage d usage.Raw (d ∷ without d base.raw) (without d base.split) (without d base.cutting) base.classed base.large
       now x o = let z = zeros x o in record {
         is_raw = (let one = eq-eqb-one d d refl in let w = without_at d base.raw (let q = ap (times d) a in let r = z.0 in omega arith) in omega arith);
         is_split = without_at d base.split (let q = ap (times d) b in let r = z.1 in omega arith);
@@ -54,25 +56,25 @@ anchored_kept owners i d zero raw split cutting classed large base a b e f g les
         is_large = ap (times_large d) g ∙ z.5;
         count = ap (span_count d) g ∙ z.6;
       } where
-        zeros : (x : Share) → IsShare d x raw split cutting classed large → (times d raw ≤ 1) × (times d split ≤ 1) × (times d cutting ≤ 1) × (times_classed d classed ≡ 0) × (claim_class d classed ≡ 0) × (times_large d large ≡ 0) × (span_count d large ≡ 0)
-        zeros share.Nothing o = absurd (let p = o.is_raw in let q = o.is_split in let r = o.is_cutting in omega arith)
-        zeros share.Raw o = let p = o.is_raw in let q = o.is_split in let r = o.is_cutting in (omega arith, omega arith, omega arith, o.is_classed, o.class, o.is_large, o.count)
-        zeros share.Split o = let p = o.is_raw in let q = o.is_split in let r = o.is_cutting in (omega arith, omega arith, omega arith, o.is_classed, o.class, o.is_large, o.count)
-        zeros share.Cutting o = let p = o.is_raw in let q = o.is_split in let r = o.is_cutting in (omega arith, omega arith, omega arith, o.is_classed, o.class, o.is_large, o.count)
-        zeros (share.Classed class) o = absurd (let p = o.is_raw in let q = o.is_split in let r = o.is_cutting in omega arith)
-        zeros (share.Large count) o = absurd (let p = o.is_raw in let q = o.is_split in let r = o.is_cutting in omega arith)
+        zeros : (x : SuperblockUsage) → IsUsage d x raw split cutting classed large → (times d raw ≤ 1) × (times d split ≤ 1) × (times d cutting ≤ 1) × (times_classed d classed ≡ 0) × (claim_class d classed ≡ 0) × (times_large d large ≡ 0) × (span_count d large ≡ 0)
+        zeros usage.Nothing o = absurd (let p = o.is_raw in let q = o.is_split in let r = o.is_cutting in omega arith)
+        zeros usage.Raw o = let p = o.is_raw in let q = o.is_split in let r = o.is_cutting in (omega arith, omega arith, omega arith, o.is_classed, o.class, o.is_large, o.count)
+        zeros usage.Split o = let p = o.is_raw in let q = o.is_split in let r = o.is_cutting in (omega arith, omega arith, omega arith, o.is_classed, o.class, o.is_large, o.count)
+        zeros usage.Cutting o = let p = o.is_raw in let q = o.is_split in let r = o.is_cutting in (omega arith, omega arith, omega arith, o.is_classed, o.class, o.is_large, o.count)
+        zeros (usage.Classed class) o = absurd (let p = o.is_raw in let q = o.is_split in let r = o.is_cutting in omega arith)
+        zeros (usage.Large count) o = absurd (let p = o.is_raw in let q = o.is_split in let r = o.is_cutting in omega arith)
 anchored_kept owners i d (suc value) raw split cutting classed large base a b e f g less some old =
-    shares_mine owners i d share.Cutting (λ n y. IsShare n y (without d base.raw) (without d base.split) (d ∷ without d base.cutting) base.classed base.large) less
-    (now (share_for i (get_or owners d no_superblock)) (old d)) (λ n other. let o = old n in record {
+    usages_mine owners i d usage.Cutting (λ n y. IsUsage n y (without d base.raw) (without d base.split) (d ∷ without d base.cutting) base.classed base.large) less
+    (now (usage_for i (get_or owners d no_superblock)) (old d)) (λ n other. let o = old n in record {
       is_raw = without_off n d base.raw other ∙ ap (times n) a ∙ o.is_raw;
       is_split = without_off n d base.split other ∙ ap (times n) b ∙ o.is_split;
       is_cutting = (let z = ne-eqb-none d n (λ h. other (sym h)) in let w = without_off n d base.cutting other in let r = o.is_cutting in let q = ap (times n) e in omega arith);
-      is_classed = subst (λ l. times_classed n l ≡ classed_in (share_for i (get_or owners n no_superblock))) (sym f) o.is_classed;
-      class = subst (λ l. claim_class n l ≡ class_in (share_for i (get_or owners n no_superblock))) (sym f) o.class;
-      is_large = subst (λ l. times_large n l ≡ large_in (share_for i (get_or owners n no_superblock))) (sym g) o.is_large;
-      count = subst (λ l. span_count n l ≡ count_in (share_for i (get_or owners n no_superblock))) (sym g) o.count;
+      is_classed = subst (λ l. times_classed n l ≡ classed_in (usage_for i (get_or owners n no_superblock))) (sym f) o.is_classed;
+      class = subst (λ l. claim_class n l ≡ class_in (usage_for i (get_or owners n no_superblock))) (sym f) o.class;
+      is_large = subst (λ l. times_large n l ≡ large_in (usage_for i (get_or owners n no_superblock))) (sym g) o.is_large;
+      count = subst (λ l. span_count n l ≡ count_in (usage_for i (get_or owners n no_superblock))) (sym g) o.count;
     }) where
-      now : (x : Share) → IsShare d x raw split cutting classed large → IsShare d share.Cutting (without d base.raw) (without d base.split) (d ∷ without d base.cutting) base.classed base.large
+      now : (x : SuperblockUsage) → IsUsage d x raw split cutting classed large → IsUsage d usage.Cutting (without d base.raw) (without d base.split) (d ∷ without d base.cutting) base.classed base.large
       now x o = let z = zeros x o in record {
         is_raw = without_at d base.raw (let q = ap (times d) a in let r = z.0 in omega arith);
         is_split = without_at d base.split (let q = ap (times d) b in let r = z.1 in omega arith);
@@ -82,13 +84,13 @@ anchored_kept owners i d (suc value) raw split cutting classed large base a b e 
         is_large = ap (times_large d) g ∙ z.5;
         count = ap (span_count d) g ∙ z.6;
       } where
-        zeros : (x : Share) → IsShare d x raw split cutting classed large → (times d raw ≤ 1) × (times d split ≤ 1) × (times d cutting ≤ 1) × (times_classed d classed ≡ 0) × (claim_class d classed ≡ 0) × (times_large d large ≡ 0) × (span_count d large ≡ 0)
-        zeros share.Nothing o = absurd (let p = o.is_raw in let q = o.is_split in let r = o.is_cutting in omega arith)
-        zeros share.Raw o = let p = o.is_raw in let q = o.is_split in let r = o.is_cutting in (omega arith, omega arith, omega arith, o.is_classed, o.class, o.is_large, o.count)
-        zeros share.Split o = let p = o.is_raw in let q = o.is_split in let r = o.is_cutting in (omega arith, omega arith, omega arith, o.is_classed, o.class, o.is_large, o.count)
-        zeros share.Cutting o = let p = o.is_raw in let q = o.is_split in let r = o.is_cutting in (omega arith, omega arith, omega arith, o.is_classed, o.class, o.is_large, o.count)
-        zeros (share.Classed class) o = absurd (let p = o.is_raw in let q = o.is_split in let r = o.is_cutting in omega arith)
-        zeros (share.Large count) o = absurd (let p = o.is_raw in let q = o.is_split in let r = o.is_cutting in omega arith)
+        zeros : (x : SuperblockUsage) → IsUsage d x raw split cutting classed large → (times d raw ≤ 1) × (times d split ≤ 1) × (times d cutting ≤ 1) × (times_classed d classed ≡ 0) × (claim_class d classed ≡ 0) × (times_large d large ≡ 0) × (span_count d large ≡ 0)
+        zeros usage.Nothing o = absurd (let p = o.is_raw in let q = o.is_split in let r = o.is_cutting in omega arith)
+        zeros usage.Raw o = let p = o.is_raw in let q = o.is_split in let r = o.is_cutting in (omega arith, omega arith, omega arith, o.is_classed, o.class, o.is_large, o.count)
+        zeros usage.Split o = let p = o.is_raw in let q = o.is_split in let r = o.is_cutting in (omega arith, omega arith, omega arith, o.is_classed, o.class, o.is_large, o.count)
+        zeros usage.Cutting o = let p = o.is_raw in let q = o.is_split in let r = o.is_cutting in (omega arith, omega arith, omega arith, o.is_classed, o.class, o.is_large, o.count)
+        zeros (usage.Classed class) o = absurd (let p = o.is_raw in let q = o.is_split in let r = o.is_cutting in omega arith)
+        zeros (usage.Large count) o = absurd (let p = o.is_raw in let q = o.is_split in let r = o.is_cutting in omega arith)
 
 plain_may : (m : Memory) (v : View) (cell : Cell) (value : ℕ) → IsPlain cell → MayStore m v cell value
 plain_may m v used_cell value is = absurd is
@@ -178,13 +180,13 @@ module _ (c : CoreState) (k : Setup) (views : List View) (i : ℕ) (v : View) (t
         (ap (λ (y : View). y.stopped) (plain_same base cell value plain_cell) ∙ going)
         (subst (IsKept plainly i (record t { ticket = None })) (sym (plain_same base cell value plain_cell)) kept_base) others_base
 
-  pub link : (word value d : ℕ) → cell_at c.geometry.capacity word ≡ link_cell d → IsThere v.ticket → IsOwn v (cell_at v.setup.capacity word) → (x : Share) → x ≡ share_for i (get_or c.superblocks.items d no_superblock) → cutting_in x ≡ 0
+  pub link : (word value d : ℕ) → cell_at c.geometry.capacity word ≡ link_cell d → IsThere v.ticket → IsOwn v (cell_at v.setup.capacity word) → (x : SuperblockUsage) → x ≡ usage_for i (get_or c.superblocks.items d no_superblock) → cutting_in x ≡ 0
       → Steps c (record c { words = with_item c.words word value; seats = with_item c.seats i (record t { ticket = None }) }) k views i v (Store word value) Done
   link word value d is ticket own x x_is none = store_as word value (link_cell d) is _ (record t { ticket = None }) ticket own
       ((kept.superblocks d).is_cutting ∙ ap cutting_in (sym x_is) ∙ none) refl refl
       (record { capacity = refl; budget = refl; blocks = refl; superblocks = refl; roots = refl }) going (kept_base word value (link_cell d) is) (others_base word value (link_cell d) is)
 
-  pub no_link : (word value d : ℕ) → cell_at c.geometry.capacity word ≡ link_cell d → (x : Share) → x ≡ share_for i (get_or c.superblocks.items d no_superblock) → 0 < cutting_in x → Steps c c k views i v (Store word value) NotNow
+  pub no_link : (word value d : ℕ) → cell_at c.geometry.capacity word ≡ link_cell d → (x : SuperblockUsage) → x ≡ usage_for i (get_or c.superblocks.items d no_superblock) → 0 < cutting_in x → Steps c c k views i v (Store word value) NotNow
   no_link word value d is x x_is some = not_stored word value (link_cell d) is (λ none. let o = (kept.superblocks d).is_cutting in let e = ap cutting_in x_is in omega arith)
 
   pub data_stored : (word value : ℕ) (b : Group) → cell_at c.geometry.capacity word ≡ data_cell word → IsThere v.ticket → IsOwn v (cell_at v.setup.capacity word) → MayChangeWord v word
@@ -204,21 +206,21 @@ module _ (c : CoreState) (k : Setup) (views : List View) (i : ℕ) (v : View) (t
       })
       (λ j s u other less at_u h. record { notes = h.notes; caches = h.caches; batch = h.batch; blocks = h.blocks; superblocks = h.superblocks; roots = h.roots })
 
-  pub anchor_stored : (word value d : ℕ) (x : Share) → cell_at c.geometry.capacity word ≡ anchor_cell d → d < c.geometry.capacity → IsThere v.ticket → IsOwn v (cell_at v.setup.capacity word) → MayAnchor (memory_in c k) v d value → x ≡ anchored value
-      → Steps c (record c { words = with_item c.words word value; superblocks = with_item c.superblocks d (record { seat = i; share = x }); seats = with_item c.seats i (record t { ticket = None }) }) k views i v (Store word value) Done
+  pub anchor_stored : (word value d : ℕ) (x : SuperblockUsage) → cell_at c.geometry.capacity word ≡ anchor_cell d → d < c.geometry.capacity → IsThere v.ticket → IsOwn v (cell_at v.setup.capacity word) → MayAnchor (memory_in c k) v d value → x ≡ anchored value
+      → Steps c (record c { words = with_item c.words word value; superblocks = with_item c.superblocks d (record { seat = i; usage = x }); seats = with_item c.seats i (record t { ticket = None }) }) k views i v (Store word value) Done
   anchor_stored word value d x is less ticket own may x_is = store_as word value (anchor_cell d) is c' (record t { ticket = None }) ticket own may refl refl
-      (record { capacity = refl; budget = refl; blocks = refl; superblocks = length-set c.superblocks.items d (record { seat = i; share = x }); roots = refl })
+      (record { capacity = refl; budget = refl; blocks = refl; superblocks = length-set c.superblocks.items d (record { seat = i; usage = x }); roots = refl })
       (anchored_going (base word value (anchor_cell d) is) d value ∙ going) (mine value x_is)
       (λ j s u other less_j at_u h. record {
         notes = h.notes;
         caches = h.caches;
         batch = h.batch;
         blocks = h.blocks;
-        superblocks = shares_theirs c.superblocks.items i j d x (λ e y. IsShare e y u.raw u.split u.cutting u.classed u.large) long other (share_alone i j (get_or c.superblocks.items d no_superblock) other mine_share) h.superblocks;
+        superblocks = usages_theirs c.superblocks.items i j d x (λ e y. IsUsage e y u.raw u.split u.cutting u.classed u.large) long other (usage_alone i j (get_or c.superblocks.items d no_superblock) other mine_usage) h.superblocks;
         roots = h.roots;
       }) where
         c' : CoreState
-        c' = record c { words = with_item c.words word value; superblocks = with_item c.superblocks d (record { seat = i; share = x }); seats = with_item c.seats i (record t { ticket = None }) }
+        c' = record c { words = with_item c.words word value; superblocks = with_item c.superblocks d (record { seat = i; usage = x }); seats = with_item c.seats i (record t { ticket = None }) }
 
         long : d < length c.superblocks.items
         long = let n = keeps.superblocks in let g = keeps.capacity in omega arith
@@ -226,8 +228,8 @@ module _ (c : CoreState) (k : Setup) (views : List View) (i : ℕ) (v : View) (t
         has_raw : 0 < times d v.raw + times d v.split + times d v.cutting
         has_raw = subst (λ y. 0 < times_own v y) (ap (λ n. cell_at n word) (cap ∙ keeps.capacity) ∙ is) own
 
-        mine_share : share_for i (get_or c.superblocks.items d no_superblock) ≡ share.Nothing → ⊥
-        mine_share none = let o = subst (λ y. IsShare d y v.raw v.split v.cutting v.classed v.large) none (kept.superblocks d) in
+        mine_usage : usage_for i (get_or c.superblocks.items d no_superblock) ≡ usage.Nothing → ⊥
+        mine_usage none = let o = subst (λ y. IsUsage d y v.raw v.split v.cutting v.classed v.large) none (kept.superblocks d) in
             let p = o.is_raw in let q = o.is_split in let r = o.is_cutting in let h = has_raw in absurd (omega arith)
 
         mine : (n : ℕ) → x ≡ anchored n → IsKept c' i (record t { ticket = None }) (stored_anchor (base word value (anchor_cell d) is) d n)
@@ -236,7 +238,7 @@ module _ (c : CoreState) (k : Setup) (views : List View) (i : ℕ) (v : View) (t
           caches = kept.caches;
           batch = kept.batch;
           blocks = kept.blocks;
-          superblocks = subst (λ y. HasSuperblocks (set c.superblocks.items d (record { seat = i; share = y })) i (d ∷ without d v.raw) (without d v.split) (without d v.cutting) v.classed v.large) (sym e)
+          superblocks = subst (λ y. HasSuperblocks (set c.superblocks.items d (record { seat = i; usage = y })) i (d ∷ without d v.raw) (without d v.split) (without d v.cutting) v.classed v.large) (sym e)
               (anchored_kept c.superblocks.items i d zero v.raw v.split v.cutting v.classed v.large (base word value (anchor_cell d) is) refl refl refl refl refl long has_raw kept.superblocks);
           roots = kept.roots;
         }
@@ -245,7 +247,7 @@ module _ (c : CoreState) (k : Setup) (views : List View) (i : ℕ) (v : View) (t
           caches = kept.caches;
           batch = kept.batch;
           blocks = kept.blocks;
-          superblocks = subst (λ y. HasSuperblocks (set c.superblocks.items d (record { seat = i; share = y })) i (without d v.raw) (without d v.split) (d ∷ without d v.cutting) v.classed v.large) (sym e)
+          superblocks = subst (λ y. HasSuperblocks (set c.superblocks.items d (record { seat = i; usage = y })) i (without d v.raw) (without d v.split) (d ∷ without d v.cutting) v.classed v.large) (sym e)
               (anchored_kept c.superblocks.items i d (suc m) v.raw v.split v.cutting v.classed v.large (base word value (anchor_cell d) is) refl refl refl refl refl long has_raw kept.superblocks);
           roots = kept.roots;
         }
@@ -266,13 +268,13 @@ module _ (c : CoreState) (k : Setup) (views : List View) (i : ℕ) (v : View) (t
   pub no_anchor : (d value : ℕ) → value ≢ 0 → value ≢ 2 → MayAnchor (memory_in c k) v d value → ⊥
   no_anchor d value some full may = full (anchor_of d value some may).0
 
-  pub cutting_anchor : (d value : ℕ) → value ≢ 0 → share.Cutting ≡ share_for i (get_or c.superblocks.items d no_superblock) → MayAnchor (memory_in c k) v d value → ⊥
+  pub cutting_anchor : (d value : ℕ) → value ≢ 0 → usage.Cutting ≡ usage_for i (get_or c.superblocks.items d no_superblock) → MayAnchor (memory_in c k) v d value → ⊥
   cutting_anchor d value some is may = let o = (kept_now.superblocks d).is_cutting in let e = ap cutting_in is in let z = (anchor_of d value some may).1 in omega arith
 
-  pub split_anchor : (d value : ℕ) → value ≡ 2 → share.Split ≡ share_for i (get_or c.superblocks.items d no_superblock) → MayAnchor (memory_in c k) v d value
+  pub split_anchor : (d value : ℕ) → value ≡ 2 → usage.Split ≡ usage_for i (get_or c.superblocks.items d no_superblock) → MayAnchor (memory_in c k) v d value
   split_anchor d value full is = as_full value full (let o = (kept_now.superblocks d).is_cutting in let e = ap cutting_in is in omega arith) (inr (let o = (kept_now.superblocks d).is_split in let e = ap split_in is in omega arith))
 
-  pub other_anchor : (d value state word : ℕ) (x : Share) → value ≢ 0 → value ≡ 2 → x ≡ share_for i (get_or c.superblocks.items d no_superblock) → cutting_in x + split_in x ≡ 0 → state ≡ anchor_state word → word ≡ anchor (memory_at c) d
+  pub other_anchor : (d value state word : ℕ) (x : SuperblockUsage) → value ≢ 0 → value ≡ 2 → x ≡ usage_for i (get_or c.superblocks.items d no_superblock) → cutting_in x + split_in x ≡ 0 → state ≡ anchor_state word → word ≡ anchor (memory_at c) d
       → (nat_eq state 0 ≡ true) ↔ MayAnchor (memory_in c k) v d value
   other_anchor d value state word x some full is none state_is word_is = (
     λ e. as_full value full (let o = (kept_now.superblocks d).is_cutting in let g = ap cutting_in is in omega arith) (inl (now ∙ eqb-true state 0 e)),

@@ -11,9 +11,9 @@ use Rattle.core_model.specs.declared.answer.StepAnswer.TheVariants.{Done, NotNow
 use Rattle.core_model.specs.declared.event.Event.TheVariants.{TakeAll}
 use Rattle.crash_core.specs.declared.owners.BlockPlace.TheVariants as place
 use Rattle.crash_core.specs.declared.owners.BlockOwner.{BlockOwner}
-use Rattle.crash_core.specs.declared.owners.SeatNotes.{SeatNotes}
-use Rattle.crash_core.specs.declared.owners.Seen.{Seen}
-use Rattle.crash_core.specs.declared.owners.Share.TheVariants as share
+use Rattle.seat_notes.specs.declared.notes.SeatNotes.{SeatNotes}
+use Rattle.seat_notes.specs.declared.notes.Seen.{Seen}
+use Rattle.seat_notes.specs.declared.superblocks.SuperblockUsage.TheVariants as usage
 use Rattle.crash_core.specs.declared.state.CoreState.{CoreState}
 use Rattle.core_model.specs.Memory.{anchor, info, next, memory_of}
 use Rattle.core_model.specs.View.{Setup, View, one_if_some, of_class, times_block, times_classed}
@@ -21,18 +21,20 @@ use Rattle.core_model.specs.Effects.{chain, seen_word, seen_of, claim_class, anc
 use Rattle.core_model.specs.Guards.{IsThere, MayTakeAll}
 use Rattle.core_model.specs.Sound.{tally_of, times_cut, IsAnchoredBy, IsCutBlock, Good}
 use Rattle.core_model.specs.Steps.{seat_after}
-use Rattle.crash_core.specs.Standing.{share_for, no_superblock, classed_in, IsShare, HasCaches, HasBlocksOf, HasNewOwner, IsKept, IsCore, KeepsViews, Steps, Decides, memory_at}
+use Rattle.seat_notes.specs.Superblocks.{usage_for, no_superblock, classed_in, IsUsage}
+use Rattle.seat_notes.specs.Notes.{HasCaches}
+use Rattle.crash_core.specs.Standing.{HasBlocksOf, HasNewOwner, IsKept, IsCore, KeepsViews, Steps, Decides, memory_at}
 use Rattle.core_model.proofs.SoundLemmas.{taken}
 use Rattle.core_model.proofs.PlaceLemmas.{pick}
 use Rattle.core_model.proofs.BlockLemmas.{walks_chain}
 use Rattle.core_model.proofs.TotalLemmas.{total_at}
 use Rattle.crash_core.proofs.StandingLemmas.{step_done, step_not, memory_in}
-use Rattle.crash_core.proofs.ShareLemmas.{shares_theirs, share_alone}
+use Rattle.seat_notes.proofs.UsageLemmas.{usages_theirs, usage_alone}
 use Rattle.crash_core.proofs.ClaimLemmas.{class_given_up}
 use Rattle.crash_core.proofs.KeptFacts as facts
-use Rattle.crash_core.proofs.MoveSteps.{no_cache}
+use Rattle.seat_notes.proofs.NewSeat.{no_cache}
 use Rattle.crash_core.proofs.ChainSteps.{chain_is, block_fits, none_of, walk_first, caches_given, blocks_given, blocks_theirs}
-use Rattle.crash_core.proofs.WordLemmas.{entry_is, entry_there}
+use Rattle.seat_notes.proofs.WordLemmas.{entry_is, entry_there}
 
 module _ (c : CoreState) (k : Setup) (views : List View) (i : ℕ) (v : View) (t : SeatNotes) (keeps : KeepsViews c k views) (below : i < length views) (at : get_or views i v ≡ v)
     (at_t : get_or c.seats.items i t ≡ t) (d : ℕ) where
@@ -48,14 +50,14 @@ module _ (c : CoreState) (k : Setup) (views : List View) (i : ℕ) (v : View) (t
   pub take_beyond : c.geometry.capacity ≤ d → MayTakeAll v d → ⊥
   take_beyond past may = let l = taken k (memory_in c k) views i v below at good d (let g = may.claimed in omega arith) in let cap = keeps.capacity in omega arith
 
-  pub take_unclaimed : classed_in (share_for i (get_or c.superblocks.items d no_superblock)) ≡ 0 → MayTakeAll v d → ⊥
+  pub take_unclaimed : classed_in (usage_for i (get_or c.superblocks.items d no_superblock)) ≡ 0 → MayTakeAll v d → ⊥
   take_unclaimed none may = let g = may.claimed in let f = (kept.superblocks d).is_classed in omega arith
 
-  class_at : 0 < classed_in (share_for i (get_or c.superblocks.items d no_superblock)) → (class : ℕ) → class ≡ info (memory_at c) d → IsClass class × (class ≡ claim_class d v.classed)
+  class_at : 0 < classed_in (usage_for i (get_or c.superblocks.items d no_superblock)) → (class : ℕ) → class ≡ info (memory_at c) d → IsClass class × (class ≡ claim_class d v.classed)
   class_at some class class_is = let claim = (good.claims i v below at).is_classed d (let f = (kept.superblocks d).is_classed in omega arith) in
       let is : class ≡ claim_class d v.classed = class_is ∙ ap (λ m. info m d) same ∙ claim.1 in (subst IsClass (sym is) claim.0, is)
 
-  pub take_class : 0 < classed_in (share_for i (get_or c.superblocks.items d no_superblock)) → (class : ℕ) → class ≡ info (memory_at c) d → class < lists
+  pub take_class : 0 < classed_in (usage_for i (get_or c.superblocks.items d no_superblock)) → (class : ℕ) → class ≡ info (memory_at c) d → class < lists
   take_class some class class_is = let l = (class_at some class class_is).0.last in omega arith
 
   module _ (word : Seen) (some : t.seen_anchor ≡ Some word) where
@@ -68,7 +70,7 @@ module _ (c : CoreState) (k : Setup) (views : List View) (i : ℕ) (v : View) (t
     pub take_not_partial : anchor_state word.word ≢ 1 → MayTakeAll v d → ⊥
     take_not_partial other may = other (sym (ap (λ x. anchor_state (seen_word x)) saw) ∙ may.partial)
 
-    pub take_decided : word.of ≡ d → anchor_state word.word ≡ 1 → 0 < classed_in (share_for i (get_or c.superblocks.items d no_superblock)) → (class : ℕ) → class ≡ info (memory_at c) d
+    pub take_decided : word.of ≡ d → anchor_state word.word ≡ 1 → 0 < classed_in (usage_for i (get_or c.superblocks.items d no_superblock)) → (class : ℕ) → class ≡ info (memory_at c) d
         → (nat_eq (get_or t.caches class no_cache).count 0 ≡ true) ↔ MayTakeAll v d
     take_decided of partial claimed class class_is = (
       λ e. record {
@@ -166,13 +168,13 @@ module _ (c : CoreState) (k : Setup) (views : List View) (i : ℕ) (v : View) (t
             → Steps c (record c {
               words = with_item c.words at_word full;
               blocks = blocks;
-              superblocks = with_item c.superblocks d (record { seat = i; share = share.Nothing });
+              superblocks = with_item c.superblocks d (record { seat = i; usage = usage.Nothing });
               seats = with_item c.seats i (record t { ticket = None; seen_anchor = None; caches = set t.caches class (record { first = first; count = count }) });
             }) k views i v (TakeAll d) Done
         take_all going ticket first count first_is count_is blocks given at_word full here full_is =
             step_done c c' k views i v t t' (TakeAll d) keeps below at at_t going ticket may as_seen (ap (λ (y : View). y.stopped) seat_is ∙ going)
             (ap₂ (set c.words.items) here (full_is ∙ sym (pick (nat_eq (anchor (memory_in c k) d) (seen_word v.seen_anchor)) full_anchor (anchor (memory_in c k) d) test)))
-            refl (record { capacity = refl; budget = refl; blocks = given.long; superblocks = length-set c.superblocks.items d (record { seat = i; share = share.Nothing }); roots = refl })
+            refl (record { capacity = refl; budget = refl; blocks = given.long; superblocks = length-set c.superblocks.items d (record { seat = i; usage = usage.Nothing }); roots = refl })
             (subst (IsKept c' i t') (sym seat_is) (record {
               notes = (let n = kept.notes in record { ticket = refl; stopped = n.stopped; seen_used = n.seen_used; seen_head = n.seen_head; seen_link = n.seen_link; seen_anchor = refl });
               caches = subst (HasCaches (set t.caches class (record { first = first; count = count }))) (sym caches_are)
@@ -187,7 +189,7 @@ module _ (c : CoreState) (k : Setup) (views : List View) (i : ℕ) (v : View) (t
               caches = h.caches;
               batch = h.batch;
               blocks = blocks_theirs c k views i v t keeps below at at_t class less cs empty free blocks.items given_cs j r u other b a h;
-              superblocks = shares_theirs c.superblocks.items i j d share.Nothing (λ e y. IsShare e y u.raw u.split u.cutting u.classed u.large) long other (share_alone i j (get_or c.superblocks.items d no_superblock) other mine) h.superblocks;
+              superblocks = usages_theirs c.superblocks.items i j d usage.Nothing (λ e y. IsUsage e y u.raw u.split u.cutting u.classed u.large) long other (usage_alone i j (get_or c.superblocks.items d no_superblock) other mine) h.superblocks;
               roots = h.roots;
             })
           where
@@ -195,7 +197,7 @@ module _ (c : CoreState) (k : Setup) (views : List View) (i : ℕ) (v : View) (t
             t' = record t { ticket = None; seen_anchor = None; caches = set t.caches class (record { first = first; count = count }) }
 
             c' : CoreState
-            c' = record c { words = with_item c.words at_word full; blocks = blocks; superblocks = with_item c.superblocks d (record { seat = i; share = share.Nothing }); seats = with_item c.seats i t' }
+            c' = record c { words = with_item c.words at_word full; blocks = blocks; superblocks = with_item c.superblocks d (record { seat = i; usage = usage.Nothing }); seats = with_item c.seats i t' }
 
             w : (first ≡ from) × (count ≡ length cs) × (chain (λ n. get_or c.words.items n 0) first count ≡ cs)
             w = whole first count first_is count_is
@@ -209,7 +211,7 @@ module _ (c : CoreState) (k : Setup) (views : List View) (i : ℕ) (v : View) (t
             long : d < length c.superblocks.items
             long = let l = d_less in let n = keeps.superblocks in omega arith
 
-            mine : share_for i (get_or c.superblocks.items d no_superblock) ≡ share.Nothing → ⊥
+            mine : usage_for i (get_or c.superblocks.items d no_superblock) ≡ usage.Nothing → ⊥
             mine none = let g = may.claimed in let f = (kept.superblocks d).is_classed in let z = ap classed_in none in omega arith
 
             test : nat_eq (anchor (memory_in c k) d) (seen_word v.seen_anchor) ≡ true
@@ -235,7 +237,7 @@ take_fits c i d t word found class core less at_t some decides found_is as_it_wa
     }
 
 -- the class fits where the claim has one
-pub class_below : (c : CoreState) (i d : ℕ) (t : SeatNotes) (class : ℕ) → IsCore c → i < length c.seats.items → get_or c.seats.items i t ≡ t → 0 < classed_in (share_for i (get_or c.superblocks.items d no_superblock)) → class ≡ info (memory_at c) d → class < lists
+pub class_below : (c : CoreState) (i d : ℕ) (t : SeatNotes) (class : ℕ) → IsCore c → i < length c.seats.items → get_or c.seats.items i t ≡ t → 0 < classed_in (usage_for i (get_or c.superblocks.items d no_superblock)) → class ≡ info (memory_at c) d → class < lists
 class_below c i d t class core less at_t some class_is =
     let below : i < length core.views = subst (λ n. i < n) (sym core.keeps.seats) less in
     let here = entry_there core.views i below in take_class c core.setup core.views i here.0 t core.keeps below here.1 at_t d some class class_is

@@ -10,7 +10,7 @@ use Rattle.core_model.specs.declared.answer.StepAnswer.TheVariants.{Done, Stoppe
 use Rattle.core_model.specs.declared.event.Event.TheVariants.{Tick}
 use Rattle.core_model.specs.declared.event.Shift.{Shift}
 use Rattle.core_model.specs.declared.event.Shift.TheVariants.{Cut, Alloc, Free, Lift, Large, Split}
-use Rattle.crash_core.specs.declared.owners.SeatNotes.{SeatNotes}
+use Rattle.seat_notes.specs.declared.notes.SeatNotes.{SeatNotes}
 use Rattle.crash_core.specs.declared.state.CoreState.{CoreState}
 use Rattle.core_model.specs.Cells.{superblock_at}
 use Rattle.core_model.specs.Memory.{Memory, info}
@@ -18,12 +18,14 @@ use Rattle.core_model.specs.View.{Setup, View}
 use Rattle.core_model.specs.Effects.{drew, stopped, shifted}
 use Rattle.core_model.specs.Guards.{MayShift, MayFree}
 use Rattle.core_model.specs.Steps.{seat_after}
-use Rattle.crash_core.specs.Standing.{held_in, place_for, no_block, HasBlocksOf, HasSuperblocks, HasRoots, IsKept, IsCore, KeepsViews, IsMoved, Moves, Decides, Steps, steps_stopped}
+use Rattle.crash_core.specs.Standing.{held_in, place_for, no_block, HasBlocksOf, HasRoots, IsKept, IsCore, KeepsViews, IsMoved, Moves, Decides, Steps, steps_stopped}
+use Rattle.seat_notes.specs.Superblocks.{HasSuperblocks}
 use Rattle.core_model.proofs.PlaceLemmas.{pick, skip, not-lt}
 use Rattle.core_model.proofs.OwnerLemmas.{in_lists_total}
 use Rattle.crash_core.proofs.StandingLemmas.{step_done, may_step, memory_in, stands_after}
-use Rattle.crash_core.proofs.WordLemmas.{entry_there}
+use Rattle.seat_notes.proofs.WordLemmas.{entry_there}
 use Rattle.crash_core.proofs.WordSteps.{drawn_is, drawn_more}
+use Rattle.seat_notes.proofs.DecisionLemmas.{going_on}
 
 set_twice : {A : Type 0} (xs : List A) (i : ℕ) (a b : A) → set (set xs i a) i b ≡ set xs i b
 set_twice [] i a b = refl
@@ -93,14 +95,6 @@ kept_with c c' i t m v shift found ticket blocks superblocks roots is kept = by_
     superblocks = subst (λ l. HasSuperblocks l i (shifted m (drew v found) (Some (Split block))).raw (shifted m (drew v found) (Some (Split block))).split (shifted m (drew v found) (Some (Split block))).cutting (shifted m (drew v found) (Some (Split block))).classed (shifted m (drew v found) (Some (Split block))).large) (sym superblocks) h.superblocks;
     roots = subst (λ l. HasRoots l i (shifted m (drew v found) (Some (Split block))).roots) (sym roots) h.roots;
   }
-
-pub going_on : (m : Memory) (v : View) (shift : Shift) (found : ℕ) → (shifted m (drew v found) (Some shift)).stopped ≡ v.stopped
-going_on m v (Cut d) found = refl
-going_on m v (Alloc class) found = refl
-going_on m v (Free block) found = refl
-going_on m v (Lift class) found = refl
-going_on m v (Large d n) found = refl
-going_on m v (Split block) found = refl
 
 module _ (c : CoreState) (k : Setup) (views : List View) (i : ℕ) (v : View) (t : SeatNotes) (keeps : KeepsViews c k views) (below : i < length views) (at : get_or views i v ≡ v)
     (at_t : get_or c.seats.items i t ≡ t) (shift : Shift) (may : MayShift (memory_in c k) v (Some shift)) (at_word ticket : ℕ) (here : at_word ≡ 2 * image_words c.geometry.capacity) (is : ticket ≡ get_or c.words.items at_word ticket) where

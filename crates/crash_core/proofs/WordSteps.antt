@@ -1,33 +1,27 @@
 -- The steps of the core on a seat's own words, and its draws.
-use Rattle.std.proofs.Common.{◌≡◌, ℕ, ◌+◌, ◌*◌, ◌<◌, ◌≤◌, true, nat_lt, List, [], ◌∷◌, get_or, set, length, Option, None, Some, refl, ap, ap₂, sym, subst, ◌∙◌, lt-ltb, arith}
+use Rattle.std.proofs.Common.{◌≡◌, ℕ, ◌+◌, ◌*◌, ◌<◌, ◌≤◌, true, nat_lt, List, get_or, set, length, Option, None, Some, refl, ap, ap₂, sym, subst, ◌∙◌, lt-ltb, arith}
 use Rattle.std.proofs.lemmas.List.{set-get_or}
 use Rattle.std.specs.Vec.{with_item}
 use Rattle.heap_model.specs.Geometry.{image_words}
-use Rattle.heap_model.specs.Counting.{total}
 use Rattle.core_model.specs.declared.answer.StepAnswer.TheVariants.{Done, Stopped}
 use Rattle.core_model.specs.declared.event.Event.TheVariants.{Tick, Load, Settle}
-use Rattle.crash_core.specs.declared.owners.SeatNotes.{SeatNotes}
+use Rattle.seat_notes.specs.declared.notes.SeatNotes.{SeatNotes}
 use Rattle.crash_core.specs.declared.state.CoreState.{CoreState}
 use Rattle.core_model.specs.Cells.{cell_at, is_cell, index_of}
 use Rattle.core_model.specs.Memory.{volatile_at}
-use Rattle.core_model.specs.View.{Setup, View, one_if_some}
+use Rattle.core_model.specs.View.{Setup, View}
 use Rattle.core_model.specs.Effects.{drew, stopped}
 use Rattle.core_model.specs.Guards.{IsThere, IsOwn}
 use Rattle.core_model.specs.Sound.{Good}
 use Rattle.core_model.specs.Steps.{seat_after}
-use Rattle.crash_core.specs.Standing.{IsKept, IsCore, KeepsViews, Steps, steps_stopped, HasNotes}
+use Rattle.crash_core.specs.Standing.{IsKept, IsCore, KeepsViews, Steps, steps_stopped}
+use Rattle.seat_notes.specs.Notes.{HasNotes}
 use Rattle.core_model.proofs.StepLemmas.{parts}
 use Rattle.core_model.proofs.SoundLemmas.{in_table, own_cell}
 use Rattle.core_model.proofs.PlaceLemmas.{pick, skip, not-lt, index_at, index_within}
 use Rattle.crash_core.proofs.StandingLemmas.{step_done, step_noted, may_step, memory_in, stands_after}
-use Rattle.crash_core.proofs.WordLemmas.{entry_is, read_is, put_back}
-
-pub stopped_most : (views : List View) → total (λ (v : View). one_if_some v.stopped) views ≤ length views
-stopped_most [] = omega arith
-stopped_most (v ∷ views) = let rest = stopped_most views in let one = most v.stopped in omega arith where
-  most : {A : Type 0} (x : Option A) → one_if_some x ≤ 1
-  most None = omega arith
-  most (Some a) = omega arith
+use Rattle.seat_notes.proofs.WordLemmas.{entry_is, read_is, put_back}
+use Rattle.seat_notes.proofs.CountLemmas.{stopped_most}
 
 -- the ticket word does not overflow
 pub ticket_fits : (c : CoreState) (at_word ticket : ℕ) → IsCore c → at_word ≡ 2 * image_words c.geometry.capacity → ticket ≡ get_or c.words.items at_word ticket → ticket < 1099511627785

@@ -1,5 +1,4 @@
 pub mod Crash
-pub mod OwnerLists
 pub mod OwnWords
 pub mod Standing
 pub mod Opened

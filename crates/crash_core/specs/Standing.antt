@@ -1,7 +1,7 @@
 -- What the core keeps of a state: the words themselves; by seat its tickets and snapshots, and the ends of its caches and of its batch; and whose each block, superblock and root is.
-use Rattle.std.specs.Prelude.{◌≡◌, ◌≢◌, ◌⊎◌, ℕ, zero, suc, ◌+◌, ◌<◌, ◌≤◌, ◌↔◌, Bool, true, cond, nat_eq, List, get_or, set, length, Option, None, Some, ⊤}
+use Rattle.std.specs.Prelude.{◌≡◌, ◌≢◌, ◌⊎◌, ℕ, ◌+◌, ◌<◌, ◌≤◌, ◌↔◌, Bool, true, cond, nat_eq, List, get_or, set, length, Option, None, Some, ⊤}
 use Rattle.heap_model.specs.Counting.{times, total, one_if}
-use Rattle.heap_model.specs.Geometry.{lists, roots, image_words}
+use Rattle.heap_model.specs.Geometry.{roots, image_words}
 use Rattle.core_model.specs.declared.answer.StepAnswer.{StepAnswer}
 use Rattle.core_model.specs.declared.answer.StepAnswer.TheVariants.{Done, Stopped, NotNow}
 use Rattle.core_model.specs.declared.event.Event.{Event}
@@ -9,21 +9,16 @@ use Rattle.core_model.specs.declared.event.Event.TheVariants.{Tick, Settle}
 use Rattle.crash_core.specs.declared.owners.BlockPlace.{BlockPlace}
 use Rattle.crash_core.specs.declared.owners.BlockPlace.TheVariants as place
 use Rattle.crash_core.specs.declared.owners.BlockOwner.{BlockOwner}
-use Rattle.crash_core.specs.declared.owners.Share.{Share}
-use Rattle.crash_core.specs.declared.owners.Share.TheVariants as share
-use Rattle.crash_core.specs.declared.owners.SuperblockOwner.{SuperblockOwner}
-use Rattle.crash_core.specs.declared.owners.Seen.{Seen}
-use Rattle.crash_core.specs.declared.owners.Cache.{Cache}
-use Rattle.crash_core.specs.declared.owners.Group.{Group}
-use Rattle.crash_core.specs.declared.owners.SeatNotes.{SeatNotes}
+use Rattle.seat_notes.specs.declared.notes.SeatNotes.{SeatNotes}
 use Rattle.crash_core.specs.declared.state.CoreState.{CoreState}
 use Rattle.heap_model.specs.Words.{anchor_state, empty_state, large_info}
 use Rattle.core_model.specs.Memory.{Memory, memory_of, info, anchor, durable_info}
-use Rattle.core_model.specs.View.{Setup, View, Span, Claim, Batch, Snapshot, of_class, times_classed, times_large}
-use Rattle.core_model.specs.Effects.{first_of, last_of, claim_class, span_count}
+use Rattle.core_model.specs.View.{Setup, View}
 use Rattle.core_model.specs.Guards.{IsThere, HasTicketFor, MayDo}
 use Rattle.core_model.specs.Sound.{Sound}
 use Rattle.core_model.specs.Steps.{TableState, StepsTo, Runs, state_after, seat_after}
+use Rattle.seat_notes.specs.Superblocks.{HasSuperblocks}
+use Rattle.seat_notes.specs.Notes.{HasNotes, HasCaches, HasBatch}
 
 -- where seat i has the block
 abbrev pub place_for : ℕ → BlockOwner → BlockPlace
@@ -42,84 +37,9 @@ abbrev pub batched_in : BlockPlace → ℕ
 batched_in place.Batched = 1
 batched_in p = 0
 
--- what seat i has of the superblock
-abbrev pub share_for : ℕ → SuperblockOwner → Share
-share_for i o = cond (nat_eq o.seat i) o.share share.Nothing
-
--- how often a superblock of which a seat has this is claimed: without a class, since a split, being cut, and with a class; and with which class
-abbrev pub raw_in : Share → ℕ
-raw_in share.Raw = 1
-raw_in x = 0
-
-abbrev pub split_in : Share → ℕ
-split_in share.Split = 1
-split_in x = 0
-
-abbrev pub cutting_in : Share → ℕ
-cutting_in share.Cutting = 1
-cutting_in x = 0
-
-abbrev pub classed_in : Share → ℕ
-classed_in (share.Classed class) = 1
-classed_in x = 0
-
-abbrev pub class_in : Share → ℕ
-class_in (share.Classed class) = class
-class_in x = 0
-
--- how often a large block takes it, and how many superblocks the one that begins there takes
-abbrev pub large_in : Share → ℕ
-large_in (share.Large count) = 1
-large_in x = 0
-
-abbrev pub count_in : Share → ℕ
-count_in (share.Large count) = count
-count_in x = 0
-
--- what a seat has of a superblock that comes from a list
-abbrev pub listed : ℕ → Share
-listed zero = share.Raw
-listed (suc n) = share.Classed (suc n)
-
--- what a seat has of its own superblock after a store to the anchor
-abbrev pub anchored : ℕ → Share
-anchored zero = share.Raw
-anchored (suc n) = share.Cutting
-
 -- past the end nothing is anyone's
 abbrev pub no_block : BlockOwner
 no_block = record { seat = 0; place = place.Nowhere }
-
-abbrev pub no_superblock : SuperblockOwner
-no_superblock = record { seat = 0; share = share.Nothing }
-
-abbrev pub snapshot : Option Seen → Option Snapshot
-snapshot None = None
-snapshot (Some s) = Some (record { of = s.of; word = s.word })
-
--- the tickets and snapshots of a seat
-pub record HasNotes (t : SeatNotes) (v : View) : Type 0 where
-  pub ticket : v.ticket ≡ t.ticket
-  pub stopped : v.stopped ≡ t.stopped
-  pub seen_used : v.seen_used ≡ t.seen_used
-  pub seen_head : v.seen_head ≡ snapshot t.seen_head
-  pub seen_link : v.seen_link ≡ t.seen_link
-  pub seen_anchor : v.seen_anchor ≡ snapshot t.seen_anchor
-
--- where its caches and its batch begin and end, and how long they are
-pub record HasCaches (kept : List Cache) (caches : List (List ℕ)) : Type 0 where
-  pub long : length kept ≡ lists
-  pub first : (class : ℕ) (c : Cache) → get_or kept class c ≡ c → class < lists → 1 ≤ length (of_class caches class)
-      → first_of (of_class caches class) ≡ c.first
-  pub count : (class : ℕ) (c : Cache) → get_or kept class c ≡ c → class < lists → length (of_class caches class) ≡ c.count
-
-pub record HasBatch (kept : Group) (batch : Batch) : Type 0 where
-  pub descriptor : batch.descriptor ≡ kept.descriptor
-  pub class : batch.class ≡ kept.class
-  pub first : first_of batch.blocks ≡ kept.first
-  pub last : last_of batch.blocks ≡ kept.last
-  pub count : length batch.blocks ≡ kept.count
-  pub linked : batch.linked ≡ kept.linked
 
 -- a block is where it is said
 pub record IsPlace (b : ℕ) (p : BlockPlace) (small caches : List (List ℕ)) (batch : List ℕ) : Type 0 where
@@ -130,21 +50,6 @@ pub record IsPlace (b : ℕ) (p : BlockPlace) (small caches : List (List ℕ)) (
 -- its blocks, by first word
 abbrev pub HasBlocksOf : List BlockOwner → ℕ → List (List ℕ) → List (List ℕ) → List ℕ → Type 0
 HasBlocksOf owners i small caches batch = (b : ℕ) → IsPlace b (place_for i (get_or owners b no_block)) small caches batch
-
--- a superblock is the seat's as it is said
-pub record IsShare (d : ℕ) (x : Share) (raw split cutting : List ℕ) (classed : List Claim) (large : List Span) : Type 0 where
-  pub is_raw : times d raw ≡ raw_in x
-  pub is_split : times d split ≡ split_in x
-  pub is_cutting : times d cutting ≡ cutting_in x
-  pub is_classed : times_classed d classed ≡ classed_in x
-  pub class : claim_class d classed ≡ class_in x
-  pub is_large : times_large d large ≡ large_in x
-  pub count : span_count d large ≡ count_in x
-
--- its superblocks
-abbrev pub HasSuperblocks : List SuperblockOwner → ℕ → List ℕ → List ℕ → List ℕ → List Claim → List Span → Type 0
-HasSuperblocks owners i raw split cutting classed large = (d : ℕ)
-    → IsShare d (share_for i (get_or owners d no_superblock)) raw split cutting classed large
 
 -- its roots; a number that is no root's is no owner
 pub record HasRoots (owners : List ℕ) (i : ℕ) (owned : List ℕ) : Type 0 where
@@ -177,12 +82,6 @@ pub record KeepsViews (c : CoreState) (k : Setup) (views : List View) : Type 0 w
 pub record StandsFor (c : CoreState) (k : Setup) (s : TableState) : Type 0 where
   pub words : c.words.items ≡ s.words
   pub keeps : KeepsViews c k s.views
-
--- the owners of n superblocks from one on are another, and all others stay
-pub record IsRange (old new : List SuperblockOwner) (from n : ℕ) (owner : SuperblockOwner) : Type 0 where
-  pub long : length new ≡ length old
-  pub inside : (d : ℕ) → from ≤ d → d < from + n → get_or new d no_superblock ≡ owner
-  pub outside : (d : ℕ) → (from ≤ d → d < from + n → ⊥) → get_or new d no_superblock ≡ get_or old d no_superblock
 
 -- the blocks of a list have another owner, and all others stay
 pub record HasNewOwner (old new : List BlockOwner) (blocks : List ℕ) (owner : BlockOwner) : Type 0 where

@@ -1,25 +1,26 @@
 //! The steps that exchange an anchor, and what becomes of the blocks that it leads along.
 
-ghost use Rattle.std.specs.Prelude.{◌≡◌, ◌≢◌, ◌<◌, ◌≤◌, ◌+◌, ◌*◌, ℕ, length, get_or, true};
+ghost use Rattle.std.specs.Prelude.{◌≡◌, ◌<◌, ℕ, length, get_or, true};
 ghost use Rattle.heap_model.specs.Counting.{times};
-ghost use Rattle.heap_model.specs.Geometry.{start_word};
-ghost use Rattle.heap_model.specs.Sizes.{words_of_class};
-ghost use Rattle.heap_model.specs.Words.{anchor_first};
 ghost use Rattle.core_model.specs.declared.event.Event.TheVariants.{TakeAll, Give};
-ghost use Rattle.crash_core.specs.declared.owners.SeatNotes.{SeatNotes};
+ghost use Rattle.seat_notes.specs.declared.notes.SeatNotes.{SeatNotes};
 ghost use Rattle.core_model.specs.Effects.{chain};
 ghost use Rattle.core_model.specs.Guards.{IsThere, MayTakeAll, MayGive};
 ghost use Rattle.crash_core.specs.Standing.{IsCore, HasNewOwner, Takes, Decides};
 
-use crate::anchors::{PARTIAL, anchor_after_give, anchor_after_take_all, anchor_state};
-use crate::owners::{BlockOwner, BlockPlace, Cache, Group, SeatNotes, Share, SuperblockOwner};
+use crate::anchors::{PARTIAL, anchor_state};
+use crate::owners::{BlockOwner, BlockPlace};
 use crate::reads::{anchor, info, next};
-use crate::shares::share;
 use crate::state::CoreState;
-use anchor_word::{anchor_count, anchor_first};
+use crate::usages::usage;
+use anchor_word::anchor_count;
 use core_model::StepAnswer;
+use seat_notes::{
+    Cache, Group, NO_BATCH, SeatNotes, SuperblockOwner, SuperblockUsage, anchor_after_give,
+    anchor_after_take_all, first_free,
+};
 use size_table::{SizeClass, blocks_of};
-use super_block::{Geometry, block_words};
+use super_block::block_words;
 
 /// Gives the blocks of a chain an owner: `count` blocks from the first one on, as first words lead.
 pub(crate) fn give_chain(
@@ -39,15 +40,6 @@ pub(crate) fn give_chain(
         owners[block as usize] = owner;
         block = words[block as usize];
     }
-}
-
-/// The block that an anchor of superblock `d` leads to first.
-pub fn first_free(geometry: Geometry, d: u64, class: SizeClass, anchor: u64) -> u64
-    requires { d < geometry.capacity }
-    ensures { result
-        ≡ start_word geometry.capacity d + anchor_first anchor * words_of_class class.number }
-{
-    geometry.start(d) + anchor_first(anchor) * block_words(class)
 }
 
 /// Takes all free blocks of a superblock into the cache of its class, if its anchor is as it was
@@ -79,7 +71,7 @@ pub(crate) fn take_all(core: &mut CoreState, seat: usize, d: u64) -> StepAnswer
     core.words[core.geometry.anchor(d) as usize] = anchor_after_take_all();
     core.superblocks[d as usize] = SuperblockOwner {
         seat,
-        share: Share::Nothing,
+        usage: SuperblockUsage::Nothing,
     };
     let mut caches = notes.caches;
     caches[class as usize] = Cache { first, count };
@@ -113,7 +105,7 @@ fn may_take_all(core: &CoreState, seat: usize, d: u64) -> bool
     if anchor_state(seen.word) != PARTIAL {
         return false;
     }
-    if !share(core, seat, d).is_classed() {
+    if !usage(core, seat, d).is_classed() {
         return false;
     }
     notes.caches[info(core, d) as usize].count == 0
@@ -159,20 +151,10 @@ pub(crate) fn give(core: &mut CoreState, seat: usize, d: u64) -> StepAnswer
     }
     core.superblocks[d as usize] = SuperblockOwner {
         seat,
-        share: Share::listed(batch.class),
+        usage: SuperblockUsage::listed(batch.class),
     };
     StepAnswer::Done
 }
-
-/// A batch of no blocks.
-pub const NO_BATCH: Group = Group {
-    descriptor: 0,
-    class: 0,
-    first: 0,
-    last: 0,
-    count: 0,
-    linked: false,
-};
 
 /// Whether the seat may give the batch to the superblock: it is of its blocks, its anchor was
 /// seen, and its last block is linked to the first free one.

@@ -9,10 +9,11 @@ ghost use Rattle.core_model.specs.Guards.{MayCut};
 ghost use Rattle.crash_core.specs.Standing.{IsCore, Decides, Moves, memory_at};
 
 use crate::chains::give_chain;
-use crate::owners::{BlockOwner, BlockPlace, Cache, SeatNotes, Seen, Share, SuperblockOwner};
+use crate::owners::{BlockOwner, BlockPlace};
 use crate::reads::{durable_info, durable_used, info, next};
-use crate::shares::share;
 use crate::state::CoreState;
+use crate::usages::usage;
+use seat_notes::{Cache, SeatNotes, Seen, SuperblockOwner, SuperblockUsage};
 use size_table::{SizeClass, blocks_of};
 use super_block::{LAST_CLASS, block_words};
 
@@ -23,7 +24,7 @@ pub(crate) fn may_cut(core: &CoreState, seat: usize, d: u64) -> bool
     requires seat { seat < length core.now.seats.items }
     ensures { Decides core.now seat (λ m v. MayCut m v d) result }
 {
-    if !share(core, seat, d).is_cutting() {
+    if !usage(core, seat, d).is_cutting() {
         return false;
     }
     if d >= durable_used(core) {
@@ -82,7 +83,7 @@ pub(crate) fn cut(core: &mut CoreState, seat: usize, d: u64)
     give_chain(&core.words, &mut core.blocks, first, count, owner);
     core.superblocks[d as usize] = SuperblockOwner {
         seat,
-        share: Share::Nothing,
+        usage: SuperblockUsage::Nothing,
     };
     let mut caches = notes.caches;
     caches[class as usize] = Cache { first, count };

@@ -1,12 +1,12 @@
 //! The step that takes superblocks that were never taken.
 
-ghost use Rattle.std.specs.Prelude.{◌≡◌, ◌<◌, ◌≤◌, ◌+◌, length};
+ghost use Rattle.std.specs.Prelude.{◌<◌, length};
 ghost use Rattle.core_model.specs.declared.event.Event.TheVariants.{TakeFresh};
-ghost use Rattle.crash_core.specs.Standing.{IsCore, Takes, IsRange};
+ghost use Rattle.crash_core.specs.Standing.{IsCore, Takes};
 
-use crate::owners::{SeatNotes, Seen, Share, SuperblockOwner};
 use crate::state::CoreState;
 use core_model::StepAnswer;
+use seat_notes::{SeatNotes, Seen, SuperblockOwner, SuperblockUsage, give_range};
 use super_block::USED_WORD;
 
 /// Takes `n` superblocks that were never taken, if the mark is as it was read.
@@ -35,7 +35,7 @@ pub(crate) fn take_fresh(core: &mut CoreState, seat: usize, n: u64) -> StepAnswe
     core.words[USED_WORD as usize] = used + n;
     let owner = SuperblockOwner {
         seat,
-        share: Share::Raw,
+        usage: SuperblockUsage::Raw,
     };
     give_range(&mut core.superblocks, used, n, owner);
     core.seats[seat] = SeatNotes {
@@ -45,19 +45,4 @@ pub(crate) fn take_fresh(core: &mut CoreState, seat: usize, n: u64) -> StepAnswe
         ..notes
     };
     StepAnswer::Done
-}
-
-/// Gives `n` superblocks from one on an owner.
-pub(crate) fn give_range(
-    owners: &mut Vec<SuperblockOwner>,
-    from: u64,
-    n: u64,
-    owner: SuperblockOwner,
-)
-    requires { from + n ≤ length owners.old.items }
-    ensures { IsRange owners.old.items owners.new.items from n owner }
-{
-    for d in from..from + n {
-        owners[d as usize] = owner;
-    }
 }

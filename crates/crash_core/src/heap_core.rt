@@ -14,12 +14,12 @@ ghost use Rattle.crash_core.specs.Standing.{StandsFor, Follows, RunsOn};
 
 use crate::crash::crash_image;
 use crate::opened::opened_core;
-use crate::opening::Owners;
 use crate::runs::run;
 use crate::state::CoreState;
 use crate::steps::step;
 use core_model::{Event, StepAnswer};
 use line_memory::Chance;
+use seat_notes::Owners;
 use std::alloc::{AllocError, Global};
 use std::marker::Model;
 use super_block::Ready;

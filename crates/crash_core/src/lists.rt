@@ -2,34 +2,19 @@
 
 ghost use Rattle.std.specs.Prelude.{◌≡◌, ◌<◌, length, get_or, true};
 ghost use Rattle.core_model.specs.declared.event.Event.TheVariants.{Pop, Push};
-ghost use Rattle.crash_core.specs.declared.owners.SeatNotes.{SeatNotes};
-ghost use Rattle.core_model.specs.Effects.{cleared};
+ghost use Rattle.seat_notes.specs.declared.notes.SeatNotes.{SeatNotes};
 ghost use Rattle.core_model.specs.Guards.{IsThere, MayPush};
-ghost use Rattle.crash_core.specs.Standing.{IsCore, Takes, Decides, snapshot};
+ghost use Rattle.crash_core.specs.Standing.{IsCore, Takes, Decides};
 
 use crate::anchors::{EMPTY, PARTIAL, anchor_state};
-use crate::heads::{head_after_pop, head_after_push, head_first};
-use crate::owners::{SeatNotes, Seen, Share, SuperblockOwner};
 use crate::reads::{anchor, durable_used, info, link};
-use crate::shares::share;
 use crate::state::CoreState;
+use crate::usages::usage;
 use core_model::StepAnswer;
+use seat_notes::{
+    SeatNotes, Seen, SuperblockOwner, SuperblockUsage, head_after_pop, head_after_push, head_first,
+};
 use super_block::HEAD_WORD;
-
-impl Seen {
-    /// The snapshot, unless it is of one of `n` numbers from one on.
-    pub fn cleared(seen: Option<Seen>, from: u64, n: u64) -> Option<Seen>
-        ensures { snapshot result ≡ cleared from n (snapshot seen) }
-    {
-        let Some(seen) = seen else {
-            return None;
-        };
-        if seen.of < from {
-            return Some(seen);
-        }
-        if seen.of - from < n { None } else { Some(seen) }
-    }
-}
 
 /// Claims the first descriptor of the list whose head and link were seen.
 pub(crate) fn pop(core: &mut CoreState, seat: usize) -> StepAnswer
@@ -53,7 +38,7 @@ pub(crate) fn pop(core: &mut CoreState, seat: usize) -> StepAnswer
     core.words[at] = head_after_pop(head.word, link);
     core.superblocks[d as usize] = SuperblockOwner {
         seat,
-        share: Share::listed(head.of),
+        usage: SuperblockUsage::listed(head.of),
     };
     core.seats[seat] = SeatNotes {
         ticket: None,
@@ -85,7 +70,7 @@ pub(crate) fn push(core: &mut CoreState, seat: usize, d: u64) -> StepAnswer
     core.words[at] = head_after_push(head.word, d);
     core.superblocks[d as usize] = SuperblockOwner {
         seat,
-        share: Share::Nothing,
+        usage: SuperblockUsage::Nothing,
     };
     core.seats[seat] = SeatNotes {
         ticket: None,
@@ -109,8 +94,8 @@ fn may_push(core: &CoreState, seat: usize, d: u64) -> bool
     if d >= core.geometry.capacity() {
         return false;
     }
-    let share = share(core, seat, d);
-    if !share.is_freely_claimed() {
+    let usage = usage(core, seat, d);
+    if !usage.is_freely_claimed() {
         return false;
     }
     if d >= durable_used(core) {
@@ -123,7 +108,7 @@ fn may_push(core: &CoreState, seat: usize, d: u64) -> bool
     if head.of == 0 {
         return state == EMPTY;
     }
-    if !share.is_classed() {
+    if !usage.is_classed() {
         return false;
     }
     if state > PARTIAL {

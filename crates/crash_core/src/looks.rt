@@ -5,12 +5,11 @@ ghost use Rattle.core_model.specs.declared.event.Event.TheVariants.{LookUsed, Lo
 ghost use Rattle.core_model.specs.Guards.{MayLookAt};
 ghost use Rattle.crash_core.specs.Standing.{IsCore, Takes, Decides};
 
-use crate::heads::head_first;
-use crate::owners::{SeatNotes, Seen};
 use crate::reads::anchor;
-use crate::shares::share;
 use crate::state::CoreState;
+use crate::usages::usage;
 use core_model::StepAnswer;
+use seat_notes::{SeatNotes, Seen, head_first};
 use super_block::{HEAD_WORD, LISTS, USED_WORD};
 
 /// Reads the mark below which superblocks have been taken.
@@ -121,7 +120,7 @@ fn may_look_at(core: &CoreState, seat: usize, d: u64) -> bool
     if d >= core.geometry.capacity() {
         return false;
     }
-    if share(core, seat, d).is_freely_claimed() {
+    if usage(core, seat, d).is_freely_claimed() {
         return true;
     }
     if batch.count == 0 {

@@ -1,6 +1,6 @@
 //! How blocks go between what a seat holds, its caches and its batch.
 
-ghost use Rattle.std.specs.Prelude.{◌≡◌, ◌<◌, ◌≤◌, length, get_or, cond, nat_eq, true};
+ghost use Rattle.std.specs.Prelude.{◌≡◌, ◌<◌, ◌≤◌, length, get_or, true};
 ghost use Rattle.heap_model.specs.Geometry.{start_word, superblocks_end};
 ghost use Rattle.core_model.specs.Cells.{superblock_at};
 ghost use Rattle.core_model.specs.Memory.{info};
@@ -8,10 +8,11 @@ ghost use Rattle.core_model.specs.Effects.{after_alloc, after_free, after_lift};
 ghost use Rattle.core_model.specs.Guards.{MayAlloc, MayFree, MayLift};
 ghost use Rattle.crash_core.specs.Standing.{IsCore, Decides, Moves, memory_at, held_in, place_for, no_block};
 
-use crate::owners::{BlockOwner, BlockPlace, Cache, Group, SeatNotes};
+use crate::owners::{BlockOwner, BlockPlace};
 use crate::reads::{info, next};
-use crate::shares::place;
 use crate::state::CoreState;
+use crate::usages::place;
+use seat_notes::{Cache, Group, SeatNotes};
 use super_block::{LAST_CLASS, SUPERBLOCK_WORDS};
 
 /// Whether the seat may hold the first block of the cache.
@@ -169,13 +170,4 @@ pub(crate) fn lift(core: &mut CoreState, seat: usize, class: u64)
         batch,
         ..notes
     };
-}
-
-impl Group {
-    /// The first block once another is behind the last.
-    pub fn first_with(self, block: u64) -> u64
-        ensures { result ≡ cond (nat_eq self.count 0) block self.first }
-    {
-        if self.count == 0 { block } else { self.first }
-    }
 }

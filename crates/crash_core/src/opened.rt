@@ -1,41 +1,21 @@
 //! What the core keeps of a heap at rest, as it is opened for some seats.
 
-ghost use Rattle.std.specs.Prelude.{◌≡◌, ◌+◌, ◌<◌, ◌≤◌, length, IfOk};
+ghost use Rattle.std.specs.Prelude.{◌≡◌, ◌<◌, ◌≤◌, length, IfOk};
 ghost use Rattle.heap_model.specs.Rest.{IsReady};
 ghost use Rattle.core_model.specs.Opening.{AreOwners, setup_of, opened_state};
-ghost use Rattle.crash_core.specs.OpenedOwners.{AreBlockOwners, AreSuperblockOwners, IsLargeGiven};
+ghost use Rattle.crash_core.specs.OpenedOwners.{AreBlockOwners};
 ghost use Rattle.crash_core.specs.Standing.{StandsFor};
 
-use crate::chains::NO_BATCH;
-use crate::fresh::give_range;
-use crate::opening::{Owners, opened_table};
-use crate::owners::{BlockOwner, BlockPlace, Cache, SeatNotes, Share, SuperblockOwner};
+use crate::owners::{BlockOwner, BlockPlace};
 use crate::state::CoreState;
+use seat_notes::{NEW_SEAT, Owners, opened_table, superblock_owners};
 use std::alloc::{AllocError, Global};
-use super_block::{LISTS, Ready, SUPERBLOCK_WORDS};
+use super_block::{Ready, SUPERBLOCK_WORDS};
 
 /// A block that nobody has.
 const NO_BLOCK: BlockOwner = BlockOwner {
     seat: 0,
     place: BlockPlace::Nowhere,
-};
-
-/// A superblock that nobody has.
-const NO_SUPERBLOCK: SuperblockOwner = SuperblockOwner {
-    seat: 0,
-    share: Share::Nothing,
-};
-
-/// A seat that has done nothing yet.
-pub const NEW_SEAT: SeatNotes = SeatNotes {
-    ticket: None,
-    stopped: None,
-    seen_used: None,
-    seen_head: None,
-    seen_link: None,
-    seen_anchor: None,
-    caches: [Cache { first: 0, count: 0 }; LISTS as usize],
-    batch: NO_BATCH,
 };
 
 /// The core of a heap at rest: each held block and each root belongs to one seat, and no seat has
@@ -87,43 +67,4 @@ pub(crate) fn block_owners(
         }
     }
     Ok(blocks)
-}
-
-/// Whose each superblock is, where the held blocks belong to these seats.
-pub fn superblock_owners(
-    alloc: Global,
-    heap: &Ready,
-    owners: &[u32],
-) -> Result<Vec<SuperblockOwner>, AllocError>
-    requires { length owners.now ≡ length heap.now.held }
-    ensures ok { IfOk result (λ superblocks. AreSuperblockOwners heap.now.words heap.now.held
-        owners.now superblocks.items) }
-{
-    let geometry = heap.geometry();
-    let mut superblocks = vec![in alloc; NO_SUPERBLOCK; geometry.capacity() as usize]?;
-    for (i, block) in heap.held().iter().enumerate() {
-        if block.words >= SUPERBLOCK_WORDS {
-            let d = (block.first_word - geometry.start(0)) / SUPERBLOCK_WORDS;
-            let count = block.words / SUPERBLOCK_WORDS;
-            give_large(&mut superblocks, owners[i] as usize, d, count);
-        }
-    }
-    Ok(superblocks)
-}
-
-/// Gives a seat the superblocks of a large block, `count` of them from `d` on.
-fn give_large(superblocks: &mut Vec<SuperblockOwner>, seat: usize, d: u64, count: u64)
-    requires some { 0 < count }
-    requires inside { d + count ≤ length superblocks.old.items }
-    ensures { IsLargeGiven superblocks.old.items superblocks.new.items seat d count }
-{
-    let rest = SuperblockOwner {
-        seat,
-        share: Share::Large { count: 0 },
-    };
-    give_range(superblocks, d, count, rest);
-    superblocks[d as usize] = SuperblockOwner {
-        seat,
-        share: Share::Large { count },
-    };
 }

@@ -4,45 +4,14 @@ ghost use Rattle.std.specs.Prelude.{◌<◌, ◌≤◌, length};
 ghost use Rattle.heap_model.specs.Geometry.{start_word, superblocks_end};
 ghost use Rattle.core_model.specs.Cells.{cell_at, data_cell};
 ghost use Rattle.core_model.specs.Guards.{IsOwn};
-ghost use Rattle.crash_core.specs.OwnWords.{IsPart};
 ghost use Rattle.crash_core.specs.Standing.{IsCore, Decides};
 
-use crate::part::Part;
 use crate::reads::info;
-use crate::shares::{place, share};
 use crate::state::CoreState;
+use crate::usages::{place, usage};
+use seat_notes::{Part, part_at};
 use size_table::SizeClass;
-use super_block::{
-    ANCHOR_OFFSET, DESCRIPTOR_WORDS, FIXED_WORDS, Geometry, LAST_CLASS, LINK_OFFSET, ROOT_WORD,
-    SUPERBLOCK_WORDS, block_words,
-};
-
-/// The part of the image that a word is.
-pub fn part_at(geometry: Geometry, word: u64) -> Part
-    ensures { IsPart geometry.capacity word result }
-{
-    if word < ROOT_WORD {
-        return Part::Shared;
-    }
-    if word < FIXED_WORDS {
-        return Part::Root {
-            i: word - ROOT_WORD,
-        };
-    }
-    if word >= geometry.end() {
-        return Part::Shared;
-    }
-    if word >= geometry.start(0) {
-        return Part::Data { word };
-    }
-    let d = (word - FIXED_WORDS) / DESCRIPTOR_WORDS;
-    match (word - FIXED_WORDS) % DESCRIPTOR_WORDS {
-        0 => Part::Info { d },
-        ANCHOR_OFFSET => Part::Anchor { d },
-        LINK_OFFSET => Part::Link { d },
-        _ => Part::Shared,
-    }
-}
+use super_block::{LAST_CLASS, SUPERBLOCK_WORDS, block_words};
 
 /// Whether the word is the seat's own.
 pub(crate) fn is_own(core: &CoreState, seat: usize, word: u64) -> bool
@@ -53,9 +22,9 @@ pub(crate) fn is_own(core: &CoreState, seat: usize, word: u64) -> bool
     match part_at(core.geometry, word) {
         Part::Shared => false,
         Part::Root { i } => core.roots[i as usize] as usize == seat,
-        Part::Info { d } => share(core, seat, d).is_unclassed(),
-        Part::Anchor { d } => share(core, seat, d).is_unclassed(),
-        Part::Link { d } => share(core, seat, d).is_claimed(),
+        Part::Info { d } => usage(core, seat, d).is_unclassed(),
+        Part::Anchor { d } => usage(core, seat, d).is_unclassed(),
+        Part::Link { d } => usage(core, seat, d).is_claimed(),
         Part::Data { word } => is_own_data(core, seat, word),
     }
 }
@@ -70,7 +39,7 @@ fn is_own_data(core: &CoreState, seat: usize, word: u64) -> bool
     ensures { Decides core.now seat (λ m v. IsOwn v (data_cell word)) result }
 {
     let d = (word - core.geometry.start(0)) / SUPERBLOCK_WORDS;
-    if share(core, seat, d).has_words() {
+    if usage(core, seat, d).has_words() {
         return true;
     }
     let class = info(core, d);

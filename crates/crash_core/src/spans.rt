@@ -7,11 +7,10 @@ ghost use Rattle.core_model.specs.Guards.{MayHoldLarge, MaySplit};
 ghost use Rattle.crash_core.specs.Standing.{IsCore, Decides, Moves, MayJoin};
 
 use crate::anchors::{EMPTY, anchor_state};
-use crate::fresh::give_range;
-use crate::owners::{SeatNotes, Seen, Share, SuperblockOwner};
 use crate::reads::{anchor, durable_info, durable_used, info};
-use crate::shares::share;
 use crate::state::CoreState;
+use crate::usages::usage;
+use seat_notes::{SeatNotes, Seen, SuperblockOwner, SuperblockUsage, give_range};
 use super_block::{Info, SUPERBLOCK_WORDS};
 
 /// Whether a large block that the seat holds begins at the word.
@@ -27,7 +26,7 @@ pub(crate) fn may_split(core: &CoreState, seat: usize, block: u64) -> bool
     if (block - start) % SUPERBLOCK_WORDS != 0 {
         return false;
     }
-    share(core, seat, (block - start) / SUPERBLOCK_WORDS).large_count() > 0
+    usage(core, seat, (block - start) / SUPERBLOCK_WORDS).large_count() > 0
 }
 
 /// Claims the superblocks of a held large block.
@@ -40,10 +39,10 @@ pub(crate) fn split(core: &mut CoreState, seat: usize, block: u64)
 {
     let notes = core.seats[seat];
     let d = (block - core.geometry.start(0)) / SUPERBLOCK_WORDS;
-    let count = share(core, seat, d).large_count();
+    let count = usage(core, seat, d).large_count();
     let owner = SuperblockOwner {
         seat,
-        share: Share::Split,
+        usage: SuperblockUsage::Split,
     };
     give_range(&mut core.superblocks, d, count, owner);
     core.seats[seat] = SeatNotes {
@@ -62,12 +61,12 @@ pub(crate) fn hold_large(core: &mut CoreState, seat: usize, d: u64, n: u64)
     let notes = core.seats[seat];
     let rest = SuperblockOwner {
         seat,
-        share: Share::Large { count: 0 },
+        usage: SuperblockUsage::Large { count: 0 },
     };
     give_range(&mut core.superblocks, d, n, rest);
     core.superblocks[d as usize] = SuperblockOwner {
         seat,
-        share: Share::Large { count: n },
+        usage: SuperblockUsage::Large { count: n },
     };
     core.seats[seat] = SeatNotes {
         seen_anchor: Seen::cleared(notes.seen_anchor, d, n),
@@ -114,12 +113,12 @@ fn may_join(core: &CoreState, seat: usize, d: u64, n: u64, e: u64) -> bool
     if durable_info(core, e) != wanted {
         return false;
     }
-    match share(core, seat, e) {
-        Share::Split => true,
-        Share::Raw => anchor_state(anchor(core, e)) == EMPTY,
-        Share::Nothing => false,
-        Share::Cutting => false,
-        Share::Classed { .. } => false,
-        Share::Large { .. } => false,
+    match usage(core, seat, e) {
+        SuperblockUsage::Split => true,
+        SuperblockUsage::Raw => anchor_state(anchor(core, e)) == EMPTY,
+        SuperblockUsage::Nothing => false,
+        SuperblockUsage::Cutting => false,
+        SuperblockUsage::Classed { .. } => false,
+        SuperblockUsage::Large { .. } => false,
     }
 }

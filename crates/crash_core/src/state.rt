@@ -1,6 +1,7 @@
 //! What the core keeps of a state.
 
-use crate::owners::{BlockOwner, SeatNotes, SuperblockOwner};
+use crate::owners::BlockOwner;
+use seat_notes::{SeatNotes, SuperblockOwner};
 use super_block::Geometry;
 
 /// The words of the shared table, and what the core keeps of the seats' views: whose each block,

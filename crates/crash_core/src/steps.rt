@@ -1,7 +1,7 @@
 //! One step of a seat, of whatever kind.
 
 ghost use Rattle.std.specs.Prelude.{◌≡◌, ◌↔◌, ◌<◌, length, get_or, true};
-ghost use Rattle.crash_core.specs.declared.owners.SeatNotes.{SeatNotes};
+ghost use Rattle.seat_notes.specs.declared.notes.SeatNotes.{SeatNotes};
 ghost use Rattle.crash_core.specs.Standing.{IsCore, Takes, Follows, HasTicketAt};
 
 use crate::chains::{give, take_all};

@@ -1,21 +1,24 @@
 //! The stores to a seat's own words.
 
-ghost use Rattle.std.specs.Prelude.{◌≡◌, ◌<◌, length, cond, nat_eq, true, false};
+ghost use Rattle.std.specs.Prelude.{◌≡◌, ◌<◌, length, true};
 ghost use Rattle.core_model.specs.declared.event.Event.TheVariants.{Store};
-ghost use Rattle.crash_core.specs.declared.part.Part.TheVariants.{Anchor, Link, Data};
+ghost use Rattle.seat_notes.specs.declared.part.Part.TheVariants.{Anchor, Link, Data};
 ghost use Rattle.core_model.specs.Cells.{cell_at, data_cell};
 ghost use Rattle.core_model.specs.Guards.{IsOwn, MayAnchor, MayChangeWord};
-ghost use Rattle.crash_core.specs.OwnWords.{IsPart, IsPlain};
+ghost use Rattle.seat_notes.specs.Parts.{IsPart};
+ghost use Rattle.crash_core.specs.OwnWords.{IsPlain};
 ghost use Rattle.crash_core.specs.Standing.{IsCore, Takes, Decides};
 
-use crate::anchors::{EMPTY, anchor_after_take_all, anchor_state};
-use crate::own_words::{is_own, part_at};
-use crate::owners::{BlockPlace, Group, SeatNotes, Share, SuperblockOwner};
-use crate::part::Part;
+use crate::anchors::{EMPTY, anchor_state};
+use crate::own_words::is_own;
+use crate::owners::BlockPlace;
 use crate::reads::anchor;
-use crate::shares::{place, share};
 use crate::state::CoreState;
+use crate::usages::{place, usage};
 use core_model::StepAnswer;
+use seat_notes::{
+    Part, SeatNotes, SuperblockOwner, SuperblockUsage, anchor_after_take_all, part_at,
+};
 
 /// Stores to a word of its own.
 pub(crate) fn store(core: &mut CoreState, seat: usize, word: u64, value: u64) -> StepAnswer
@@ -62,7 +65,7 @@ fn store_link(core: &mut CoreState, seat: usize, word: u64, d: u64, value: u64) 
     ensures { Takes core.old seat (Store word value) result core.new }
 {
     let notes = core.seats[seat];
-    if share(core, seat, d).is_cutting() {
+    if usage(core, seat, d).is_cutting() {
         return StepAnswer::NotNow;
     }
     core.words[word as usize] = value;
@@ -88,7 +91,7 @@ fn store_anchor(core: &mut CoreState, seat: usize, word: u64, d: u64, value: u64
     core.words[word as usize] = value;
     core.superblocks[d as usize] = SuperblockOwner {
         seat,
-        share: Share::anchored(value),
+        usage: SuperblockUsage::anchored(value),
     };
     core.seats[seat] = SeatNotes {
         ticket: None,
@@ -110,13 +113,13 @@ fn may_anchor(core: &CoreState, seat: usize, d: u64, value: u64) -> bool
     if value != anchor_after_take_all() {
         return false;
     }
-    match share(core, seat, d) {
-        Share::Cutting => false,
-        Share::Split => true,
-        Share::Nothing => anchor_state(anchor(core, d)) == EMPTY,
-        Share::Raw => anchor_state(anchor(core, d)) == EMPTY,
-        Share::Classed { .. } => anchor_state(anchor(core, d)) == EMPTY,
-        Share::Large { .. } => anchor_state(anchor(core, d)) == EMPTY,
+    match usage(core, seat, d) {
+        SuperblockUsage::Cutting => false,
+        SuperblockUsage::Split => true,
+        SuperblockUsage::Nothing => anchor_state(anchor(core, d)) == EMPTY,
+        SuperblockUsage::Raw => anchor_state(anchor(core, d)) == EMPTY,
+        SuperblockUsage::Classed { .. } => anchor_state(anchor(core, d)) == EMPTY,
+        SuperblockUsage::Large { .. } => anchor_state(anchor(core, d)) == EMPTY,
     }
 }
 
@@ -154,21 +157,5 @@ fn may_change(core: &CoreState, seat: usize, word: u64) -> bool
         BlockPlace::Held => true,
         BlockPlace::Cached => false,
         BlockPlace::Batched => word == last,
-    }
-}
-
-impl Group {
-    /// The batch after a store to a word: one to the first word of its last block ends that link.
-    pub fn stored(self, word: u64) -> Group
-        ensures { result ≡ record self { linked = cond (nat_eq word self.last) false self.linked } }
-    {
-        if word == self.last {
-            Group {
-                linked: false,
-                ..self
-            }
-        } else {
-            self
-        }
     }
 }

@@ -8,11 +8,11 @@ ghost use Rattle.crash_core.specs.Standing.{IsCore, Takes, Decides, Moves};
 
 use crate::cuts::{cut, may_cut};
 use crate::moves::{alloc, free, lift, may_alloc, may_free, may_lift};
-use crate::owners::SeatNotes;
 use crate::spans::{hold_large, may_hold_large, may_split, split};
 use crate::state::CoreState;
 use crate::words::draw;
 use core_model::{Shift, StepAnswer};
+use seat_notes::SeatNotes;
 
 /// Draws a ticket, and changes the seat's parts where there is something to change, and the
 /// ticket is below the budget.

@@ -5,9 +5,9 @@ ghost use Rattle.core_model.specs.declared.event.Event.TheVariants.{Tick, Load, 
 ghost use Rattle.crash_core.specs.Standing.{IsCore, Takes};
 
 use crate::own_words::is_own;
-use crate::owners::SeatNotes;
 use crate::state::CoreState;
 use core_model::StepAnswer;
+use seat_notes::SeatNotes;
 
 /// Loads a word of its own.
 pub(crate) fn load(core: &mut CoreState, seat: usize, word: u64) -> StepAnswer

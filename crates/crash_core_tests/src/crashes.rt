@@ -6,9 +6,10 @@ use crate::fixtures::{
     DRAW, MANY, held_after_a_crash, must_hold, must_take, needs_ticket, opened, recovered,
 };
 use crate::schedules::parse;
-use crash_core::{Core, Event, StepAnswer, opened_table};
+use crash_core::{Core, Event, StepAnswer};
 use image_text::{anchor_word, link_word, number};
 use line_memory::Chance;
+use seat_notes::opened_table;
 use std::alloc::Global;
 use std::process::Abort;
 use std::test::Fail;

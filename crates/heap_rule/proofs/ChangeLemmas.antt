@@ -21,7 +21,7 @@ use Rattle.core_model.proofs.LinkFrameLemmas.{span_covers}
 use Rattle.core_model.proofs.OwnerLemmas.{in_lists_total}
 use Rattle.core_model.proofs.SpanLemmas.{block_of}
 use Rattle.core_model.proofs.TotalLemmas.{eq-eqb-one, ne-eqb-none}
-use Rattle.crash_core.proofs.ChainSteps.{cut_range}
+use Rattle.seat_notes.proofs.BlockRanges.{cut_range}
 use Rattle.heap_rule.specs.declared.owned.Change.{Change}
 use Rattle.heap_rule.specs.declared.owned.Change.TheVariants as change
 use Rattle.heap_rule.specs.declared.owned.Owned.{Owned}
@@ -120,26 +120,26 @@ cut_change v has d class can class_is o own = (
   record {
     below = less;
     classes = (let l = own.classes_long in let t = less in omega arith);
-    stakes = (let l = own.stakes_long in let t = less in omega arith);
+    ownerships = (let l = own.ownerships_long in let t = less in omega arith);
     blocks = λ b some. let r = cut_range v.setup.capacity class.number d b class.is less (block_of v.setup.capacity class.number d b some) in let l = own.words_long in omega arith;
     stack = has_stack o.stacks.items v.caches class.number own.stacks class.is;
     fits = (let l = own.words_long in let small = has.sound.good.small in let fits = largest_capacity_fits in omega arith);
   },
-  λ s found o' changed. as_is _ o' _ changed.others (cut_owned v s o own found d class.number o'.blocks o'.classes o'.stakes o'.stacks can class_is changed.blocks changed.classes changed.stakes changed.stacks),
+  λ s found o' changed. as_is _ o' _ changed.others (cut_owned v s o own found d class.number o'.blocks o'.classes o'.ownerships o'.stacks can class_is changed.blocks changed.classes changed.ownerships changed.stacks),
 ) where
   less : d < v.setup.capacity
   less = taken_below v has d (let c = can.cutting in omega arith)
 
 pub large_change : (v : View) → HasSoundState v → (d n : ℕ) → CanHoldLarge v d n → FitsChange (change.Large d n) v (Some (Large d n))
 large_change v has d n can o own = (
-  (can.some, (let some = can.some in let low = can.durable in let l = below_capacity v has (d + n - 1) (omega arith) in let k = own.stakes_long in omega arith)),
-  λ s found o' is. as_is _ o' _ is.others (large_owned v s o own found d n is.rest o'.stakes can is.staking is.first),
+  (can.some, (let some = can.some in let low = can.durable in let l = below_capacity v has (d + n - 1) (omega arith) in let k = own.ownerships_long in omega arith)),
+  λ s found o' is. as_is _ o' _ is.others (large_owned v s o own found d n is.rest o'.ownerships can is.owning is.first),
 )
 
 pub split_change : (v : View) → HasSoundState v → (block d n : ℕ) → MaySplit v block → d ≡ superblock_at v.setup.capacity block → n ≡ span_count d v.large → FitsChange (change.Split d n) v (Some (Split block))
 split_change v has block d n may d_is n_is o own = (
-  (let n_some = some in let last = span_covers d (d + n - 1) v.large (omega arith) (omega arith) (omega arith) in let t = taken_below v has (d + n - 1) (omega arith) in let k = own.stakes_long in omega arith),
-  λ s found o' is. as_is _ o' _ is.others (split_owned v s o own found block d n o'.stakes may d_is n_is is.staking),
+  (let n_some = some in let last = span_covers d (d + n - 1) v.large (omega arith) (omega arith) (omega arith) in let t = taken_below v has (d + n - 1) (omega arith) in let k = own.ownerships_long in omega arith),
+  λ s found o' is. as_is _ o' _ is.others (split_owned v s o own found block d n o'.ownerships may d_is n_is is.owning),
 ) where
   some : 1 ≤ n
   some = let h = subst (λ e. 1 ≤ span_count e v.large) (sym d_is) may.held in omega (arith, h, n_is)

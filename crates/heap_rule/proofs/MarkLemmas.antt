@@ -1,12 +1,12 @@
--- Marks of the numbers of a list, and stakes of a range, as they are given one after the other.
+-- Marks of the numbers of a list, and what is owned of a range, as they are given one after the other.
 use Rattle.std.proofs.Common.{◌≡◌, ◌≢◌, ℕ, zero, suc, ◌+◌, ◌<◌, inl, inr, Bool, true, false, ◌/◌, List, [], ◌∷◌, get_or, set, take, length, refl, ap, sym, subst, ◌∙◌, length-set, add-one, arith}
 use Rattle.std.proofs.lemmas.Bool.{cases_eq}
 use Rattle.std.proofs.lemmas.List.{get_or-set_same, get_or-set_other}
 use Rattle.heap_model.specs.Counting.{times, one_if}
 use Rattle.core_model.proofs.TotalLemmas.{eq-eqb-one, ne-eqb-none}
-use Rattle.heap_rule.specs.declared.owned.Stake.{Stake}
-use Rattle.heap_rule.specs.declared.owned.Stake.TheVariants as stake
-use Rattle.heap_rule.specs.Owned.{IsMarking, IsStaking}
+use Rattle.heap_rule.specs.declared.owned.Ownership.{Ownership}
+use Rattle.heap_rule.specs.declared.owned.Ownership.TheVariants as ownership
+use Rattle.heap_rule.specs.Owned.{IsMarking, HaveOwnership}
 
 -- the first numbers of a list, and the next one
 times_next : (n i : ℕ) (xs : List ℕ) (x : ℕ) → i < length xs → get_or xs i x ≡ x → times n (take (suc i) xs) ≡ times n (take i xs) + times n (x ∷ [])
@@ -32,17 +32,17 @@ entry_times [] i x less at = absurd (omega arith)
 entry_times (y ∷ ys) zero x less at = let one = eq-eqb-one y x at in omega arith
 entry_times (y ∷ ys) (suc i) x less at = let rest = entry_times ys i x (omega arith) at in omega arith
 
-pub staking_start : (stakes : List Stake) (from : ℕ) (x : Stake) → IsStaking stakes stakes from 0 x
-staking_start stakes from x = record { long = refl; inside = λ d low high. absurd (omega arith); outside = λ d out. refl }
+pub staking_start : (ownerships : List Ownership) (from : ℕ) (x : Ownership) → HaveOwnership ownerships ownerships from 0 x
+staking_start ownerships from x = record { long = refl; inside = λ d low high. absurd (omega arith); outside = λ d out. refl }
 
-pub staking_step : (old new : List Stake) (from n d : ℕ) (x : Stake) → IsStaking old new from n x → d ≡ from + n → d < length new → IsStaking old (set new d x) from (n + 1) x
+pub staking_step : (old new : List Ownership) (from n d : ℕ) (x : Ownership) → HaveOwnership old new from n x → d ≡ from + n → d < length new → HaveOwnership old (set new d x) from (n + 1) x
 staking_step old new from n d x s at inside = record {
   long = length-set new d x ∙ s.long;
-  inside = λ e low high. elim (cases_eq e d) as (λ _. get_or (set new d x) e stake.Nothing ≡ x) [
-    | inl here ↦ ap (λ k. get_or (set new d x) k stake.Nothing) here ∙ get_or-set_same new d x stake.Nothing inside
-    | inr other ↦ get_or-set_other new d e x stake.Nothing other ∙ s.inside e low (let h : e ≢ d = other in omega arith)
+  inside = λ e low high. elim (cases_eq e d) as (λ _. get_or (set new d x) e ownership.Nothing ≡ x) [
+    | inl here ↦ ap (λ k. get_or (set new d x) k ownership.Nothing) here ∙ get_or-set_same new d x ownership.Nothing inside
+    | inr other ↦ get_or-set_other new d e x ownership.Nothing other ∙ s.inside e low (let h : e ≢ d = other in omega arith)
   ];
-  outside = λ e out. get_or-set_other new d e x stake.Nothing (λ here. out (omega (arith, here)) (omega (arith, here))) ∙ s.outside e (λ low high. out low (omega arith));
+  outside = λ e out. get_or-set_other new d e x ownership.Nothing (λ here. out (omega (arith, here)) (omega (arith, here))) ∙ s.outside e (λ low high. out low (omega arith));
 }
 
 -- only words that have a mark are marked

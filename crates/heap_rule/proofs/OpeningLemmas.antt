@@ -9,7 +9,7 @@ use Rattle.core_model.specs.View.{View}
 use Rattle.line_memory.specs.Marks.{mark_at}
 use Rattle.core_model.specs.Sound.{Sound}
 use Rattle.core_model.proofs.OpenLemmas.{length_tabulate, tabulate_at}
-use Rattle.crash_core.proofs.OpenedCore.{new_seat, no_caches}
+use Rattle.seat_notes.proofs.NewSeat.{new_seat, no_caches}
 use Rattle.heap_table.specs.SeatViews.{SeatViews, first_view, other_views}
 use Rattle.heap_table.specs.Rule.{Opening, IsOpened, setup_for, state_of, opened_views, opened_view_of}
 use Rattle.heap_table.specs.AtTable.{SharedView}

@@ -14,18 +14,18 @@ use Rattle.core_model.proofs.OpenLemmas.{length_tabulate, tabulate_at, small_mem
 use Rattle.core_model.proofs.OpenCountLemmas.{beyond, empty_at}
 use Rattle.core_model.proofs.OpenedLemmas.{opened}
 use Rattle.core_model.proofs.OwnerLemmas.{in_lists_total}
-use Rattle.crash_core.specs.declared.owners.SuperblockOwner.{SuperblockOwner}
-use Rattle.crash_core.specs.declared.owners.Share.{Share}
-use Rattle.crash_core.specs.declared.owners.Share.TheVariants as share
-use Rattle.crash_core.specs.OwnerLists.{OwnerLists}
-use Rattle.crash_core.specs.OpenedOwners.{AreSuperblockOwners}
-use Rattle.crash_core.specs.Standing.{share_for, no_superblock, IsShare}
-use Rattle.crash_core.proofs.OpenedBlocks.{none_cached}
-use Rattle.crash_core.proofs.OwnDecision.{one_true}
-use Rattle.crash_core.proofs.PickedLemmas.{roots_of}
-use Rattle.heap_rule.specs.declared.owned.Stake.TheVariants as stake
+use Rattle.seat_notes.specs.declared.superblocks.SuperblockOwner.{SuperblockOwner}
+use Rattle.seat_notes.specs.declared.superblocks.SuperblockUsage.{SuperblockUsage}
+use Rattle.seat_notes.specs.declared.superblocks.SuperblockUsage.TheVariants as usage
+use Rattle.seat_notes.specs.OwnerLists.{OwnerLists}
+use Rattle.seat_notes.specs.OpenedSuperblocks.{AreSuperblockOwners}
+use Rattle.seat_notes.specs.Superblocks.{usage_for, no_superblock, IsUsage}
+use Rattle.seat_notes.proofs.HeldSoFar.{none_cached}
+use Rattle.seat_notes.proofs.DecisionLemmas.{one_true}
+use Rattle.seat_notes.proofs.PickedLemmas.{roots_of}
+use Rattle.heap_rule.specs.declared.owned.Ownership.TheVariants as ownership
 use Rattle.heap_rule.specs.declared.owned.Owned.{Owned}
-use Rattle.heap_rule.specs.Owned.{most_blocks, stake_for, opened_parts, parts_of, OwnedParts, IsStake, HasOwned, times_had}
+use Rattle.heap_rule.specs.Owned.{most_blocks, ownership_for, opened_parts, parts_of, OwnedParts, IsOwnership, HasOwned, times_had}
 use Rattle.heap_table.specs.Rule.{opening_of, opened_view_of}
 use Rattle.heap_table.specs.Plays.{HasSoundState}
 use Rattle.heap_rule.specs.Stacks.{AreStacks}
@@ -50,14 +50,14 @@ opened_has heap owners seats seat ready are less = record {
 pub opened_parts_are : (heap : Contents) (owners : OwnerLists) (seats budget i : ℕ) → parts_of (opened_view_of (opening_of heap owners seats budget) i) ≡ opened_parts heap owners i
 opened_parts_are heap owners seats budget i = refl
 
--- a share of a heap at rest as a stake
-stake_of_share : (d : ℕ) (x : Share) (p : OwnedParts) → IsShare d x p.raw p.split p.cutting p.classed p.large → IsStake d (stake_for x) p
-stake_of_share d share.Nothing p is = record { unclassed = (let a = is.is_raw in let b = is.is_split in let c = is.is_cutting in omega arith); is_classed = is.is_classed; class = is.class; is_large = is.is_large; count = is.count }
-stake_of_share d share.Raw p is = record { unclassed = (let a = is.is_raw in let b = is.is_split in let c = is.is_cutting in omega arith); is_classed = is.is_classed; class = is.class; is_large = is.is_large; count = is.count }
-stake_of_share d share.Split p is = record { unclassed = (let a = is.is_raw in let b = is.is_split in let c = is.is_cutting in omega arith); is_classed = is.is_classed; class = is.class; is_large = is.is_large; count = is.count }
-stake_of_share d share.Cutting p is = record { unclassed = (let a = is.is_raw in let b = is.is_split in let c = is.is_cutting in omega arith); is_classed = is.is_classed; class = is.class; is_large = is.is_large; count = is.count }
-stake_of_share d (share.Classed class) p is = record { unclassed = (let a = is.is_raw in let b = is.is_split in let c = is.is_cutting in omega arith); is_classed = is.is_classed; class = is.class; is_large = is.is_large; count = is.count }
-stake_of_share d (share.Large count) p is = record { unclassed = (let a = is.is_raw in let b = is.is_split in let c = is.is_cutting in omega arith); is_classed = is.is_classed; class = is.class; is_large = is.is_large; count = is.count }
+-- what a seat has of a superblock of a heap at rest, as what it owns
+ownership_of_usage : (d : ℕ) (x : SuperblockUsage) (p : OwnedParts) → IsUsage d x p.raw p.split p.cutting p.classed p.large → IsOwnership d (ownership_for x) p
+ownership_of_usage d usage.Nothing p is = record { unclassed = (let a = is.is_raw in let b = is.is_split in let c = is.is_cutting in omega arith); is_classed = is.is_classed; class = is.class; is_large = is.is_large; count = is.count }
+ownership_of_usage d usage.Raw p is = record { unclassed = (let a = is.is_raw in let b = is.is_split in let c = is.is_cutting in omega arith); is_classed = is.is_classed; class = is.class; is_large = is.is_large; count = is.count }
+ownership_of_usage d usage.Split p is = record { unclassed = (let a = is.is_raw in let b = is.is_split in let c = is.is_cutting in omega arith); is_classed = is.is_classed; class = is.class; is_large = is.is_large; count = is.count }
+ownership_of_usage d usage.Cutting p is = record { unclassed = (let a = is.is_raw in let b = is.is_split in let c = is.is_cutting in omega arith); is_classed = is.is_classed; class = is.class; is_large = is.is_large; count = is.count }
+ownership_of_usage d (usage.Classed class) p is = record { unclassed = (let a = is.is_raw in let b = is.is_split in let c = is.is_cutting in omega arith); is_classed = is.is_classed; class = is.class; is_large = is.is_large; count = is.count }
+ownership_of_usage d (usage.Large count) p is = record { unclassed = (let a = is.is_raw in let b = is.is_split in let c = is.is_cutting in omega arith); is_classed = is.is_classed; class = is.class; is_large = is.is_large; count = is.count }
 
 -- what was gathered of a seat
 pub record IsGathered (heap : Contents) (owners : OwnerLists) (seat : ℕ) (superblocks : List SuperblockOwner) (o : Owned) : Type 0 where
@@ -65,8 +65,8 @@ pub record IsGathered (heap : Contents) (owners : OwnerLists) (seat : ℕ) (supe
   pub blocks_are : (n : ℕ) → one_if (get_or o.blocks n false) ≡ total (times n) (opened_parts heap owners seat).small
   pub classes_long : length o.classes.items ≡ slice_index heap.words capacity_word
   pub classes_are : (d : ℕ) → d < length o.classes.items → get_or o.classes.items d 0 ≡ slice_index heap.words (info_word d)
-  pub stakes_long : length o.stakes.items ≡ length superblocks
-  pub stakes_are : (n : ℕ) → get_or o.stakes.items n stake.Nothing ≡ stake_for (share_for seat (get_or superblocks n no_superblock))
+  pub ownerships_long : length o.ownerships.items ≡ length superblocks
+  pub ownerships_are : (n : ℕ) → get_or o.ownerships.items n ownership.Nothing ≡ ownership_for (usage_for seat (get_or superblocks n no_superblock))
   pub roots_long : length o.roots.items ≡ length owners.roots
   pub roots_are : (n : ℕ) → one_if (get_or o.roots.items n false) ≡ one_if (nat_eq (get_or owners.roots n (seat + 1)) seat)
   pub batch : o.batch.items ≡ []
@@ -78,7 +78,7 @@ pub gathered : (heap : Contents) (owners : OwnerLists) (seats seat : ℕ) (super
 gathered heap owners seats seat superblocks o ready are less are_superblocks g = record {
   words_long = g.words_long;
   classes_long = g.classes_long;
-  stakes_long = g.stakes_long ∙ are_superblocks.long;
+  ownerships_long = g.ownerships_long ∙ are_superblocks.long;
   roots_long = g.roots_long ∙ are.roots_all;
   blocks = λ n. one_true (get_or o.blocks n false) (times_had n p) (g.blocks_are n ∙ (let z = none_cached lists n in omega arith));
   classes = record {
@@ -89,7 +89,7 @@ gathered heap owners seats seat superblocks o ready are less are_superblocks g =
     cached = λ class b there. absurd (let z = empty_at lists class b in omega arith);
     batched = λ b there. absurd (omega arith);
   };
-  stakes = λ d. subst (λ x. IsStake d x p) (sym (g.stakes_are d)) (stake_of_share d (share_for seat (get_or superblocks d no_superblock)) p (are_superblocks.each seat d));
+  ownerships = λ d. subst (λ x. IsOwnership d x p) (sym (g.ownerships_are d)) (ownership_of_usage d (usage_for seat (get_or superblocks d no_superblock)) p (are_superblocks.each seat d));
   roots_are = λ n. one_true (get_or o.roots.items n false) (times n p.roots) (g.roots_are n ∙ sym (roots_of seat roots owners.roots are.roots_all n));
   batch = g.batch;
   room = g.room;

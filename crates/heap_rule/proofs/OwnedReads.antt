@@ -20,14 +20,14 @@ use Rattle.core_model.proofs.LinkFrameLemmas.{span_covers}
 use Rattle.core_model.proofs.OwnLemmas.{one_at_most}
 use Rattle.core_model.proofs.OwnerLemmas.{in_blocks, covered, which_class, in_lists_total}
 use Rattle.core_model.proofs.TotalLemmas.{total_at}
-use Rattle.crash_core.proofs.OwnDecision.{one_true, within_word, in_classes_word}
-use Rattle.crash_core.proofs.PushDecision.{refused}
-use Rattle.crash_core.proofs.SplitSteps.{no_span}
-use Rattle.crash_core.proofs.WordLemmas.{entry_is}
-use Rattle.heap_rule.specs.declared.owned.Stake.{Stake}
-use Rattle.heap_rule.specs.declared.owned.Stake.TheVariants as stake
+use Rattle.seat_notes.proofs.DecisionLemmas.{one_true, refused}
+use Rattle.seat_notes.proofs.BlockRanges.{within_word, in_classes_word}
+use Rattle.seat_notes.proofs.CountLemmas.{no_span}
+use Rattle.seat_notes.proofs.WordLemmas.{entry_is}
+use Rattle.heap_rule.specs.declared.owned.Ownership.{Ownership}
+use Rattle.heap_rule.specs.declared.owned.Ownership.TheVariants as ownership
 use Rattle.heap_rule.specs.declared.owned.Owned.{Owned}
-use Rattle.heap_rule.specs.Owned.{unclassed_in, classed_in, class_in, large_in, count_in, IsStake, HasOwned, parts_of}
+use Rattle.heap_rule.specs.Owned.{unclassed_in, classed_in, class_in, large_in, count_in, IsOwnership, HasOwned, parts_of}
 use Rattle.heap_table.specs.Plays.{HasSoundState}
 use Rattle.heap_rule.proofs.OwnedSteps.{class_kept, taken_below}
 use Rattle.heap_rule.proofs.ShiftLemmas.{span_below}
@@ -40,35 +40,35 @@ module _ (v : View) (s : HasSoundState v) (o : Owned) (own : HasOwned o (parts_o
   abbrev good : Good v.setup m s.views
   good = s.sound.good
 
-  pub stake_is : (d : ℕ) (x : Stake) → d < v.setup.capacity → x ≡ get_or o.stakes.items d x → IsStake d x (parts_of v)
-  stake_is d x less is = subst (λ y. IsStake d y (parts_of v)) (entry_is o.stakes.items d stake.Nothing x (let l = own.stakes_long in omega arith) ∙ sym is) (own.stakes d)
+  pub ownership_is : (d : ℕ) (x : Ownership) → d < v.setup.capacity → x ≡ get_or o.ownerships.items d x → IsOwnership d x (parts_of v)
+  ownership_is d x less is = subst (λ y. IsOwnership d y (parts_of v)) (entry_is o.ownerships.items d ownership.Nothing x (let l = own.ownerships_long in omega arith) ∙ sym is) (own.ownerships d)
 
   pub classed_below : (d : ℕ) → 0 < times_classed d v.classed → d < v.setup.capacity
   classed_below d some = taken_below v s d (omega arith)
 
-  pub claim_of : (d class : ℕ) (x : Stake) → 0 < times_classed d v.classed → x ≡ get_or o.stakes.items d x → class ≡ class_in x → (class ≡ claim_class d v.classed) × IsClass class
-  claim_of d class x some is class_is = let e : class ≡ claim_class d v.classed = class_is ∙ sym (stake_is d x (classed_below d some) is).class in
+  pub claim_of : (d class : ℕ) (x : Ownership) → 0 < times_classed d v.classed → x ≡ get_or o.ownerships.items d x → class ≡ class_in x → (class ≡ claim_class d v.classed) × IsClass class
+  claim_of d class x some is class_is = let e : class ≡ claim_class d v.classed = class_is ∙ sym (ownership_is d x (classed_below d some) is).class in
       (e, subst IsClass (sym e) ((good.claims s.seat v s.below s.at).is_classed d some).0)
 
-  pub span_of : (d count : ℕ) (x : Stake) → d < v.setup.capacity → x ≡ get_or o.stakes.items d x → count ≡ count_in x → count ≡ span_count d v.large
-  span_of d count x less is count_is = count_is ∙ sym (stake_is d x less is).count
+  pub span_of : (d count : ℕ) (x : Ownership) → d < v.setup.capacity → x ≡ get_or o.ownerships.items d x → count ≡ count_in x → count ≡ span_count d v.large
+  span_of d count x less is count_is = count_is ∙ sym (ownership_is d x less is).count
 
   -- own words of a root and of a descriptor
   pub root_own : (i : ℕ) (b : Bool) → i < roots → b ≡ get_or o.roots.items i b → (b ≡ true) ↔ (0 < times_own v (root_cell i))
   root_own i b less is = subst (λ x. (x ≡ true) ↔ (0 < times i v.roots)) (entry_is o.roots.items i false b (let l = own.roots_long in omega arith) ∙ sym is) (own.roots_are i)
 
-  pub info_own : (d : ℕ) (x : Stake) (b : Bool) → d < v.setup.capacity → x ≡ get_or o.stakes.items d x → one_if b ≡ unclassed_in x → (b ≡ true) ↔ (0 < times_raw d v)
-  info_own d x b less is b_is = one_true b (times_raw d v) (let q = (stake_is d x less is).unclassed in omega arith)
+  pub info_own : (d : ℕ) (x : Ownership) (b : Bool) → d < v.setup.capacity → x ≡ get_or o.ownerships.items d x → one_if b ≡ unclassed_in x → (b ≡ true) ↔ (0 < times_raw d v)
+  info_own d x b less is b_is = one_true b (times_raw d v) (let q = (ownership_is d x less is).unclassed in omega arith)
 
-  pub link_own : (d : ℕ) (x : Stake) (b : Bool) → d < v.setup.capacity → x ≡ get_or o.stakes.items d x → one_if b ≡ unclassed_in x + classed_in x → (b ≡ true) ↔ (0 < times_own v (link_cell d))
-  link_own d x b less is b_is = one_true b (times_own v (link_cell d)) (let q = (stake_is d x less is).unclassed in let r = (stake_is d x less is).is_classed in omega arith)
+  pub link_own : (d : ℕ) (x : Ownership) (b : Bool) → d < v.setup.capacity → x ≡ get_or o.ownerships.items d x → one_if b ≡ unclassed_in x + classed_in x → (b ≡ true) ↔ (0 < times_own v (link_cell d))
+  link_own d x b less is b_is = one_true b (times_own v (link_cell d)) (let q = (ownership_is d x less is).unclassed in let r = (ownership_is d x less is).is_classed in omega arith)
 
-  module _ (word : ℕ) (from : start_word v.setup.capacity 0 ≤ word) (until : word < superblocks_end v.setup.capacity) (d : ℕ) (d_is : d ≡ superblock_at v.setup.capacity word) (x : Stake) (x_is : x ≡ get_or o.stakes.items d x) where
+  module _ (word : ℕ) (from : start_word v.setup.capacity 0 ≤ word) (until : word < superblocks_end v.setup.capacity) (d : ℕ) (d_is : d ≡ superblock_at v.setup.capacity word) (x : Ownership) (x_is : x ≡ get_or o.ownerships.items d x) where
     pub d_below : d < v.setup.capacity
     d_below = omega arith
 
     parts_own : times_large (superblock_at v.setup.capacity word) v.large + times_raw (superblock_at v.setup.capacity word) v ≡ unclassed_in x + large_in x
-    parts_own = ap (λ n. times_large n v.large + times_raw n v) (sym d_is) ∙ (let q = stake_is d x d_below x_is in let a = q.unclassed in let b = q.is_large in omega arith)
+    parts_own = ap (λ n. times_large n v.large + times_raw n v) (sym d_is) ∙ (let q = ownership_is d x d_below x_is in let a = q.unclassed in let b = q.is_large in omega arith)
 
     pub data_whole : 0 < unclassed_in x + large_in x → IsOwn v (data_cell word)
     data_whole some = let p = parts_own in omega arith
@@ -146,8 +146,8 @@ module _ (v : View) (s : HasSoundState v) (o : Owned) (own : HasOwned o (parts_o
         )
 
   -- a held small block
-  pub small_held : (class b d : ℕ) (x : Stake) → 0 < times b (of_class v.small class) → d ≡ superblock_at v.setup.capacity b → x ≡ get_or o.stakes.items d x → (d < v.setup.capacity) × IsClass class × (count_in x ≡ 0) × (get_or o.classes.items d 0 ≡ class)
-  small_held class b d x there d_is x_is = (below_d, subst IsClass ((good.blocks s.seat v s.below s.at).held class b there) (block_class v s b owned), sym (stake_is d x below_d x_is).count ∙ no_span d v.large none, ap (λ n. get_or o.classes.items n 0) d_is ∙ own.classes.held class b there) where
+  pub small_held : (class b d : ℕ) (x : Ownership) → 0 < times b (of_class v.small class) → d ≡ superblock_at v.setup.capacity b → x ≡ get_or o.ownerships.items d x → (d < v.setup.capacity) × IsClass class × (count_in x ≡ 0) × (get_or o.classes.items d 0 ≡ class)
+  small_held class b d x there d_is x_is = (below_d, subst IsClass ((good.blocks s.seat v s.below s.at).held class b there) (block_class v s b owned), sym (ownership_is d x below_d x_is).count ∙ no_span d v.large none, ap (λ n. get_or o.classes.items n 0) d_is ∙ own.classes.held class b there) where
     owned : 0 < times_block b v
     owned = let t = in_lists_total b class v.small there in omega arith
 
@@ -166,7 +166,7 @@ pub record IsBlockAt (v : View) (d count class : ℕ) (b : Block) : Type 0 where
   pub large : 0 < count → b.words ≡ superblock_words * count
   pub small : count ≡ 0 → (b.words ≡ words_of_class class) × IsClass class
 
-pub block_there : (v : View) (s : HasSoundState v) (o : Owned) (own : HasOwned o (parts_of v)) (b : Block) (d count : ℕ) (x : Stake) → IsHeld v b → d ≡ superblock_at v.setup.capacity b.first_word → (d < v.setup.capacity → x ≡ get_or o.stakes.items d x)
+pub block_there : (v : View) (s : HasSoundState v) (o : Owned) (own : HasOwned o (parts_of v)) (b : Block) (d count : ℕ) (x : Ownership) → IsHeld v b → d ≡ superblock_at v.setup.capacity b.first_word → (d < v.setup.capacity → x ≡ get_or o.ownerships.items d x)
     → count ≡ count_in x → IsBlockAt v d count (get_or o.classes.items d 0) b
 block_there v s o own b d count x (a_small class first there) d_is x_is count_is =
     let owned : 0 < times_block first v = (let t = in_lists_total first class v.small there in omega arith) in

@@ -14,17 +14,17 @@ use Rattle.core_model.proofs.BlockLemmas.{superblock_is, first_there}
 use Rattle.core_model.proofs.OwnLemmas.{one_at_most}
 use Rattle.core_model.proofs.SpanLemmas.{block_of}
 use Rattle.core_model.proofs.TotalLemmas.{total_at}
-use Rattle.heap_rule.specs.declared.owned.Stake.{Stake}
-use Rattle.heap_rule.specs.declared.owned.Stake.TheVariants as stake
+use Rattle.heap_rule.specs.declared.owned.Ownership.{Ownership}
+use Rattle.heap_rule.specs.declared.owned.Ownership.TheVariants as ownership
 use Rattle.heap_rule.specs.declared.owned.Owned.{Owned}
 use Rattle.heap_rule.specs.declared.stacks.Stack.{Stack}
 use Rattle.heap_rule.specs.Stacks.{AreStacks, IsRestacked}
-use Rattle.heap_rule.specs.Owned.{OwnedParts, parts_of, IsStake, IsStaking, IsMarking, AreClasses, HasOwned, times_had}
+use Rattle.heap_rule.specs.Owned.{OwnedParts, parts_of, IsOwnership, HaveOwnership, IsMarking, AreClasses, HasOwned, times_had}
 use Rattle.heap_table.specs.Plays.{HasSoundState}
 use Rattle.heap_rule.specs.Shown.{CanFree, CanLift, CanCut, CanHoldLarge}
 use Rattle.heap_rule.proofs.BlockMarks.{marked_alike, marked_more, alloc_times, alloc_classes, lift_times, lift_classes, free_times, free_classes, cached_times, cached_classes}
-use Rattle.heap_rule.proofs.OwnedLemmas.{cut_stakes, large_stakes, split_stakes}
-use Rattle.heap_rule.proofs.OwnedSteps.{staked, taken_below}
+use Rattle.heap_rule.proofs.OwnedLemmas.{cut_ownerships, large_ownerships, split_ownerships}
+use Rattle.heap_rule.proofs.OwnedSteps.{with_ownerships, taken_below}
 use Rattle.heap_rule.proofs.StackLemmas.{restacked}
 use Rattle.heap_rule.proofs.ShiftLemmas.{free_info, free_class, cut_info}
 use Rattle.heap_rule.proofs.ViewLemmas.{block_cut}
@@ -37,11 +37,11 @@ moved : (o : Owned) (batch : Vec ℕ Global) (stacks : Vec Stack Global) (p : Ow
 moved o batch stacks p small caches blocks class own same classes batch_is room stacks_are = record {
   words_long = own.words_long;
   classes_long = own.classes_long;
-  stakes_long = own.stakes_long;
+  ownerships_long = own.ownerships_long;
   roots_long = own.roots_long;
   blocks = marked_alike o.blocks (λ b. times_had b p) (λ b. times_had b (record p { small = small; caches = caches; batch = blocks; batch_class = class })) same own.blocks;
   classes = classes;
-  stakes = λ e. let b = own.stakes e in record { unclassed = b.unclassed; is_classed = b.is_classed; class = b.class; is_large = b.is_large; count = b.count };
+  ownerships = λ e. let b = own.ownerships e in record { unclassed = b.unclassed; is_classed = b.is_classed; class = b.class; is_large = b.is_large; count = b.count };
   roots_are = own.roots_are;
   batch = batch_is;
   room = (let r = own.room in omega arith);
@@ -93,20 +93,20 @@ module _ (v : View) (s : HasSoundState v) (o : Owned) (own : HasOwned o (parts_o
         same some = let h = good.blocks s.seat v s.below s.at in let q = h.batched (first_of v.batch.blocks) (first_there v.batch.blocks some) in
             sym q.1 ∙ ap (info m) (can.same some) ∙ h.cached class (first_of (of_class v.caches class)) (first_there (of_class v.caches class) can.cached)
 
-  pub cut_owned : (d class : ℕ) (blocks : List Bool) (classes : Vec ℕ Global) (stakes : Vec Stake Global) (stacks : Vec Stack Global) (can : CanCut v d) → class ≡ can.class
-      → IsMarking o.blocks blocks (class_blocks v.setup.capacity class d) true → classes.items ≡ set o.classes.items d class → stakes.items ≡ set o.stakes.items d stake.Nothing
-      → IsRestacked o.stacks.items stacks.items class (λ cache. class_blocks v.setup.capacity class d) → HasOwned (record o { blocks = blocks; classes = classes; stakes = stakes; stacks = stacks }) (parts_of (shifted m (drew v found) (Some (Cut d))))
-  cut_owned d class blocks classes stakes stacks can class_is marking classes_are stakes_are r =
-      subst (λ n. HasOwned (record o { blocks = blocks; classes = classes; stakes = stakes; stacks = stacks }) (record (parts_of v) { caches = set v.caches n (class_blocks v.setup.capacity n d); cutting = without d v.cutting })) info_is (record {
+  pub cut_owned : (d class : ℕ) (blocks : List Bool) (classes : Vec ℕ Global) (ownerships : Vec Ownership Global) (stacks : Vec Stack Global) (can : CanCut v d) → class ≡ can.class
+      → IsMarking o.blocks blocks (class_blocks v.setup.capacity class d) true → classes.items ≡ set o.classes.items d class → ownerships.items ≡ set o.ownerships.items d ownership.Nothing
+      → IsRestacked o.stacks.items stacks.items class (λ cache. class_blocks v.setup.capacity class d) → HasOwned (record o { blocks = blocks; classes = classes; ownerships = ownerships; stacks = stacks }) (parts_of (shifted m (drew v found) (Some (Cut d))))
+  cut_owned d class blocks classes ownerships stacks can class_is marking classes_are ownerships_are r =
+      subst (λ n. HasOwned (record o { blocks = blocks; classes = classes; ownerships = ownerships; stacks = stacks }) (record (parts_of v) { caches = set v.caches n (class_blocks v.setup.capacity n d); cutting = without d v.cutting })) info_is (record {
         words_long = marking.long ∙ own.words_long;
         classes_long = ap length classes_are ∙ length-set o.classes.items d class ∙ own.classes_long;
-        stakes_long = ap length stakes_are ∙ length-set o.stakes.items d stake.Nothing ∙ own.stakes_long;
+        ownerships_long = ap length ownerships_are ∙ length-set o.ownerships.items d ownership.Nothing ∙ own.ownerships_long;
         roots_long = own.roots_long;
         blocks = marked_more o.blocks blocks (λ b. times_had b (parts_of v)) _ cs marking (cached_times (parts_of v) class d cs caches empty) own.blocks;
         classes = (let a = cached_classes (parts_of v) class d cs caches empty o.classes.items (let l = own.classes_long in let t = less in omega arith) of_d none own.classes in
             subst (λ l. AreClasses l (record (parts_of v) { caches = set v.caches class cs; cutting = without d v.cutting })) (sym classes_are) (record { held = a.held; cached = a.cached; batched = a.batched }));
-        stakes = (let a = cut_stakes o.stakes.items (parts_of v) d (let l = own.stakes_long in let t = less in omega arith) can.cutting own.stakes in
-            subst (λ l. (e : ℕ) → IsStake e (get_or l e stake.Nothing) (record (parts_of v) { caches = set v.caches class cs; cutting = without d v.cutting })) (sym stakes_are)
+        ownerships = (let a = cut_ownerships o.ownerships.items (parts_of v) d (let l = own.ownerships_long in let t = less in omega arith) can.cutting own.ownerships in
+            subst (λ l. (e : ℕ) → IsOwnership e (get_or l e ownership.Nothing) (record (parts_of v) { caches = set v.caches class cs; cutting = without d v.cutting })) (sym ownerships_are)
             (λ e. let b = a e in record { unclassed = b.unclassed; is_classed = b.is_classed; class = b.class; is_large = b.is_large; count = b.count }));
         roots_are = own.roots_are;
         batch = own.batch;
@@ -138,20 +138,20 @@ module _ (v : View) (s : HasSoundState v) (o : Owned) (own : HasOwned o (parts_o
         none b had here = absurd (let c = (block_cut v s b had).0 in let p = good.shaped.placed.one_place (superblock_at v.setup.capacity b) in let most = one_at_most (nat_lt (superblock_at v.setup.capacity b) (used m)) in
             let t = total_at (times_raw (superblock_at v.setup.capacity b)) s.views s.seat v s.below s.at in let c2 = subst (λ n. 0 < times n v.cutting) (sym here) can.cutting in omega arith)
 
-  pub large_owned : (d n : ℕ) (rest : List Stake) (stakes : Vec Stake Global) → CanHoldLarge v d n → IsStaking o.stakes.items rest d n (stake.Large 0) → stakes.items ≡ set rest d (stake.Large n)
-      → HasOwned (record o { stakes = stakes }) (parts_of (shifted m (drew v found) (Some (Large d n))))
-  large_owned d n rest stakes can staking stakes_are = staked o stakes (parts_of v) (without_range d n v.raw) (without_range d n v.split) v.cutting v.classed (record { first = d; count = n } ∷ v.large) own
-      (ap length stakes_are ∙ length-set rest d (stake.Large n) ∙ staking.long)
-      (subst (λ l. (e : ℕ) → IsStake e (get_or l e stake.Nothing) (record (parts_of v) { large = record { first = d; count = n } ∷ v.large; raw = without_range d n v.raw; split = without_range d n v.split })) (sym stakes_are)
-      (large_stakes o.stakes.items rest (parts_of v) d n can.some less staking own.stakes (λ e low high. (can.each e low high).claimed))) where
+  pub large_owned : (d n : ℕ) (rest : List Ownership) (ownerships : Vec Ownership Global) → CanHoldLarge v d n → HaveOwnership o.ownerships.items rest d n (ownership.Large 0) → ownerships.items ≡ set rest d (ownership.Large n)
+      → HasOwned (record o { ownerships = ownerships }) (parts_of (shifted m (drew v found) (Some (Large d n))))
+  large_owned d n rest ownerships can owning ownerships_are = with_ownerships o ownerships (parts_of v) (without_range d n v.raw) (without_range d n v.split) v.cutting v.classed (record { first = d; count = n } ∷ v.large) own
+      (ap length ownerships_are ∙ length-set rest d (ownership.Large n) ∙ owning.long)
+      (subst (λ l. (e : ℕ) → IsOwnership e (get_or l e ownership.Nothing) (record (parts_of v) { large = record { first = d; count = n } ∷ v.large; raw = without_range d n v.raw; split = without_range d n v.split })) (sym ownerships_are)
+      (large_ownerships o.ownerships.items rest (parts_of v) d n can.some less owning own.ownerships (λ e low high. (can.each e low high).claimed))) where
         less : d < length rest
-        less = let c = can.some in let g = (can.each d (omega arith) (omega arith)).claimed in let t = taken_below v s d (omega arith) in let l = staking.long in let k = own.stakes_long in omega arith
+        less = let c = can.some in let g = (can.each d (omega arith) (omega arith)).claimed in let t = taken_below v s d (omega arith) in let l = owning.long in let k = own.ownerships_long in omega arith
 
-  pub split_owned : (block d n : ℕ) (stakes : Vec Stake Global) → MaySplit v block → d ≡ superblock_at v.setup.capacity block → n ≡ span_count d v.large → IsStaking o.stakes.items stakes.items d n stake.Unclassed
-      → HasOwned (record o { stakes = stakes }) (parts_of (shifted m (drew v found) (Some (Split block))))
-  split_owned block d n stakes may d_is n_is staking = subst (λ e. HasOwned (record o { stakes = stakes }) (record (parts_of v) { large = without_span e v.large; split = v.split ++ steps e 1 (span_count e v.large) })) d_is
-      (subst (λ c. HasOwned (record o { stakes = stakes }) (record (parts_of v) { large = without_span d v.large; split = v.split ++ steps d 1 c })) n_is
-      (staked o stakes (parts_of v) v.raw (v.split ++ steps d 1 n) v.cutting v.classed (without_span d v.large) own staking.long
-      (split_stakes o.stakes.items stakes.items (parts_of v) d n n_is some staking own.stakes))) where
+  pub split_owned : (block d n : ℕ) (ownerships : Vec Ownership Global) → MaySplit v block → d ≡ superblock_at v.setup.capacity block → n ≡ span_count d v.large → HaveOwnership o.ownerships.items ownerships.items d n ownership.Unclassed
+      → HasOwned (record o { ownerships = ownerships }) (parts_of (shifted m (drew v found) (Some (Split block))))
+  split_owned block d n ownerships may d_is n_is owning = subst (λ e. HasOwned (record o { ownerships = ownerships }) (record (parts_of v) { large = without_span e v.large; split = v.split ++ steps e 1 (span_count e v.large) })) d_is
+      (subst (λ c. HasOwned (record o { ownerships = ownerships }) (record (parts_of v) { large = without_span d v.large; split = v.split ++ steps d 1 c })) n_is
+      (with_ownerships o ownerships (parts_of v) v.raw (v.split ++ steps d 1 n) v.cutting v.classed (without_span d v.large) own owning.long
+      (split_ownerships o.ownerships.items ownerships.items (parts_of v) d n n_is some owning own.ownerships))) where
         some : 1 ≤ n
         some = let h = subst (λ e. 1 ≤ span_count e v.large) (sym d_is) may.held in omega (arith, h, n_is)

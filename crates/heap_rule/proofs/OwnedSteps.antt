@@ -23,20 +23,21 @@ use Rattle.core_model.proofs.OwnLemmas.{one_at_most}
 use Rattle.core_model.proofs.OwnerLemmas.{which_class}
 use Rattle.core_model.proofs.SoundLemmas.{batched}
 use Rattle.core_model.proofs.TotalLemmas.{total_at, eq-eqb-one, ne-eqb-none}
-use Rattle.crash_core.proofs.ChainSteps.{cut_range}
-use Rattle.crash_core.proofs.ClaimLemmas.{without_at, without_off}
-use Rattle.heap_rule.specs.declared.owned.Stake.{Stake}
-use Rattle.heap_rule.specs.declared.owned.Stake.TheVariants as stake
+use Rattle.seat_notes.proofs.BlockRanges.{cut_range}
+use Rattle.heap_model.proofs.ListLemmas.{without_at}
+use Rattle.seat_notes.proofs.CountLemmas.{without_off}
+use Rattle.heap_rule.specs.declared.owned.Ownership.{Ownership}
+use Rattle.heap_rule.specs.declared.owned.Ownership.TheVariants as ownership
 use Rattle.heap_rule.specs.declared.owned.Owned.{Owned}
 use Rattle.heap_rule.specs.declared.stacks.Stack.{Stack}
 use Rattle.heap_rule.specs.Stacks.{IsRestacked}
-use Rattle.heap_rule.specs.Owned.{listed, OwnedParts, parts_of, IsStake, IsStaking, IsMarking, AreClasses, HasOwned, times_had}
+use Rattle.heap_rule.specs.Owned.{listed, OwnedParts, parts_of, IsOwnership, HaveOwnership, IsMarking, AreClasses, HasOwned, times_had}
 use Rattle.heap_table.specs.Plays.{HasSoundState, IsEvent}
 use Rattle.heap_rule.proofs.BlockMarks.{marked_more, marked_less, cached_times, cached_classes}
 use Rattle.heap_rule.proofs.ChainLemmas.{chain_length, chain_first}
 use Rattle.heap_rule.proofs.FreshLemmas.{hit, missed}
 use Rattle.heap_rule.proofs.HeadLemmas.{before_is}
-use Rattle.heap_rule.proofs.OwnedLemmas.{fresh_stakes, with_claim, claim_stakes, raw_stakes, classed_stakes}
+use Rattle.heap_rule.proofs.OwnedLemmas.{fresh_ownerships, with_claim, claim_ownerships, raw_ownerships, classed_ownerships}
 use Rattle.heap_rule.proofs.StackLemmas.{restacked}
 use Rattle.heap_rule.proofs.ViewLemmas.{block_once}
 
@@ -44,18 +45,18 @@ use Rattle.heap_rule.proofs.ViewLemmas.{block_once}
 pub quiet : (o : Owned) (v w : View) → parts_of w ≡ parts_of v → HasOwned o (parts_of v) → HasOwned o (parts_of w)
 quiet o v w same own = subst (HasOwned o) (sym same) own
 
--- where the stakes alone are others
-pub staked : (o : Owned) (stakes : Vec Stake Global) (p : OwnedParts) (raw split cutting : List ℕ) (classed : List Claim) (large : List Span) → HasOwned o p → length stakes.items ≡ length o.stakes.items
-    → ((e : ℕ) → IsStake e (get_or stakes.items e stake.Nothing) (record p { raw = raw; split = split; cutting = cutting; classed = classed; large = large }))
-    → HasOwned (record o { stakes = stakes }) (record p { raw = raw; split = split; cutting = cutting; classed = classed; large = large })
-staked o stakes p raw split cutting classed large own long are = record {
+-- where what is owned of superblocks alone is another
+pub with_ownerships : (o : Owned) (ownerships : Vec Ownership Global) (p : OwnedParts) (raw split cutting : List ℕ) (classed : List Claim) (large : List Span) → HasOwned o p → length ownerships.items ≡ length o.ownerships.items
+    → ((e : ℕ) → IsOwnership e (get_or ownerships.items e ownership.Nothing) (record p { raw = raw; split = split; cutting = cutting; classed = classed; large = large }))
+    → HasOwned (record o { ownerships = ownerships }) (record p { raw = raw; split = split; cutting = cutting; classed = classed; large = large })
+with_ownerships o ownerships p raw split cutting classed large own long are = record {
   words_long = own.words_long;
   classes_long = own.classes_long;
-  stakes_long = long ∙ own.stakes_long;
+  ownerships_long = long ∙ own.ownerships_long;
   roots_long = own.roots_long;
   blocks = own.blocks;
   classes = record { held = own.classes.held; cached = own.classes.cached; batched = own.classes.batched };
-  stakes = are;
+  ownerships = are;
   roots_are = own.roots_are;
   batch = own.batch;
   room = own.room;
@@ -71,17 +72,17 @@ anchor_owned o v x d value same some own = by value where
   some_x : 0 < times_raw d x
   some_x = subst (λ (p : OwnedParts). 0 < times d p.raw + times d p.split + times d p.cutting) (sym same) some
 
-  once : (y : Stake) → IsStake d y (parts_of x) → times_raw d x ≤ 1
-  once stake.Nothing is = let u = is.unclassed in omega arith
-  once stake.Unclassed is = let u = is.unclassed in omega arith
-  once (stake.Classed class) is = let u = is.unclassed in omega arith
-  once (stake.Large count) is = let u = is.unclassed in omega arith
+  once : (y : Ownership) → IsOwnership d y (parts_of x) → times_raw d x ≤ 1
+  once ownership.Nothing is = let u = is.unclassed in omega arith
+  once ownership.Unclassed is = let u = is.unclassed in omega arith
+  once (ownership.Classed class) is = let u = is.unclassed in omega arith
+  once (ownership.Large count) is = let u = is.unclassed in omega arith
 
   one : times_raw d x ≡ 1
-  one = let m = once (get_or o.stakes.items d stake.Nothing) (old.stakes d) in let s = some_x in omega arith
+  one = let m = once (get_or o.ownerships.items d ownership.Nothing) (old.ownerships d) in let s = some_x in omega arith
 
   keeps : (raw split cutting : List ℕ) → ((e : ℕ) → times e raw + times e split + times e cutting ≡ times_raw e x) → HasOwned o (parts_of (record x { raw = raw; split = split; cutting = cutting }))
-  keeps raw split cutting alike = staked o o.stakes (parts_of x) raw split cutting x.classed x.large old refl (λ e. let s = old.stakes e in record {
+  keeps raw split cutting alike = with_ownerships o o.ownerships (parts_of x) raw split cutting x.classed x.large old refl (λ e. let s = old.ownerships e in record {
     unclassed = alike e ∙ s.unclassed;
     is_classed = s.is_classed;
     class = s.class;
@@ -149,30 +150,30 @@ module _ (v : View) (s : HasSoundState v) where
   ]
 
 -- superblocks are taken that were never taken
-pub fresh_owned : (o : Owned) (stakes : Vec Stake Global) (v w : View) (n found u : ℕ) → HasOwned o (parts_of v) → IsEvent (TakeFresh n) v found w → seen v.seen_used ≡ u → found ≡ u
-    → IsStaking o.stakes.items stakes.items u n stake.Unclassed → HasOwned (record o { stakes = stakes }) (parts_of w)
-fresh_owned o stakes v w n found u own event is same staking = subst (HasOwned (record o { stakes = stakes })) (sym (ap parts_of w_is))
-    (staked o stakes (parts_of v) (v.raw ++ steps (seen v.seen_used) 1 n) v.split v.cutting v.classed v.large own staking.long
-    (subst (λ y. (e : ℕ) → IsStake e (get_or stakes.items e stake.Nothing) (record (parts_of v) { raw = v.raw ++ steps y 1 n })) (sym is)
-    (fresh_stakes o.stakes.items stakes.items (parts_of v) u n staking own.stakes (λ e low high. untaken v event.before e (let f = event.found_is in omega (arith, f, same, low)))))) where
+pub fresh_owned : (o : Owned) (ownerships : Vec Ownership Global) (v w : View) (n found u : ℕ) → HasOwned o (parts_of v) → IsEvent (TakeFresh n) v found w → seen v.seen_used ≡ u → found ≡ u
+    → HaveOwnership o.ownerships.items ownerships.items u n ownership.Unclassed → HasOwned (record o { ownerships = ownerships }) (parts_of w)
+fresh_owned o ownerships v w n found u own event is same owning = subst (HasOwned (record o { ownerships = ownerships })) (sym (ap parts_of w_is))
+    (with_ownerships o ownerships (parts_of v) (v.raw ++ steps (seen v.seen_used) 1 n) v.split v.cutting v.classed v.large own owning.long
+    (subst (λ y. (e : ℕ) → IsOwnership e (get_or ownerships.items e ownership.Nothing) (record (parts_of v) { raw = v.raw ++ steps y 1 n })) (sym is)
+    (fresh_ownerships o.ownerships.items ownerships.items (parts_of v) u n owning own.ownerships (λ e low high. untaken v event.before e (let f = event.found_is in omega (arith, f, same, low)))))) where
       w_is : w ≡ taken_fresh v n
       w_is = event.after ∙ hit found (seen v.seen_used) (taken_fresh v n) _ (same ∙ sym is)
 
--- one stake of them is another
-set_long : (stakes were : Vec Stake Global) (d : ℕ) (x : Stake) → stakes.items ≡ set were.items d x → length stakes.items ≡ length were.items
-set_long stakes were d x items = ap length items ∙ length-set were.items d x
+-- where what is owned of one is another
+set_long : (ownerships were : Vec Ownership Global) (d : ℕ) (x : Ownership) → ownerships.items ≡ set were.items d x → length ownerships.items ≡ length were.items
+set_long ownerships were d x items = ap length items ∙ length-set were.items d x
 
 -- a claim from a list
 claimed_parts : (v : View) (d list : ℕ) → parts_of (claimed v d list) ≡ with_claim (parts_of v) d list
 claimed_parts v d zero = refl
 claimed_parts v d (suc class) = refl
 
-claim_owned : (o : Owned) (stakes : Vec Stake Global) (p : OwnedParts) (d list : ℕ) (x : Stake) → HasOwned o p → x ≡ listed list → stakes.items ≡ set o.stakes.items d x → d < p.capacity
-    → (times d p.raw + times d p.split + times d p.cutting ≡ 0) × (times_classed d p.classed ≡ 0) × (times_large d p.large ≡ 0) → HasOwned (record o { stakes = stakes }) (with_claim p d list)
-claim_owned o stakes p d list x own x_is items less none = by list (claim_stakes o.stakes.items p d list x x_is (let l = own.stakes_long in omega arith) own.stakes none) where
-  by : (list : ℕ) → ((e : ℕ) → IsStake e (get_or (set o.stakes.items d x) e stake.Nothing) (with_claim p d list)) → HasOwned (record o { stakes = stakes }) (with_claim p d list)
-  by zero are = staked o stakes p (d ∷ p.raw) p.split p.cutting p.classed p.large own (set_long stakes o.stakes d x items) (subst (λ l. (e : ℕ) → IsStake e (get_or l e stake.Nothing) (with_claim p d 0)) (sym items) are)
-  by (suc n) are = staked o stakes p p.raw p.split p.cutting (record { descriptor = d; class = suc n } ∷ p.classed) p.large own (set_long stakes o.stakes d x items) (subst (λ l. (e : ℕ) → IsStake e (get_or l e stake.Nothing) (with_claim p d (suc n))) (sym items) are)
+claim_owned : (o : Owned) (ownerships : Vec Ownership Global) (p : OwnedParts) (d list : ℕ) (x : Ownership) → HasOwned o p → x ≡ listed list → ownerships.items ≡ set o.ownerships.items d x → d < p.capacity
+    → (times d p.raw + times d p.split + times d p.cutting ≡ 0) × (times_classed d p.classed ≡ 0) × (times_large d p.large ≡ 0) → HasOwned (record o { ownerships = ownerships }) (with_claim p d list)
+claim_owned o ownerships p d list x own x_is items less none = by list (claim_ownerships o.ownerships.items p d list x x_is (let l = own.ownerships_long in omega arith) own.ownerships none) where
+  by : (list : ℕ) → ((e : ℕ) → IsOwnership e (get_or (set o.ownerships.items d x) e ownership.Nothing) (with_claim p d list)) → HasOwned (record o { ownerships = ownerships }) (with_claim p d list)
+  by zero are = with_ownerships o ownerships p (d ∷ p.raw) p.split p.cutting p.classed p.large own (set_long ownerships o.ownerships d x items) (subst (λ l. (e : ℕ) → IsOwnership e (get_or l e ownership.Nothing) (with_claim p d 0)) (sym items) are)
+  by (suc n) are = with_ownerships o ownerships p p.raw p.split p.cutting (record { descriptor = d; class = suc n } ∷ p.classed) p.large own (set_long ownerships o.ownerships d x items) (subst (λ l. (e : ℕ) → IsOwnership e (get_or l e ownership.Nothing) (with_claim p d (suc n))) (sym items) are)
 
 -- what is claimed lies in the image
 pub popped_below : (v w : View) (found head_word first d : ℕ) → IsEvent Pop v found w → seen_word v.seen_head ≡ head_word → first ≡ head_first head_word → d ≡ first - 1 → d < v.setup.capacity
@@ -180,10 +181,10 @@ popped_below v w found head_word first d event is first_is d_is =
     let knows = (event.before.sound.good.knows event.before.seat v event.before.below event.before.at).seen_head event.may.ready.is_seen in
     let some = (knows.linked event.may.ready.link).0 in let s = knows.small in let e = ap head_first is in omega (arith, some)
 
-pub popped_owned : (o : Owned) (stakes : Vec Stake Global) (v w : View) (found head_word of first d : ℕ) (x : Stake) → HasOwned o (parts_of v) → IsEvent Pop v found w → seen_word v.seen_head ≡ head_word → seen_of v.seen_head ≡ of → found ≡ head_word
-    → first ≡ head_first head_word → d ≡ first - 1 → x ≡ listed of → stakes.items ≡ set o.stakes.items d x → HasOwned (record o { stakes = stakes }) (parts_of w)
-popped_owned o stakes v w found head_word of first d x own event is of_is same first_is d_is x_is items = subst (HasOwned (record o { stakes = stakes })) (sym (ap parts_of w_is ∙ claimed_parts _ d (seen_of v.seen_head)))
-    (claim_owned o stakes (parts_of v) d (seen_of v.seen_head) x own (x_is ∙ ap listed (sym of_is)) items less (in_list v event.before (seen_of v.seen_head) d knows.is_list there)) where
+pub popped_owned : (o : Owned) (ownerships : Vec Ownership Global) (v w : View) (found head_word of first d : ℕ) (x : Ownership) → HasOwned o (parts_of v) → IsEvent Pop v found w → seen_word v.seen_head ≡ head_word → seen_of v.seen_head ≡ of → found ≡ head_word
+    → first ≡ head_first head_word → d ≡ first - 1 → x ≡ listed of → ownerships.items ≡ set o.ownerships.items d x → HasOwned (record o { ownerships = ownerships }) (parts_of w)
+popped_owned o ownerships v w found head_word of first d x own event is of_is same first_is d_is x_is items = subst (HasOwned (record o { ownerships = ownerships })) (sym (ap parts_of w_is ∙ claimed_parts _ d (seen_of v.seen_head)))
+    (claim_owned o ownerships (parts_of v) d (seen_of v.seen_head) x own (x_is ∙ ap listed (sym of_is)) items less (in_list v event.before (seen_of v.seen_head) d knows.is_list there)) where
       m0 : Memory
       m0 = memory_of v.setup.capacity event.before.words
 
@@ -206,9 +207,9 @@ popped_owned o stakes v w found head_word of first d x own event is of_is same f
       less = let s = knows.small in let e = before_is (head_first (seen_word v.seen_head)) in let b = d_before in omega (arith, some)
 
 -- a claim goes to a list
-pub pushed_owned : (o : Owned) (stakes : Vec Stake Global) (v w : View) (d found head_word : ℕ) → HasOwned o (parts_of v) → IsEvent (Push d) v found w → seen_word v.seen_head ≡ head_word → found ≡ head_word
-    → stakes.items ≡ set o.stakes.items d stake.Nothing → HasOwned (record o { stakes = stakes }) (parts_of w)
-pushed_owned o stakes v w d found head_word own event is same items = subst (HasOwned (record o { stakes = stakes })) (sym (ap parts_of w_is)) (by_claim (nat_lt 0 (times d v.raw + times d v.split)) refl) where
+pub pushed_owned : (o : Owned) (ownerships : Vec Ownership Global) (v w : View) (d found head_word : ℕ) → HasOwned o (parts_of v) → IsEvent (Push d) v found w → seen_word v.seen_head ≡ head_word → found ≡ head_word
+    → ownerships.items ≡ set o.ownerships.items d ownership.Nothing → HasOwned (record o { ownerships = ownerships }) (parts_of w)
+pushed_owned o ownerships v w d found head_word own event is same items = subst (HasOwned (record o { ownerships = ownerships })) (sym (ap parts_of w_is)) (by_claim (nat_lt 0 (times d v.raw + times d v.split)) refl) where
   w_is : w ≡ pushed v d
   w_is = event.after ∙ hit found (seen_word v.seen_head) (pushed v d) _ (same ∙ sym is)
 
@@ -216,8 +217,8 @@ pushed_owned o stakes v w d found head_word own event is same items = subst (Has
   some list (as_free l zero_l claimed_d empty) = let c = claimed_d.claimed in omega arith
   some list (of_its_class l apart classed class_is state) = omega arith
 
-  less : d < length o.stakes.items
-  less = let t = taken_below v event.before d (some (seen_of v.seen_head) event.may.ready.listed) in let l = own.stakes_long in omega arith
+  less : d < length o.ownerships.items
+  less = let t = taken_below v event.before d (some (seen_of v.seen_head) event.may.ready.listed) in let l = own.ownerships_long in omega arith
 
   not_raw : nat_lt 0 (times d v.raw + times d v.split) ≡ false → times d v.raw + times d v.split ≡ 0
   not_raw e = elim (cases_lt 0 (times d v.raw + times d v.split)) [
@@ -229,13 +230,13 @@ pushed_owned o stakes v w d found head_word own event is same items = subst (Has
   classed_some list (as_free l zero_l claimed_d empty) none = let c = claimed_d.claimed in let n = claimed_d.not_cutting in omega arith
   classed_some list (of_its_class l apart classed class_is state) none = classed
 
-  by_claim : (raw : Bool) → nat_lt 0 (times d v.raw + times d v.split) ≡ raw → HasOwned (record o { stakes = stakes }) (parts_of (cond raw (pushed_raw v d) (pushed_classed v d)))
-  by_claim true e = staked o stakes (parts_of v) (without d v.raw) (without d v.split) v.cutting v.classed v.large own (set_long stakes o.stakes d stake.Nothing items)
-      (subst (λ l. (n : ℕ) → IsStake n (get_or l n stake.Nothing) (record (parts_of v) { raw = without d v.raw; split = without d v.split })) (sym items)
-      (raw_stakes o.stakes.items (parts_of v) d less (ltb-true 0 (times d v.raw + times d v.split) e) own.stakes))
-  by_claim false e = staked o stakes (parts_of v) v.raw v.split v.cutting (without_claim d v.classed) v.large own (set_long stakes o.stakes d stake.Nothing items)
-      (subst (λ l. (n : ℕ) → IsStake n (get_or l n stake.Nothing) (record (parts_of v) { classed = without_claim d v.classed })) (sym items)
-      (classed_stakes o.stakes.items (parts_of v) d less (classed_some (seen_of v.seen_head) event.may.ready.listed (not_raw e)) own.stakes))
+  by_claim : (raw : Bool) → nat_lt 0 (times d v.raw + times d v.split) ≡ raw → HasOwned (record o { ownerships = ownerships }) (parts_of (cond raw (pushed_raw v d) (pushed_classed v d)))
+  by_claim true e = with_ownerships o ownerships (parts_of v) (without d v.raw) (without d v.split) v.cutting v.classed v.large own (set_long ownerships o.ownerships d ownership.Nothing items)
+      (subst (λ l. (n : ℕ) → IsOwnership n (get_or l n ownership.Nothing) (record (parts_of v) { raw = without d v.raw; split = without d v.split })) (sym items)
+      (raw_ownerships o.ownerships.items (parts_of v) d less (ltb-true 0 (times d v.raw + times d v.split) e) own.ownerships))
+  by_claim false e = with_ownerships o ownerships (parts_of v) v.raw v.split v.cutting (without_claim d v.classed) v.large own (set_long ownerships o.ownerships d ownership.Nothing items)
+      (subst (λ l. (n : ℕ) → IsOwnership n (get_or l n ownership.Nothing) (record (parts_of v) { classed = without_claim d v.classed })) (sym items)
+      (classed_ownerships o.ownerships.items (parts_of v) d less (classed_some (seen_of v.seen_head) event.may.ready.listed (not_raw e)) own.ownerships))
 
 -- the cache of the claim's class, once all free blocks were taken: the chain of the superblock
 module _ (v w : View) (d found : ℕ) (event : IsEvent (TakeAll d) v found w) (same : found ≡ seen_word v.seen_anchor) where
@@ -306,19 +307,19 @@ module _ (v w : View) (d found : ℕ) (event : IsEvent (TakeAll d) v found w) (s
     once : (b : ℕ) → IsCutBlock v.setup.capacity class d b → times b taken_blocks ≤ 1
     once b is = subst (λ l. times b l ≤ 1) (sym blocks_are) (let o = good0.shaped.chained.owned d b cut_d (subst (λ n. IsCutBlock v.setup.capacity n d b) (sym claim.1) is) in omega arith)
 
-  pub taken_owned : (o : Owned) (blocks : List Bool) (classes : Vec ℕ Global) (stakes : Vec Stake Global) (stacks : Vec Stack Global) → HasOwned o (parts_of v) → IsMarking o.blocks blocks taken_blocks true
-      → classes.items ≡ set o.classes.items d class → stakes.items ≡ set o.stakes.items d stake.Nothing → IsRestacked o.stacks.items stacks.items class (λ cache. taken_blocks)
-      → HasOwned (record o { blocks = blocks; classes = classes; stakes = stakes; stacks = stacks }) (parts_of w)
-  taken_owned o blocks classes stakes stacks own marking classes_are stakes_are r = subst (HasOwned (record o { blocks = blocks; classes = classes; stakes = stakes; stacks = stacks })) (sym (ap parts_of took)) (record {
+  pub taken_owned : (o : Owned) (blocks : List Bool) (classes : Vec ℕ Global) (ownerships : Vec Ownership Global) (stacks : Vec Stack Global) → HasOwned o (parts_of v) → IsMarking o.blocks blocks taken_blocks true
+      → classes.items ≡ set o.classes.items d class → ownerships.items ≡ set o.ownerships.items d ownership.Nothing → IsRestacked o.stacks.items stacks.items class (λ cache. taken_blocks)
+      → HasOwned (record o { blocks = blocks; classes = classes; ownerships = ownerships; stacks = stacks }) (parts_of w)
+  taken_owned o blocks classes ownerships stacks own marking classes_are ownerships_are r = subst (HasOwned (record o { blocks = blocks; classes = classes; ownerships = ownerships; stacks = stacks })) (sym (ap parts_of took)) (record {
     words_long = marking.long ∙ own.words_long;
     classes_long = ap length classes_are ∙ length-set o.classes.items d class ∙ own.classes_long;
-    stakes_long = ap length stakes_are ∙ length-set o.stakes.items d stake.Nothing ∙ own.stakes_long;
+    ownerships_long = ap length ownerships_are ∙ length-set o.ownerships.items d ownership.Nothing ∙ own.ownerships_long;
     roots_long = own.roots_long;
     blocks = marked_more o.blocks blocks (λ b. times_had b (parts_of v)) _ taken_blocks marking (cached_times (parts_of v) class d taken_blocks less event.may.ready.uncached) own.blocks;
     classes = (let a = cached_classes (parts_of v) class d taken_blocks less event.may.ready.uncached o.classes.items (let l = own.classes_long in let t = take_below in omega arith) taken_of same_class own.classes in
         subst (λ l. AreClasses l (record (parts_of v) { caches = set v.caches class taken_blocks; classed = without_claim d v.classed })) (sym classes_are) (record { held = a.held; cached = a.cached; batched = a.batched }));
-    stakes = (let a = classed_stakes o.stakes.items (parts_of v) d (let l = own.stakes_long in let t = take_below in omega arith) event.may.ready.claimed own.stakes in
-        subst (λ l. (e : ℕ) → IsStake e (get_or l e stake.Nothing) (record (parts_of v) { caches = set v.caches class taken_blocks; classed = without_claim d v.classed })) (sym stakes_are)
+    ownerships = (let a = classed_ownerships o.ownerships.items (parts_of v) d (let l = own.ownerships_long in let t = take_below in omega arith) event.may.ready.claimed own.ownerships in
+        subst (λ l. (e : ℕ) → IsOwnership e (get_or l e ownership.Nothing) (record (parts_of v) { caches = set v.caches class taken_blocks; classed = without_claim d v.classed })) (sym ownerships_are)
         (λ e. let b = a e in record { unclassed = b.unclassed; is_classed = b.is_classed; class = b.class; is_large = b.is_large; count = b.count }));
     roots_are = own.roots_are;
     batch = own.batch;
@@ -347,11 +348,11 @@ module _ (v w : View) (d found : ℕ) (event : IsEvent (Give d) v found w) (same
   base_owned o blocks batch own marking none room = record {
     words_long = marking.long ∙ own.words_long;
     classes_long = own.classes_long;
-    stakes_long = own.stakes_long;
+    ownerships_long = own.ownerships_long;
     roots_long = own.roots_long;
     blocks = marked_less o.blocks blocks (λ b. times_had b (parts_of v)) (λ b. times_had b (parts_of base)) v.batch.blocks marking (λ b. omega arith) (block_once v event.before) own.blocks;
     classes = record { held = own.classes.held; cached = own.classes.cached; batched = λ b some. absurd (omega arith) };
-    stakes = λ e. let b = own.stakes e in record { unclassed = b.unclassed; is_classed = b.is_classed; class = b.class; is_large = b.is_large; count = b.count };
+    ownerships = λ e. let b = own.ownerships e in record { unclassed = b.unclassed; is_classed = b.is_classed; class = b.class; is_large = b.is_large; count = b.count };
     roots_are = own.roots_are;
     batch = none;
     room = (let r = own.room in omega arith);
@@ -365,11 +366,11 @@ module _ (v w : View) (d found : ℕ) (event : IsEvent (Give d) v found w) (same
       (base_owned o blocks batch own marking none room)
 
   -- one that was full comes into the hand
-  pub give_full : (o : Owned) (blocks : List Bool) (batch : Vec ℕ Global) (stakes : Vec Stake Global) (x : Stake) → HasOwned o (parts_of v) → IsMarking o.blocks blocks v.batch.blocks false → batch.items ≡ [] → vec_capacity batch ≡ vec_capacity o.batch
-      → found ≡ full_anchor → x ≡ listed v.batch.class → stakes.items ≡ set o.stakes.items d x → HasOwned (record o { blocks = blocks; batch = batch; stakes = stakes }) (parts_of w)
-  give_full o blocks batch stakes x own marking none room full x_is items = subst (HasOwned (record o { blocks = blocks; batch = batch; stakes = stakes }))
+  pub give_full : (o : Owned) (blocks : List Bool) (batch : Vec ℕ Global) (ownerships : Vec Ownership Global) (x : Ownership) → HasOwned o (parts_of v) → IsMarking o.blocks blocks v.batch.blocks false → batch.items ≡ [] → vec_capacity batch ≡ vec_capacity o.batch
+      → found ≡ full_anchor → x ≡ listed v.batch.class → ownerships.items ≡ set o.ownerships.items d x → HasOwned (record o { blocks = blocks; batch = batch; ownerships = ownerships }) (parts_of w)
+  give_full o blocks batch ownerships x own marking none room full x_is items = subst (HasOwned (record o { blocks = blocks; batch = batch; ownerships = ownerships }))
       (sym (ap parts_of (gave ∙ ap trimmed (hit (seen_word v.seen_anchor) full_anchor (claimed base d v.batch.class) base (sym same ∙ full))) ∙ claimed_parts base d v.batch.class))
-      (claim_owned (record o { blocks = blocks; batch = batch }) stakes (parts_of base) d v.batch.class x (base_owned o blocks batch own marking none room) x_is items
+      (claim_owned (record o { blocks = blocks; batch = batch }) ownerships (parts_of base) d v.batch.class x (base_owned o blocks batch own marking none room) x_is items
       (batched v.setup m1 event.before.views event.before.seat v event.before.below event.before.at good1 d event.may.ready.batch event.may.ready.some) alone) where
         cut_d1 : 0 < times_cut good1.shape (tally_of event.before.views) d
         cut_d1 = gives.cut_d v.setup m1 event.before.views event.before.seat v event.before.below event.before.at good1 event.may.ticket d event.may.ready (sym event.found_is ∙ same)

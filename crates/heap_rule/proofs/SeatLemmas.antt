@@ -5,9 +5,9 @@ use Rattle.core_model.specs.declared.event.Event.TheVariants.{Load, LookLink, Lo
 use Rattle.atomic_table.specs.Seated.{TableId}
 use Rattle.atomic_table.specs.Table.{Me}
 use Rattle.core_model.specs.View.{Setup, View}
-use Rattle.crash_core.specs.declared.owners.SeatNotes.{SeatNotes}
+use Rattle.seat_notes.specs.declared.notes.SeatNotes.{SeatNotes}
 use Rattle.core_model.specs.Effects.{used_up}
-use Rattle.crash_core.specs.Standing.{HasNotes}
+use Rattle.seat_notes.specs.Notes.{HasNotes}
 use Rattle.heap_rule.specs.declared.owned.Owned.{Owned}
 use Rattle.heap_table.specs.Plays.{HasSoundState, IsEvent}
 use Rattle.heap_table.specs.AtTable.{SharedView, IsAt}

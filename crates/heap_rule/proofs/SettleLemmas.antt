@@ -13,7 +13,7 @@ use Rattle.core_model.proofs.SoundLemmas.{sound_step}
 use Rattle.core_model.specs.Guards.{IsOwn, MayStep}
 use Rattle.core_model.proofs.PlaceLemmas.{pick, cell_there, index_at, index_within}
 use Rattle.core_model.proofs.QuietLemmas.{own_same}
-use Rattle.crash_core.specs.declared.owners.SeatNotes.{SeatNotes}
+use Rattle.seat_notes.specs.declared.notes.SeatNotes.{SeatNotes}
 use Rattle.heap_table.specs.Plays.{HasSoundState, IsEvent}
 use Rattle.heap_table.specs.Reached.{learned}
 use Rattle.atomic_table.specs.Seated.{TableId}

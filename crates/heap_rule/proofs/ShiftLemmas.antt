@@ -15,15 +15,15 @@ use Rattle.core_model.proofs.CountLemmas.{length_steps}
 use Rattle.core_model.proofs.BlockLemmas.{first_there}
 use Rattle.core_model.proofs.OwnerLemmas.{in_lists_total}
 use Rattle.core_model.proofs.PlaceLemmas.{index_within}
-use Rattle.crash_core.specs.declared.owners.Cache.{Cache}
-use Rattle.crash_core.specs.declared.owners.SeatNotes.{SeatNotes}
-use Rattle.crash_core.specs.declared.owners.Seen.{Seen}
-use Rattle.crash_core.specs.Standing.{HasCaches, snapshot}
-use Rattle.crash_core.proofs.CacheLemmas.{cache_set}
-use Rattle.crash_core.proofs.LiftSteps.{first_append, last_append, length_append}
-use Rattle.crash_core.proofs.SplitSteps.{no_span}
-use Rattle.crash_core.proofs.MoveSteps.{no_cache, rest_length, rest_first}
-use Rattle.crash_core.proofs.WordLemmas.{entry_is, read_is}
+use Rattle.seat_notes.specs.declared.notes.Cache.{Cache}
+use Rattle.seat_notes.specs.declared.notes.SeatNotes.{SeatNotes}
+use Rattle.seat_notes.specs.declared.notes.Seen.{Seen}
+use Rattle.seat_notes.specs.Notes.{HasCaches, snapshot}
+use Rattle.seat_notes.proofs.CacheLemmas.{cache_set}
+use Rattle.seat_notes.proofs.EndLemmas.{first_append, last_append, length_append, rest_length, rest_first}
+use Rattle.seat_notes.proofs.CountLemmas.{no_span}
+use Rattle.seat_notes.proofs.NewSeat.{no_cache}
+use Rattle.seat_notes.proofs.WordLemmas.{entry_is, read_is}
 use Rattle.heap_table.specs.Plays.{HasSoundState}
 use Rattle.heap_rule.specs.Seated.{IsKeptOf, FitsShift}
 use Rattle.heap_rule.specs.Shown.{CanFree, CanCut}

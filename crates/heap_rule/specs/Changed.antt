@@ -6,12 +6,12 @@ use Rattle.core_model.specs.declared.event.Shift.{Shift}
 use Rattle.core_model.specs.Memory.{memory_of}
 use Rattle.core_model.specs.View.{View}
 use Rattle.core_model.specs.Effects.{class_blocks, rest_of, shifted, drew}
-use Rattle.heap_rule.specs.declared.owned.Stake.{Stake}
-use Rattle.heap_rule.specs.declared.owned.Stake.TheVariants as stake
+use Rattle.heap_rule.specs.declared.owned.Ownership.{Ownership}
+use Rattle.heap_rule.specs.declared.owned.Ownership.TheVariants as ownership
 use Rattle.heap_rule.specs.declared.owned.Change.{Change}
 use Rattle.heap_rule.specs.declared.owned.Change.TheVariants as change
 use Rattle.heap_rule.specs.declared.owned.Owned.{Owned}
-use Rattle.heap_rule.specs.Owned.{IsMarking, IsStaking, HasOwned, parts_of}
+use Rattle.heap_rule.specs.Owned.{IsMarking, HaveOwnership, HasOwned, parts_of}
 use Rattle.heap_table.specs.Plays.{HasSoundState}
 use Rattle.heap_rule.specs.Stacks.{HasStack, IsRestacked}
 
@@ -19,7 +19,7 @@ use Rattle.heap_rule.specs.Stacks.{HasStack, IsRestacked}
 pub record CanCutIn (o : Owned) (capacity d class : ℕ) : Type 0 where
   pub below : d < capacity
   pub classes : d < length o.classes.items
-  pub stakes : d < length o.stakes.items
+  pub ownerships : d < length o.ownerships.items
   pub blocks : (b : ℕ) → 0 < times b (class_blocks capacity class d) → b < length o.blocks
   pub stack : HasStack o.stacks.items class
   pub fits : length o.blocks < 2147483648
@@ -30,8 +30,8 @@ CanChange (change.Allocated class) capacity o = class < length o.stacks.items
 CanChange (change.Freed class block) capacity o = HasStack o.stacks.items class
 CanChange (change.Lifted class block) capacity o = (class < length o.stacks.items) × (length o.batch.items < vec_capacity o.batch)
 CanChange (change.Cut d class) capacity o = CanCutIn o capacity d class.number
-CanChange (change.Large d n) capacity o = (1 ≤ n) × (d + n ≤ length o.stakes.items)
-CanChange (change.Split d n) capacity o = d + n ≤ length o.stakes.items
+CanChange (change.Large d n) capacity o = (1 ≤ n) × (d + n ≤ length o.ownerships.items)
+CanChange (change.Split d n) capacity o = d + n ≤ length o.ownerships.items
 
 -- one cache is another
 pub record IsRecached (o o' : Owned) (class : ℕ) (change : List ℕ → List ℕ) : Type 0 where
@@ -45,21 +45,21 @@ pub record IsLifted (o o' : Owned) (class block : ℕ) : Type 0 where
   pub stacks : IsRestacked o.stacks.items o'.stacks.items class rest_of
 
 pub record IsCutIn (o o' : Owned) (capacity d class : ℕ) : Type 0 where
-  pub others : o' ≡ record o { blocks = o'.blocks; classes = o'.classes; stakes = o'.stakes; stacks = o'.stacks }
+  pub others : o' ≡ record o { blocks = o'.blocks; classes = o'.classes; ownerships = o'.ownerships; stacks = o'.stacks }
   pub blocks : IsMarking o.blocks o'.blocks (class_blocks capacity class d) true
   pub classes : o'.classes.items ≡ set o.classes.items d class
-  pub stakes : o'.stakes.items ≡ set o.stakes.items d stake.Nothing
+  pub ownerships : o'.ownerships.items ≡ set o.ownerships.items d ownership.Nothing
   pub stacks : IsRestacked o.stacks.items o'.stacks.items class (λ cache. class_blocks capacity class d)
 
 pub record IsLargeIn (o o' : Owned) (d n : ℕ) : Type 0 where
-  pub others : o' ≡ record o { stakes = o'.stakes }
-  pub rest : List Stake
-  pub staking : IsStaking o.stakes.items rest d n (stake.Large 0)
-  pub first : o'.stakes.items ≡ set rest d (stake.Large n)
+  pub others : o' ≡ record o { ownerships = o'.ownerships }
+  pub rest : List Ownership
+  pub owning : HaveOwnership o.ownerships.items rest d n (ownership.Large 0)
+  pub first : o'.ownerships.items ≡ set rest d (ownership.Large n)
 
 pub record IsSplitIn (o o' : Owned) (d n : ℕ) : Type 0 where
-  pub others : o' ≡ record o { stakes = o'.stakes }
-  pub staking : IsStaking o.stakes.items o'.stakes.items d n stake.Unclassed
+  pub others : o' ≡ record o { ownerships = o'.ownerships }
+  pub owning : HaveOwnership o.ownerships.items o'.ownerships.items d n ownership.Unclassed
 
 abbrev pub IsChanged : Change → ℕ → Owned → Owned → Type 0
 IsChanged change.Nothing capacity o o' = o' ≡ o

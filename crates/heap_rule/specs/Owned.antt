@@ -8,39 +8,39 @@ use Rattle.core_model.specs.View.{View, Claim, Span, of_class, times_classed, ti
 use Rattle.core_model.specs.Effects.{claim_class, span_count}
 use Rattle.core_model.specs.Opening.{setup_of, opened_view}
 use Rattle.super_block.specs.Contents.{Contents}
-use Rattle.crash_core.specs.OwnerLists.{OwnerLists}
-use Rattle.crash_core.specs.declared.owners.Share.{Share}
-use Rattle.crash_core.specs.declared.owners.Share.TheVariants as share
-use Rattle.heap_rule.specs.declared.owned.Stake.{Stake}
-use Rattle.heap_rule.specs.declared.owned.Stake.TheVariants as stake
+use Rattle.seat_notes.specs.OwnerLists.{OwnerLists}
+use Rattle.seat_notes.specs.declared.superblocks.SuperblockUsage.{SuperblockUsage}
+use Rattle.seat_notes.specs.declared.superblocks.SuperblockUsage.TheVariants as usage
+use Rattle.heap_rule.specs.declared.owned.Ownership.{Ownership}
+use Rattle.heap_rule.specs.declared.owned.Ownership.TheVariants as ownership
 use Rattle.heap_rule.specs.declared.owned.Owned.{Owned}
 use Rattle.heap_rule.specs.Stacks.{AreStacks}
 
--- how often a superblock with this stake is claimed without a class, and with one, and which; how often a large block takes it, and how many superblocks the one that begins there takes
-abbrev pub unclassed_in : Stake → ℕ
-unclassed_in stake.Unclassed = 1
+-- how often a superblock of which this is owned is claimed without a class, and with one, and which; how often a large block takes it, and how many superblocks the one that begins there takes
+abbrev pub unclassed_in : Ownership → ℕ
+unclassed_in ownership.Unclassed = 1
 unclassed_in x = 0
 
-abbrev pub classed_in : Stake → ℕ
-classed_in (stake.Classed class) = 1
+abbrev pub classed_in : Ownership → ℕ
+classed_in (ownership.Classed class) = 1
 classed_in x = 0
 
-abbrev pub class_in : Stake → ℕ
-class_in (stake.Classed class) = class
+abbrev pub class_in : Ownership → ℕ
+class_in (ownership.Classed class) = class
 class_in x = 0
 
-abbrev pub large_in : Stake → ℕ
-large_in (stake.Large count) = 1
+abbrev pub large_in : Ownership → ℕ
+large_in (ownership.Large count) = 1
 large_in x = 0
 
-abbrev pub count_in : Stake → ℕ
-count_in (stake.Large count) = count
+abbrev pub count_in : Ownership → ℕ
+count_in (ownership.Large count) = count
 count_in x = 0
 
--- the stake in a superblock that comes from a list
-abbrev pub listed : ℕ → Stake
-listed zero = stake.Unclassed
-listed (suc n) = stake.Classed (suc n)
+-- what is owned of a superblock that comes from a list
+abbrev pub listed : ℕ → Ownership
+listed zero = ownership.Unclassed
+listed (suc n) = ownership.Classed (suc n)
 
 -- of a view, what tells which words are its own
 pub record OwnedParts : Type 0 where
@@ -75,8 +75,8 @@ parts_of v = record {
 abbrev pub times_had : ℕ → OwnedParts → ℕ
 times_had b p = total (times b) p.small + total (times b) p.caches + times b p.batch
 
--- the stake in superblock d is as it is said
-pub record IsStake (d : ℕ) (x : Stake) (p : OwnedParts) : Type 0 where
+-- of superblock d it owns what is said
+pub record IsOwnership (d : ℕ) (x : Ownership) (p : OwnedParts) : Type 0 where
   pub unclassed : times d p.raw + times d p.split + times d p.cutting ≡ unclassed_in x
   pub is_classed : times_classed d p.classed ≡ classed_in x
   pub class : claim_class d p.classed ≡ class_in x
@@ -100,11 +100,11 @@ most_blocks = superblock_words / 2
 pub record HasOwned (o : Owned) (p : OwnedParts) : Type 0 where
   pub words_long : length o.blocks ≡ image_words p.capacity
   pub classes_long : length o.classes.items ≡ p.capacity
-  pub stakes_long : length o.stakes.items ≡ p.capacity
+  pub ownerships_long : length o.ownerships.items ≡ p.capacity
   pub roots_long : length o.roots.items ≡ roots
   pub blocks : AreMarked o.blocks (λ b. times_had b p)
   pub classes : AreClasses o.classes.items p
-  pub stakes : (d : ℕ) → IsStake d (get_or o.stakes.items d stake.Nothing) p
+  pub ownerships : (d : ℕ) → IsOwnership d (get_or o.ownerships.items d ownership.Nothing) p
   pub roots_are : AreMarked o.roots.items (λ i. times i p.roots)
   pub batch : o.batch.items ≡ p.batch
   pub room : most_blocks ≤ vec_capacity o.batch
@@ -116,20 +116,20 @@ pub record IsMarking (old new : List Bool) (numbers : List ℕ) (mark : Bool) : 
   pub inside : (n : ℕ) → 0 < times n numbers → get_or new n false ≡ mark
   pub outside : (n : ℕ) → times n numbers ≡ 0 → get_or new n false ≡ get_or old n false
 
--- n superblocks from one on have this stake, and all others keep theirs
-pub record IsStaking (old new : List Stake) (from n : ℕ) (x : Stake) : Type 0 where
+-- of n superblocks from one on this is owned, and of all others what was
+pub record HaveOwnership (old new : List Ownership) (from n : ℕ) (x : Ownership) : Type 0 where
   pub long : length new ≡ length old
-  pub inside : (d : ℕ) → from ≤ d → d < from + n → get_or new d stake.Nothing ≡ x
-  pub outside : (d : ℕ) → (from ≤ d → d < from + n → ⊥) → get_or new d stake.Nothing ≡ get_or old d stake.Nothing
+  pub inside : (d : ℕ) → from ≤ d → d < from + n → get_or new d ownership.Nothing ≡ x
+  pub outside : (d : ℕ) → (from ≤ d → d < from + n → ⊥) → get_or new d ownership.Nothing ≡ get_or old d ownership.Nothing
 
--- the stake that a share is, of a heap at rest
-abbrev pub stake_for : Share → Stake
-stake_for share.Nothing = stake.Nothing
-stake_for share.Raw = stake.Unclassed
-stake_for share.Split = stake.Unclassed
-stake_for share.Cutting = stake.Unclassed
-stake_for (share.Classed class) = stake.Classed class
-stake_for (share.Large count) = stake.Large count
+-- what a seat owns of a superblock of a heap at rest
+abbrev pub ownership_for : SuperblockUsage → Ownership
+ownership_for usage.Nothing = ownership.Nothing
+ownership_for usage.Raw = ownership.Unclassed
+ownership_for usage.Split = ownership.Unclassed
+ownership_for usage.Cutting = ownership.Unclassed
+ownership_for (usage.Classed class) = ownership.Classed class
+ownership_for (usage.Large count) = ownership.Large count
 
 -- the parts of a seat as a heap at rest is opened, whatever the budget
 abbrev pub opened_parts : Contents → OwnerLists → ℕ → OwnedParts

@@ -25,15 +25,15 @@ ghost use Rattle.heap_table.specs.AtTable.{IsAt};
 ghost use Rattle.heap_rule.specs.Seated.{KeepsStores, IsSeatOf, Tells};
 ghost use Rattle.heap_rule.specs.Shown.{Can};
 
-use crate::owned::{Stake, mark_all};
+use crate::owned::{Ownership, mark_all};
 use crate::seat::Seat;
 use crate::stacks::Stack;
 use anchor_word::{anchor_count, unpack};
 use core_model::Event;
-use crash_core::{
+use heap_table::{Shared, TableSeat, exchange, read};
+use seat_notes::{
     Cache, Group, NO_BATCH, SeatNotes, anchor_after_give, anchor_after_take_all, first_free,
 };
-use heap_table::{Shared, TableSeat, exchange, read};
 use size_table::{SizeClass, blocks_of};
 use super_block::{Geometry, block_words};
 
@@ -91,7 +91,7 @@ impl Seat {
         load_cache(shared, &mut self.bare, stack, class, first, count);
         mark_all(&mut self.owned.blocks, stack.cached(), true);
         self.owned.classes[d as usize] = class.number as u64;
-        self.owned.stakes[d as usize] = Stake::Nothing;
+        self.owned.ownerships[d as usize] = Ownership::Nothing;
         Ok(())
     }
     /// Gives the batch back to its superblock, if the anchor is as it was seen; else tells it.
@@ -133,7 +133,7 @@ impl Seat {
         if anchor.word != anchor_after_take_all() {
             return Ok(());
         }
-        self.owned.stakes[d as usize] = Stake::listed(class.number as u64);
+        self.owned.ownerships[d as usize] = Ownership::listed(class.number as u64);
         Ok(())
     }
 }

@@ -15,11 +15,11 @@ ghost use Rattle.heap_table.specs.Plays.{IsEvent};
 ghost use Rattle.heap_rule.specs.Seated.{KeepsStores, IsSeatOf, Tells};
 ghost use Rattle.heap_rule.specs.Shown.{Can};
 
-use crate::owned::{Stake, stake_range};
+use crate::owned::{Ownership, own_range};
 use crate::seat::Seat;
 use core_model::Event;
-use crash_core::{SeatNotes, Seen};
 use heap_table::{Shared, exchange, raise};
+use seat_notes::{SeatNotes, Seen};
 use super_block::USED_WORD;
 
 impl Seat {
@@ -51,7 +51,7 @@ impl Seat {
             seen_anchor: Seen::cleared(self.notes.seen_anchor, used, n),
             ..self.notes
         };
-        stake_range(&mut self.owned.stakes, used, n, Stake::Unclassed);
+        own_range(&mut self.owned.ownerships, used, n, Ownership::Unclassed);
         Ok(())
     }
 

@@ -17,11 +17,11 @@ ghost use Rattle.heap_table.specs.Plays.{IsEvent};
 ghost use Rattle.heap_rule.specs.Seated.{KeepsStores, IsSeatOf, Tells};
 ghost use Rattle.heap_rule.specs.Shown.{Can};
 
-use crate::owned::Stake;
+use crate::owned::Ownership;
 use crate::seat::Seat;
 use core_model::Event;
-use crash_core::{SeatNotes, Seen, head_after_pop, head_after_push, head_first};
 use heap_table::{Shared, exchange};
+use seat_notes::{SeatNotes, Seen, head_after_pop, head_after_push, head_first};
 use super_block::HEAD_WORD;
 
 impl Seat {
@@ -60,7 +60,7 @@ impl Seat {
             seen_anchor: Seen::cleared(self.notes.seen_anchor, d, 1),
             ..self.notes
         };
-        self.owned.stakes[d as usize] = Stake::listed(head.of);
+        self.owned.ownerships[d as usize] = Ownership::listed(head.of);
         Ok(())
     }
 
@@ -95,7 +95,7 @@ impl Seat {
             seen_anchor: Seen::cleared(self.notes.seen_anchor, d, 1),
             ..self.notes
         };
-        self.owned.stakes[d as usize] = Stake::Nothing;
+        self.owned.ownerships[d as usize] = Ownership::Nothing;
         Ok(())
     }
 }

@@ -7,8 +7,8 @@ ghost use Rattle.heap_rule.specs.Shown.{Can};
 
 use crate::seat::Seat;
 use core_model::Event;
-use crash_core::{SeatNotes, Seen, head_first};
 use heap_table::{Shared, look};
+use seat_notes::{SeatNotes, Seen, head_first};
 use super_block::{HEAD_WORD, USED_WORD};
 
 impl Seat {

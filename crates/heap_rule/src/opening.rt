@@ -11,8 +11,8 @@ ghost use Rattle.heap_rule.specs.Seats.{AreOpenedSeats, dealt_seats};
 
 use crate::owned_opening::{Room, opened_rooms};
 use crate::seat::Seat;
-use crash_core::{NEW_SEAT, Owners};
 use heap_table::{Shared, TableSeat, open_table, split_first};
+use seat_notes::{NEW_SEAT, Owners};
 use std::alloc::{AllocError, Global};
 use std::collections::VecDeque;
 use super_block::{Geometry, Ready};

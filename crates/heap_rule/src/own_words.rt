@@ -9,8 +9,8 @@ ghost use Rattle.core_model.specs.Held.{IsHeld};
 ghost use Rattle.heap_rule.specs.Seated.{IsSeatOf};
 
 use crate::seat::Seat;
-use crash_core::{Part, part_at};
 use heap_table::Shared;
+use seat_notes::{Part, part_at};
 use size_table::SizeClass;
 use super_block::{Block, LAST_CLASS, SUPERBLOCK_WORDS, WORD_BYTES, block_words};
 
@@ -23,9 +23,9 @@ impl Seat {
         match part_at(self.geometry, word) {
             Part::Shared => false,
             Part::Root { i } => self.owned.roots[i as usize],
-            Part::Info { d } => self.owned.stakes[d as usize].is_unclassed(),
-            Part::Anchor { d } => self.owned.stakes[d as usize].is_unclassed(),
-            Part::Link { d } => self.owned.stakes[d as usize].is_claimed(),
+            Part::Info { d } => self.owned.ownerships[d as usize].is_unclassed(),
+            Part::Anchor { d } => self.owned.ownerships[d as usize].is_unclassed(),
+            Part::Link { d } => self.owned.ownerships[d as usize].is_claimed(),
             Part::Data { word } => self.owns_data(word),
         }
     }
@@ -38,7 +38,7 @@ impl Seat {
         ensures { (result ≡ true) ↔ IsOwn self.now.view (data_cell word) }
     {
         let d = (word - self.geometry.start(0)) / SUPERBLOCK_WORDS;
-        if self.owned.stakes[d as usize].has_words() {
+        if self.owned.ownerships[d as usize].has_words() {
             return true;
         }
         let class = self.owned.classes[d as usize];
@@ -76,7 +76,7 @@ impl Seat {
             → b.words ≡ result }
     {
         let d = (first_word - self.geometry.start(0)) / SUPERBLOCK_WORDS;
-        let count = self.owned.stakes[d as usize].count();
+        let count = self.owned.ownerships[d as usize].count();
         if count > 0 {
             return SUPERBLOCK_WORDS * count;
         }

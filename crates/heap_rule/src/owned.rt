@@ -3,7 +3,7 @@
 ghost use Rattle.std.specs.Prelude.{◌≡◌, ◌<◌, ◌≤◌, ◌+◌, ℕ, [], ◌∷◌, length, slice_set};
 ghost use Rattle.std.specs.Vec.{vec_len, vec_capacity};
 ghost use Rattle.heap_model.specs.Counting.{times, one_if};
-ghost use Rattle.heap_rule.specs.Owned.{IsMarking, IsStaking, unclassed_in, classed_in, class_in, large_in, count_in, listed};
+ghost use Rattle.heap_rule.specs.Owned.{IsMarking, HaveOwnership, unclassed_in, classed_in, class_in, large_in, count_in, listed};
 ghost use Rattle.core_model.specs.Effects.{rest_of};
 ghost use Rattle.heap_rule.specs.Stacks.{HasStack};
 ghost use Rattle.heap_rule.specs.Changed.{CanChange, IsChanged, IsRecached};
@@ -17,9 +17,9 @@ use super_block::{Geometry, SUPERBLOCK_WORDS, block_words};
 /// The most blocks of a superblock: each has two words at least.
 pub(crate) const MOST_BLOCKS: usize = SUPERBLOCK_WORDS as usize / 2;
 
-/// A seat's stake in a superblock.
+/// What a seat owns of a superblock.
 #[derive(Clone, Copy)]
-pub enum Stake {
+pub enum Ownership {
     /// It has nothing of it, but maybe small blocks.
     Nothing,
     /// It claims it, without a class.
@@ -37,8 +37,8 @@ pub struct Owned {
     pub blocks: BitMarks,
     /// By superblock: the class of the seat's small blocks there.
     pub classes: Vec<u64>,
-    /// By superblock: the seat's stake in it.
-    pub stakes: Vec<Stake>,
+    /// By superblock: what the seat owns of it.
+    pub ownerships: Vec<Ownership>,
     /// By root: whether it is the seat's.
     pub roots: Vec<bool>,
     /// The blocks of its batch, in room for as many as a superblock has.
@@ -47,14 +47,14 @@ pub struct Owned {
     pub stacks: Vec<Stack>,
 }
 
-impl Stake {
+impl Ownership {
     /// Whether it is a claim without a class.
     pub(crate) fn is_unclassed(self) -> bool
         ensures { one_if result ≡ unclassed_in self }
     {
         match self {
-            Stake::Unclassed => true,
-            Stake::Nothing | Stake::Classed { .. } | Stake::Large { .. } => false,
+            Ownership::Unclassed => true,
+            Ownership::Nothing | Ownership::Classed { .. } | Ownership::Large { .. } => false,
         }
     }
 
@@ -63,8 +63,8 @@ impl Stake {
         ensures { one_if result ≡ unclassed_in self + classed_in self }
     {
         match self {
-            Stake::Unclassed | Stake::Classed { .. } => true,
-            Stake::Nothing | Stake::Large { .. } => false,
+            Ownership::Unclassed | Ownership::Classed { .. } => true,
+            Ownership::Nothing | Ownership::Large { .. } => false,
         }
     }
 
@@ -73,8 +73,8 @@ impl Stake {
         ensures { one_if result ≡ unclassed_in self + large_in self }
     {
         match self {
-            Stake::Unclassed | Stake::Large { .. } => true,
-            Stake::Nothing | Stake::Classed { .. } => false,
+            Ownership::Unclassed | Ownership::Large { .. } => true,
+            Ownership::Nothing | Ownership::Classed { .. } => false,
         }
     }
 
@@ -83,8 +83,8 @@ impl Stake {
         ensures { result ≡ class_in self }
     {
         match self {
-            Stake::Classed { class } => class,
-            Stake::Nothing | Stake::Unclassed | Stake::Large { .. } => 0,
+            Ownership::Classed { class } => class,
+            Ownership::Nothing | Ownership::Unclassed | Ownership::Large { .. } => 0,
         }
     }
 
@@ -93,19 +93,19 @@ impl Stake {
         ensures { result ≡ count_in self }
     {
         match self {
-            Stake::Large { count } => count,
-            Stake::Nothing | Stake::Unclassed | Stake::Classed { .. } => 0,
+            Ownership::Large { count } => count,
+            Ownership::Nothing | Ownership::Unclassed | Ownership::Classed { .. } => 0,
         }
     }
 
-    /// The stake in a superblock that comes from a list.
-    pub(crate) fn listed(list: u64) -> Stake
+    /// What is owned of a superblock that comes from a list.
+    pub(crate) fn listed(list: u64) -> Ownership
         ensures { result ≡ listed list }
     {
         if list == 0 {
-            Stake::Unclassed
+            Ownership::Unclassed
         } else {
-            Stake::Classed { class: list }
+            Ownership::Classed { class: list }
         }
     }
 }
@@ -145,7 +145,7 @@ impl Owned {
             }
             Change::Cut { d, class } => self.cut(geometry, d, class),
             Change::Large { d, n } => self.hold_large(d, n),
-            Change::Split { d, n } => stake_range(&mut self.stakes, d, n, Stake::Unclassed),
+            Change::Split { d, n } => own_range(&mut self.ownerships, d, n, Ownership::Unclassed),
         }
     }
 
@@ -174,7 +174,7 @@ impl Owned {
         self.stacks[index].fill(geometry.start(d), block_words(class));
         mark_all(&mut self.blocks, self.stacks[index].cached(), true);
         self.classes[d as usize] = class.number as u64;
-        self.stakes[d as usize] = Stake::Nothing;
+        self.ownerships[d as usize] = Ownership::Nothing;
     }
 
     /// A large block takes `n` claimed superblocks.
@@ -182,8 +182,8 @@ impl Owned {
         requires { CanChange (change.Large d n) 0 self.old }
         ensures { IsChanged (change.Large d n) 0 self.old self.new }
     {
-        stake_range(&mut self.stakes, d, n, Stake::Large { count: 0 });
-        self.stakes[d as usize] = Stake::Large { count: n };
+        own_range(&mut self.ownerships, d, n, Ownership::Large { count: 0 });
+        self.ownerships[d as usize] = Ownership::Large { count: n };
     }
 }
 
@@ -209,12 +209,12 @@ fn mark_one(blocks: &mut BitMarks, block: u64, mark: bool)
     }
 }
 
-/// Gives `n` superblocks from one on the same stake.
-pub(crate) fn stake_range(stakes: &mut Vec<Stake>, from: u64, n: u64, stake: Stake)
-    requires { from + n ≤ length stakes.old.items }
-    ensures { IsStaking stakes.old.items stakes.new.items from n stake }
+/// The seat owns the same of `n` superblocks from one on.
+pub(crate) fn own_range(ownerships: &mut Vec<Ownership>, from: u64, n: u64, ownership: Ownership)
+    requires { from + n ≤ length ownerships.old.items }
+    ensures { HaveOwnership ownerships.old.items ownerships.new.items from n ownership }
 {
     for d in from..from + n {
-        stakes[d as usize] = stake;
+        ownerships[d as usize] = ownership;
     }
 }

@@ -6,19 +6,19 @@ ghost use Rattle.heap_model.specs.Geometry.{lists, info_word, capacity_word, ima
 ghost use Rattle.heap_model.specs.Sizes.{IsClass, blocks_of};
 ghost use Rattle.heap_model.specs.Rest.{IsReady};
 ghost use Rattle.core_model.specs.Opening.{AreOwners, is_small};
-ghost use Rattle.crash_core.specs.OpenedOwners.{AreSuperblockOwners};
-ghost use Rattle.crash_core.specs.Standing.{share_for, no_superblock};
-ghost use Rattle.heap_rule.specs.Owned.{HasOwned, stake_for, opened_parts};
-ghost use Rattle.heap_rule.specs.declared.owned.Stake.TheVariants.{Nothing};
+ghost use Rattle.seat_notes.specs.OpenedSuperblocks.{AreSuperblockOwners};
+ghost use Rattle.seat_notes.specs.Superblocks.{usage_for, no_superblock};
+ghost use Rattle.heap_rule.specs.Owned.{HasOwned, ownership_for, opened_parts};
+ghost use Rattle.heap_rule.specs.declared.owned.Ownership.TheVariants.{Nothing};
 ghost use Rattle.heap_rule.specs.Rooms.{IsOpenedRoom};
 ghost use Rattle.heap_rule.specs.Stacks.{AreStacks};
 ghost use Rattle.heap_rule.specs.declared.owned_opening.Room.{Room};
 
-use crate::owned::{MOST_BLOCKS, Owned, Stake};
+use crate::owned::{MOST_BLOCKS, Owned, Ownership};
 use crate::stacks::Stack;
 use bit_marks::BitMarks;
-use crash_core::{Owners, Share, SuperblockOwner, superblock_owners};
 use line_memory::{Pending, RecentStores};
+use seat_notes::{Owners, SuperblockOwner, SuperblockUsage, superblock_owners};
 use size_table::blocks_of;
 use std::alloc::{AllocError, Global};
 use std::collections::VecDeque;
@@ -77,7 +77,7 @@ fn owned_by(
     Ok(Owned {
         blocks: held_by(alloc, heap, owners, seat)?,
         classes: infos(alloc, heap)?,
-        stakes: stakes_of(alloc, superblocks, seat)?,
+        ownerships: ownerships_of(alloc, superblocks, seat)?,
         roots: roots_of(alloc, owners.roots(), seat)?,
         batch: Vec::with_capacity(alloc, MOST_BLOCKS)?,
         stacks: empty_stacks(alloc)?,
@@ -138,35 +138,36 @@ fn is_small_of(block: Block, owner: u32, seat: usize) -> bool
     block.words < SUPERBLOCK_WORDS && owner as usize == seat
 }
 
-/// The seat's stakes in the superblocks.
-fn stakes_of(
+/// What the seat owns of each superblock.
+fn ownerships_of(
     alloc: Global,
     owners: &[SuperblockOwner],
     seat: usize,
-) -> Result<Vec<Stake>, AllocError>
+) -> Result<Vec<Ownership>, AllocError>
     ensures long { IfOk result (λ v. length v.items ≡ length owners.now) }
     ensures each { IfOk result (λ v. (n : ℕ) → get_or v.items n Nothing
-        ≡ stake_for (share_for seat (get_or owners.now n no_superblock))) }
+        ≡ ownership_for (usage_for seat (get_or owners.now n no_superblock))) }
 {
-    let mut stakes = vec![in alloc; Stake::Nothing; owners.len()]?;
+    let mut ownerships = vec![in alloc; Ownership::Nothing; owners.len()]?;
     for (i, owner) in owners.iter().enumerate() {
-        stakes[i] = stake_of(*owner, seat);
+        ownerships[i] = ownership_of(*owner, seat);
     }
-    Ok(stakes)
+    Ok(ownerships)
 }
 
-/// The seat's stake in the superblock.
-fn stake_of(owner: SuperblockOwner, seat: usize) -> Stake
-    ensures { result ≡ stake_for (share_for seat owner) }
+/// What the seat owns of the superblock.
+fn ownership_of(owner: SuperblockOwner, seat: usize) -> Ownership
+    ensures { result ≡ ownership_for (usage_for seat owner) }
 {
     if owner.seat != seat {
-        return Stake::Nothing;
+        return Ownership::Nothing;
     }
-    match owner.share {
-        Share::Nothing => Stake::Nothing,
-        Share::Raw | Share::Split | Share::Cutting => Stake::Unclassed,
-        Share::Classed { class } => Stake::Classed { class },
-        Share::Large { count } => Stake::Large { count },
+    match owner.usage {
+        SuperblockUsage::Nothing => Ownership::Nothing,
+        SuperblockUsage::Raw | SuperblockUsage::Split | SuperblockUsage::Cutting =>
+            Ownership::Unclassed,
+        SuperblockUsage::Classed { class } => Ownership::Classed { class },
+        SuperblockUsage::Large { count } => Ownership::Large { count },
     }
 }
 

@@ -18,7 +18,7 @@ impl Seat {
         requires claimed { 0 < times_classed d self.now.view.classed }
         ensures class { result.number ≡ claim_class d self.now.view.classed }
     {
-        let class = self.owned.stakes[d as usize].class();
+        let class = self.owned.ownerships[d as usize].class();
         SizeClass::new(class as u8)
     }
 
@@ -56,7 +56,7 @@ impl Seat {
         requires held { 1 ≤ span_count d self.now.view.large }
         ensures { result ≡ span_count d self.now.view.large }
     {
-        self.owned.stakes[d as usize].count()
+        self.owned.ownerships[d as usize].count()
     }
 
     /// The class of a superblock that was made ready.

@@ -1,9 +1,9 @@
 //! A seat of a shared heap: one thread's part of it.
 
 use crate::owned::Owned;
-use crash_core::SeatNotes;
 use heap_table::TableSeat;
 use line_memory::{Pending, RecentStores};
+use seat_notes::SeatNotes;
 use std::marker::Model;
 use super_block::Geometry;
 

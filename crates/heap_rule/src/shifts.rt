@@ -10,8 +10,8 @@ ghost use Rattle.heap_rule.specs.Shown.{CanFree, CanLift, CanCut, CanHoldLarge, 
 use crate::owned::Change;
 use crate::seat::Seat;
 use core_model::Shift;
-use crash_core::{Cache, Group, SeatNotes, Seen};
 use heap_table::Shared;
+use seat_notes::{Cache, Group, SeatNotes, Seen};
 use size_table::blocks_of;
 use super_block::SUPERBLOCK_WORDS;
 

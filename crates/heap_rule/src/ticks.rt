@@ -10,9 +10,9 @@ ghost use Rattle.heap_rule.specs.Shown.{Can};
 use crate::owned::Change;
 use crate::seat::Seat;
 use core_model::{Event, Shift};
-use crash_core::SeatNotes;
 use heap_table::{Shared, draw};
 use line_memory::Stopped;
+use seat_notes::SeatNotes;
 
 impl Seat {
     /// Draws a ticket, with a change of the seat's parts where there is one; a seat that has

@@ -8,8 +8,8 @@ ghost use Rattle.heap_rule.specs.Shown.{Can};
 
 use crate::seat::Seat;
 use core_model::Event;
-use crash_core::SeatNotes;
 use heap_table::{Shared, learn, store};
+use seat_notes::SeatNotes;
 
 impl Seat {
     /// Stores to a word of its own.

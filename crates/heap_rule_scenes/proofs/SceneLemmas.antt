@@ -9,7 +9,7 @@ use Rattle.core_model.proofs.OwnerLemmas.{in_lists_total}
 use Rattle.core_model.proofs.PlaceLemmas.{pick}
 use Rattle.core_model.proofs.BlockLemmas.{first_there}
 use Rattle.core_model.proofs.TotalLemmas.{eq-eqb-one}
-use Rattle.crash_core.proofs.LiftSteps.{last_append}
+use Rattle.seat_notes.proofs.EndLemmas.{last_append}
 use Rattle.heap_rule.specs.Parts.{KeepsParts}
 use Rattle.heap_table.specs.Plays.{HasSoundState}
 use Rattle.heap_rule.specs.Shown.{CanLift, Shows}

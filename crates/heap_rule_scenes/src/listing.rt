@@ -7,7 +7,7 @@ ghost use Rattle.heap_rule_tests.specs.Pushes.{IsEmptyClaim};
 
 use crate::rows::shows_each;
 use crate::scene::Scene;
-use crash_core::head_first;
+use seat_notes::head_first;
 use heap_rule::{Seat, Shared};
 use heap_rule_tests::{
     FREE_LIST, NotDone, look_first, look_list, pop_free, pop_seen, push_free, push_seen, set_link,

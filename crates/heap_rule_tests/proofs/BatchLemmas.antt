@@ -14,13 +14,13 @@ use Rattle.core_model.specs.Memory.{memory_of, info}
 use Rattle.core_model.specs.View.{Batch, View, no_batch, of_class, one_if_some, times_block}
 use Rattle.core_model.proofs.PlaceLemmas.{and_is, cell_at_index, not-eq, pick}
 use Rattle.core_model.proofs.QuietLemmas.{own_same}
-use Rattle.crash_core.proofs.OwnDecision.{within_word}
+use Rattle.seat_notes.proofs.BlockRanges.{within_word}
 use Rattle.heap_rule.specs.Parts.{KeepsParts}
 use Rattle.heap_table.specs.Plays.{HasSoundState, IsEvent}
 use Rattle.heap_rule.specs.Shown.{Can, CanGive, CanStore, Shows}
 use Rattle.heap_rule.proofs.LeftLemmas.{draw_done, give_lost, give_won}
 use Rattle.heap_rule.proofs.PartLemmas.{left_as, one_more}
-use Rattle.crash_core.proofs.LiftSteps.{last_there}
+use Rattle.seat_notes.proofs.EndLemmas.{last_there}
 use Rattle.heap_rule.proofs.ViewLemmas.{block_below, block_class, block_once, block_range}
 use Rattle.heap_rule_tests.specs.declared.refusal.NotDone.{NotDone}
 use Rattle.heap_rule_tests.specs.declared.refusal.NotDone.TheVariants.{Nothing, Lost, Stopped}

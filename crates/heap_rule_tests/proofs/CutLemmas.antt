@@ -18,14 +18,14 @@ use Rattle.core_model.proofs.PlaceLemmas.{and_is, cell_at_index, not-eq, pick, s
 use Rattle.core_model.proofs.TotalLemmas.{eq-eqb-one}
 use Rattle.core_model.specs.Sound.{IsCutBlock}
 use Rattle.core_model.proofs.BlockLemmas.{inside_of, superblock_is}
-use Rattle.crash_core.proofs.ChainSteps.{cut_range}
+use Rattle.seat_notes.proofs.BlockRanges.{cut_range}
 use Rattle.heap_rule.specs.Parts.{KeepsParts, cut_for}
 use Rattle.heap_table.specs.Plays.{HasSoundState, IsEvent}
 use Rattle.heap_rule.specs.Shown.{Shows, ShowsLinks, by_claim, as_full, Can, CanCut, CanStore}
 use Rattle.heap_rule.proofs.LeftLemmas.{draw_cuts}
 use Rattle.heap_rule.proofs.RawLemmas.{no_block, raw_blank, raw_inside, raw_once, store_shown, settle_left, volatile_long, durable_long}
 use Rattle.heap_rule.proofs.StoredLemmas.{of_none}
-use Rattle.crash_core.proofs.LiftSteps.{last_there}
+use Rattle.seat_notes.proofs.EndLemmas.{last_there}
 use Rattle.heap_rule_tests.specs.Cuts.{HasBegun, HasClass, HasLinked, HasLinks, HasMade, KeepsHeldBlocks, with_making}
 use Rattle.heap_rule_tests.specs.Draws.{HasDrawn, HasStoppedAt}
 

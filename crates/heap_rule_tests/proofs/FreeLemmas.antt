@@ -18,13 +18,13 @@ use Rattle.core_model.proofs.FrameLemmas.{times_without}
 use Rattle.core_model.proofs.OwnerLemmas.{in_lists_total}
 use Rattle.core_model.proofs.PlaceLemmas.{and_is, cell_at_index, not-eq, skip}
 use Rattle.core_model.proofs.TotalLemmas.{eq-eqb-one}
-use Rattle.crash_core.proofs.FreeSteps.{list_at_most}
-use Rattle.crash_core.proofs.OwnDecision.{in_classes_word}
+use Rattle.seat_notes.proofs.CountLemmas.{list_at_most}
+use Rattle.seat_notes.proofs.BlockRanges.{in_classes_word}
 use Rattle.heap_rule.specs.Parts.{KeepsParts}
 use Rattle.heap_table.specs.Plays.{HasSoundState, IsEvent}
 use Rattle.heap_rule.specs.Shown.{Can, CanFree, CanStore, Shows}
 use Rattle.heap_rule.proofs.LeftLemmas.{draw_frees}
-use Rattle.crash_core.proofs.LiftSteps.{last_there}
+use Rattle.seat_notes.proofs.EndLemmas.{last_there}
 use Rattle.heap_rule.proofs.ViewLemmas.{block_once, block_range}
 use Rattle.heap_rule_tests.specs.Draws.{HasDrawn, HasStoppedAt}
 use Rattle.heap_rule_tests.specs.Frees.{FreesNone, HasFreed, HasWay, linked_before, with_way}

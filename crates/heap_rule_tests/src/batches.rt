@@ -13,7 +13,7 @@ use crate::draws::draw;
 use crate::partials::look_anchor;
 use crate::refusal::NotDone;
 use core_model::Shift;
-use crash_core::{anchor_after_take_all, first_free};
+use seat_notes::{anchor_after_take_all, first_free};
 use heap_rule::{Seat, Shared};
 use line_memory::Stopped;
 use size_table::SizeClass;

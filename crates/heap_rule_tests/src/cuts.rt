@@ -12,7 +12,7 @@ ghost use Rattle.heap_rule_tests.specs.Draws.{HasStoppedAt};
 
 use crate::draws::draw;
 use core_model::Shift;
-use crash_core::anchor_after_take_all;
+use seat_notes::anchor_after_take_all;
 use heap_rule::{Seat, Shared};
 use line_memory::Stopped;
 use size_table::{SizeClass, blocks_of};

@@ -11,7 +11,7 @@ ghost use Rattle.heap_rule_tests.specs.Pops.{HasPopped, HasPoppedFrom, HasSeenFi
 
 use crate::draws::draw;
 use crate::refusal::NotDone;
-use crash_core::head_first;
+use seat_notes::head_first;
 use heap_rule::{Seat, Shared};
 use line_memory::Stopped;
 use size_table::SizeClass;

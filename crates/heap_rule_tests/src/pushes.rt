@@ -14,7 +14,7 @@ ghost use Rattle.heap_rule_tests.specs.Pushes.{HasPushed, HasPushedOfClass, HasS
 use crate::draws::draw;
 use crate::pops::{FREE_LIST, look_list};
 use crate::refusal::NotDone;
-use crash_core::head_first;
+use seat_notes::head_first;
 use heap_rule::{Seat, Shared};
 use line_memory::Stopped;
 use size_table::SizeClass;

@@ -10,7 +10,7 @@ use Rattle.heap_model.specs.Geometry.{roots}
 use Rattle.core_model.specs.Opening.{opened_view}
 use Rattle.core_model.specs.View.{Setup, View, of_class}
 use Rattle.core_model.proofs.OpenedHeldLemmas.{owns_root}
-use Rattle.crash_core.proofs.PickedLemmas.{total_append}
+use Rattle.seat_notes.proofs.PickedLemmas.{total_append}
 use Rattle.heap_table.specs.AtTable.{SharedView}
 use Rattle.heap_rule.specs.Seated.{SeatView}
 use Rattle.heap_rule.specs.Seats.{AreOpenedSeats}

@@ -7,7 +7,7 @@ use Rattle.core_model.specs.Cells.{superblock_at}
 use Rattle.core_model.specs.Held.{IsHeldBy, a_small}
 use Rattle.core_model.specs.Sound.{Sound}
 use Rattle.core_model.specs.View.{Setup, View, of_class, times_block}
-use Rattle.crash_core.proofs.FreeSteps.{list_at_most}
+use Rattle.seat_notes.proofs.CountLemmas.{list_at_most}
 use Rattle.heap_rule.specs.Seated.{SeatView}
 use Rattle.heap_table.specs.AtTable.{IsClosedSound}
 use Rattle.heap_rule.specs.Seats.{views_of}

@@ -8,7 +8,7 @@ ghost use Rattle.heap_rule_threads.specs.Jobs.{AreFreshSlots, AreTold, HaveRoots
 
 use crate::slots::Slot;
 use crate::working::{Job, Order, Task, WorkReport, Worked};
-use crash_core::Owners;
+use seat_notes::Owners;
 use heap_rule::{Seat, Shared};
 use std::alloc::{AllocError, Global};
 use super_block::{ROOTS, Ready};

@@ -14,7 +14,7 @@ use Rattle.core_model.specs.Guards.{IsOwn, MayStep}
 use Rattle.core_model.specs.Sound.{Sound}
 use Rattle.core_model.specs.Steps.{found_by, words_after, seat_after}
 use Rattle.core_model.proofs.SoundLemmas.{in_table, sound_step}
-use Rattle.crash_core.proofs.WordLemmas.{read_is}
+use Rattle.seat_notes.proofs.WordLemmas.{read_is}
 use Rattle.heap_table.specs.SeatViews.{SeatViews, IsSingle, all_views}
 use Rattle.heap_table.specs.Reached.{IsReached, by_event, by_record, learned}
 use Rattle.heap_table.specs.Rule.{Opening, HasAllSeats, Holds, setup_for, state_of}

@@ -17,8 +17,8 @@ use Rattle.core_model.specs.Guards.{MayLookAt}
 use Rattle.heap_table.specs.SeatViews.{SeatViews, IsSingle, all_views, view_in, nobody}
 use Rattle.heap_table.specs.Rule.{Opening, HasAllSeats, setup_for}
 use Rattle.heap_table.specs.Plays.{HasSoundState, May, IsEvent, IsStepAt, Did}
-use Rattle.crash_core.proofs.WordLemmas.{read_is}
-use Rattle.crash_core.proofs.WordSteps.{stopped_most}
+use Rattle.seat_notes.proofs.WordLemmas.{read_is}
+use Rattle.seat_notes.proofs.CountLemmas.{stopped_most}
 use Rattle.heap_table.specs.AtTable.{SharedView, IsAt, IsLook, IsDraw, IsRaise, IsExchange, IsStore}
 
 -- the place of a step is one of the table

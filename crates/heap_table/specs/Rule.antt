@@ -6,7 +6,7 @@ use Rattle.core_model.specs.View.{Setup, View}
 use Rattle.core_model.specs.Sound.{Sound}
 use Rattle.core_model.specs.Steps.{TableState}
 use Rattle.core_model.specs.Opening.{setup_of, opened_view, opened_state}
-use Rattle.crash_core.specs.OwnerLists.{OwnerLists}
+use Rattle.seat_notes.specs.OwnerLists.{OwnerLists}
 use Rattle.super_block.specs.Contents.{Contents}
 use Rattle.heap_table.specs.Reached.{IsReached}
 use Rattle.heap_table.specs.SeatViews.{SeatViews, all_views}

@@ -19,8 +19,8 @@ use Rattle.core_model.specs.View.{Batch, View, of_class, times_block, no_batch}
 use Rattle.core_model.proofs.OwnerLemmas.{in_lists_total}
 use Rattle.core_model.proofs.PlaceLemmas.{and_both, and_is, cell_at_index, not-eq, skip}
 use Rattle.core_model.proofs.ShiftLemmas.{in_classes_set, within_without}
-use Rattle.crash_core.proofs.LiftSteps.{last_there}
-use Rattle.crash_core.proofs.OwnDecision.{in_classes_word}
+use Rattle.seat_notes.proofs.EndLemmas.{last_there}
+use Rattle.seat_notes.proofs.BlockRanges.{in_classes_word}
 use Rattle.heap_rule.specs.Fences.{Owns}
 use Rattle.heap_rule.specs.Seated.{SeatView, TellsDraw}
 use Rattle.heap_rule.specs.Shown.{Can, CanFree, CanStore, Shows}

@@ -21,8 +21,8 @@ use Rattle.core_model.specs.View.{Batch, View, of_class, times_raw}
 use Rattle.core_model.proofs.BlockLemmas.{inside_of, superblock_is}
 use Rattle.core_model.proofs.PlaceLemmas.{and_is, cell_at_index, not-eq, pick, skip}
 use Rattle.core_model.proofs.TotalLemmas.{eq-eqb-one}
-use Rattle.crash_core.proofs.ChainSteps.{cut_range}
-use Rattle.crash_core.proofs.LiftSteps.{last_there}
+use Rattle.seat_notes.proofs.BlockRanges.{cut_range}
+use Rattle.seat_notes.proofs.EndLemmas.{last_there}
 use Rattle.heap_rule.specs.Fences.{Owns}
 use Rattle.heap_rule.specs.Parts.{cut_for}
 use Rattle.heap_rule.specs.Seated.{TellsDraw}

@@ -12,10 +12,10 @@ ghost use Rattle.seat_rows.specs.Rows.{Row, Stops};
 ghost use Rattle.seat_fill.specs.Cuts.{HasCut, HasDurableInfo, HasFilledAnchor, HasLink, HasLinks};
 
 use core_model::Shift;
-use crash_core::anchor_after_take_all;
 use heap_rule::{Seat, Shared};
 use large_block::set_info;
 use line_memory::{Chance, Stopped};
+use seat_notes::anchor_after_take_all;
 use seat_rows::{draw, draw_with};
 use size_table::{SizeClass, blocks_of};
 use super_block::{Geometry, block_words};

@@ -15,8 +15,8 @@ use Rattle.core_model.specs.Guards.{IsOwn}
 use Rattle.core_model.specs.Memory.{memory_of, info, anchor}
 use Rattle.core_model.specs.View.{Setup, Snapshot, View, no_batch, one_if_some, times_block, times_classed}
 use Rattle.core_model.proofs.PlaceLemmas.{and_is, cell_at_index, pick}
-use Rattle.crash_core.proofs.LiftSteps.{last_there}
-use Rattle.crash_core.proofs.OwnDecision.{within_word}
+use Rattle.seat_notes.proofs.EndLemmas.{last_there}
+use Rattle.seat_notes.proofs.BlockRanges.{within_word}
 use Rattle.heap_rule.specs.Fences.{Owns}
 use Rattle.heap_table.specs.Plays.{HasSoundState, IsEvent}
 use Rattle.heap_rule.specs.Seated.{Tells}

@@ -20,8 +20,8 @@ use Rattle.core_model.specs.View.{Batch, View, Setup, no_batch, of_class, times_
 use Rattle.core_model.proofs.OwnerLemmas.{in_lists_total}
 use Rattle.core_model.proofs.PlaceLemmas.{cell_at_index}
 use Rattle.core_model.proofs.TotalLemmas.{eq-eqb-one}
-use Rattle.crash_core.proofs.LiftSteps.{last_there}
-use Rattle.crash_core.proofs.OwnDecision.{in_classes_word}
+use Rattle.seat_notes.proofs.EndLemmas.{last_there}
+use Rattle.seat_notes.proofs.BlockRanges.{in_classes_word}
 use Rattle.heap_rule.specs.Fences.{Owns}
 use Rattle.heap_table.specs.Plays.{HasSoundState, IsEvent}
 use Rattle.heap_rule.specs.Seated.{TellsDraw}

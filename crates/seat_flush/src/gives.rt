@@ -8,10 +8,10 @@ ghost use Rattle.seat_rows.specs.Rows.{Row, Stops};
 ghost use Rattle.seat_lists.specs.Anchors.{anchor_seen};
 ghost use Rattle.seat_flush.specs.Gives.{Gives, GivesSeen, HasGiven, HasLinkedLast, IsBatchOf};
 
-use crash_core::{anchor_after_take_all, first_free};
 use heap_rule::{Seat, Shared};
 use line_memory::{Chance, Stopped};
 use seat_lists::look_anchor;
+use seat_notes::{anchor_after_take_all, first_free};
 use seat_rows::draw;
 use size_table::SizeClass;
 use super_block::Geometry;

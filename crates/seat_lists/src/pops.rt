@@ -8,9 +8,9 @@ ghost use Rattle.seat_rows.specs.Costs.{one_draw, one_win};
 ghost use Rattle.seat_rows.specs.Rows.{Row, Stops};
 ghost use Rattle.seat_lists.specs.Pops.{SeesHead, SeesLink, SeesFirst, Exchanges, Tries, Pops};
 
-use crash_core::head_first;
 use heap_rule::{Seat, Shared};
 use line_memory::{Chance, Stopped};
+use seat_notes::head_first;
 use seat_rows::draw;
 
 /// What a pop of a list gives.

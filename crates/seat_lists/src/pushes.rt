@@ -11,9 +11,9 @@ ghost use Rattle.seat_rows.specs.Rows.{Row, Stops};
 ghost use Rattle.seat_lists.specs.Pushes.{HasPushed, HasSetLink, Pushes, SeesLinked};
 
 use crate::pops::look_list;
-use crash_core::head_first;
 use heap_rule::{Seat, Shared};
 use line_memory::{Chance, Stopped};
+use seat_notes::head_first;
 use seat_rows::draw;
 use super_block::Geometry;
 

@@ -11,12 +11,12 @@ ghost use Rattle.run_model.specs.Opened.{HasMaps, IsDictionary};
 ghost use Rattle.run_model.specs.Workers.{root_owner};
 ghost use Rattle.seat_owners.specs.Owning.{AreOwnedUpTo, AreOwnersByRoot, IsOwnedBy};
 
-use crash_core::Owners;
 use dict_model::SHARDS;
 use dictionary::origins_of;
 use filter_trace::Scan;
 use heap_model::Block;
 use root_reach::Origins;
+use seat_notes::Owners;
 use std::alloc::{AllocError, Global};
 use super_block::{Directory, ROOTS, Ready};
 

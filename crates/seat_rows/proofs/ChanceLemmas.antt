@@ -10,7 +10,7 @@ use Rattle.core_model.specs.View.{View, times_claimed}
 use Rattle.core_model.proofs.PlaceLemmas.{cell_at_index}
 use Rattle.core_model.proofs.QuietLemmas.{own_same}
 use Rattle.core_model.proofs.SoundLemmas.{taken}
-use Rattle.crash_core.proofs.LiftSteps.{last_there}
+use Rattle.seat_notes.proofs.EndLemmas.{last_there}
 use Rattle.heap_table.specs.Plays.{HasSoundState}
 use Rattle.heap_rule.specs.Shown.{Can, CanAnchor, CanList, CanStore, Shows, ShowsEmpty, as_empty, as_free, as_full, by_anchor, by_claim, by_look, of_its_class}
 use Rattle.heap_rule.proofs.DrawLemmas.{settled_can}

@@ -4,7 +4,7 @@ ghost use Rattle.std.specs.Prelude.{◌≡◌, ◌<◌, IfOk};
 ghost use Rattle.heap_rule.specs.Seated.{IsSeatOf};
 ghost use Rattle.seat_scenes.specs.Fresh.{IsFresh};
 
-use crash_core::Owners;
+use seat_notes::Owners;
 use dictionary::{DictFilter, root_kinds};
 use heap_recover::recover;
 use heap_rule::{Seat, Shared, open_shared};

@@ -24,7 +24,7 @@ use Rattle.core_model.specs.Held.{IsHeld, a_small, a_large}
 use Rattle.core_model.specs.View.{Span, View, Setup, takes, times_large, known}
 use Rattle.core_model.proofs.PlaceLemmas.{and_is, cell_at_index}
 use Rattle.core_model.proofs.TotalLemmas.{eq-eqb-one}
-use Rattle.crash_core.proofs.OwnDecision.{in_classes_word}
+use Rattle.seat_notes.proofs.BlockRanges.{in_classes_word}
 use Rattle.heap_rule.specs.Images.{HasPickedRecords}
 use Rattle.heap_rule.specs.Left.{Lasts, MayBeLeft, mixed, crashed, closed}
 use Rattle.heap_rule.proofs.CrashLemmas.{left_fixed, left_mixes, left_named}

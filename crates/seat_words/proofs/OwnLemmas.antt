@@ -12,7 +12,7 @@ use Rattle.core_model.specs.Cells.{Cell, used_cell, head_cell, info_cell, anchor
 use Rattle.core_model.specs.Effects.{last_of, learn, stored, used_up}
 use Rattle.core_model.specs.View.{Batch, View, no_batch}
 use Rattle.core_model.proofs.OwnerLemmas.{which_class}
-use Rattle.crash_core.proofs.OwnDecision.{in_classes_word}
+use Rattle.seat_notes.proofs.BlockRanges.{in_classes_word}
 use Rattle.heap_table.specs.Plays.{HasSoundState, IsEvent}
 use Rattle.heap_rule.specs.Fences.{IsLineMarked, IsSeatFence, Owns}
 use Rattle.heap_rule.specs.Seated.{SeatView}

@@ -9,7 +9,7 @@ use Rattle.heap_seat.specs.View.{View as HeapView}
 use Rattle.core_model.specs.Opening.{setup_of}
 use Rattle.core_model.specs.View.{Setup, View}
 use Rattle.dict_model.specs.Requests.{Request}
-use Rattle.crash_core.specs.OwnerLists.{OwnerLists}
+use Rattle.seat_notes.specs.OwnerLists.{OwnerLists}
 use Rattle.heap_table.specs.AtTable.{IsClosedReached, IsClosedSound, SharedView}
 use Rattle.heap_table.specs.Rule.{Opening, setup_for}
 use Rattle.heap_rule.specs.Seated.{SeatView}

@@ -5,7 +5,7 @@ use Rattle.heap_model.specs.Durability.{IsClosedImage, IsCrashImage}
 use Rattle.heap_model.specs.Rest.{IsReady}
 use Rattle.core_model.specs.Opening.{setup_of}
 use Rattle.core_model.specs.View.{View}
-use Rattle.crash_core.specs.OwnerLists.{OwnerLists}
+use Rattle.seat_notes.specs.OwnerLists.{OwnerLists}
 use Rattle.dict_model.specs.Requests.{Request}
 use Rattle.heap_table.specs.AtTable.{IsClosedReached, IsClosedSound}
 use Rattle.heap_table.specs.Rule.{Opening, opening_of}

@@ -3,7 +3,7 @@ use Rattle.heap_model.specs.Geometry.{start_word}
 use Rattle.heap_model.specs.Sizes.{words_of_class}
 use Rattle.heap_model.specs.Words.{anchor_first}
 use Rattle.crash_core.proofs.KeptFacts.{unseen_anchor}
-use Rattle.crash_core.proofs.PushDecision.{refused}
+use Rattle.seat_notes.proofs.DecisionLemmas.{refused}
 use Rattle.crash_core.proofs.GiveSteps.{give_none, give_apart, give_other, give_full_one, give_linked, batch_fits}
 use Rattle.crash_core.proofs.chains.may_give.Goals as goal
 

@@ -2,7 +2,7 @@ use Rattle.std.proofs.Common.{◌<◌, ◌-◌, ◌/◌, ap, sym, subst, ◌∙�
 use Rattle.heap_model.specs.Sizes.{IsClass}
 use Rattle.core_model.specs.Memory.{info}
 use Rattle.crash_core.specs.Standing.{memory_at}
-use Rattle.crash_core.proofs.WordLemmas.{entry_there}
+use Rattle.seat_notes.proofs.WordLemmas.{entry_there}
 use Rattle.crash_core.proofs.FreeSteps.{held_range, held_is}
 use Rattle.crash_core.proofs.moves.held_class.Goals as goal
 

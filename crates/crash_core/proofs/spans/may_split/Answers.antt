@@ -1,7 +1,7 @@
 use Rattle.std.proofs.Common.{◌-◌, ◌/◌, ◌%◌, get_or, ap, sym, ◌∙◌, arith}
-use Rattle.crash_core.specs.Standing.{share_for, no_superblock}
-use Rattle.crash_core.proofs.PushDecision.{refused}
-use Rattle.crash_core.proofs.WordLemmas.{entry_there}
+use Rattle.seat_notes.specs.Superblocks.{usage_for, no_superblock}
+use Rattle.seat_notes.proofs.DecisionLemmas.{refused}
+use Rattle.seat_notes.proofs.WordLemmas.{entry_there}
 use Rattle.crash_core.proofs.SplitSteps.{split_before, split_inside, split_there}
 use Rattle.crash_core.proofs.spans.may_split.Goals as goal
 
@@ -10,8 +10,8 @@ returns-then-block-start c = λ k views v keeps below at. refused (split_before 
 
 pub returns : goal.returns
 returns c = λ k views v keeps below at. split_there c.args.core.now k views c.args.seat v (entry_there c.args.core.now.seats.items c.args.seat c.requires.seat).0 keeps below at (entry_there c.args.core.now.seats.items c.args.seat c.requires.seat).1 c.args.block (let e = c.start-start.ensures in let f = c.if-block-start.false in omega arith)
-    (let e = c.start-start.ensures in let f = c.if-block-start-ne0.false in ap (λ n. (c.args.block - n) % 8192) (sym e) ∙ f) c.share.result c.large_count.result
-    (c.share.ensures ∙ ap (λ n. share_for c.args.seat (get_or c.args.core.now.superblocks.items ((c.args.block - n) / 8192) no_superblock)) c.start-start.ensures) c.large_count.ensures
+    (let e = c.start-start.ensures in let f = c.if-block-start-ne0.false in ap (λ n. (c.args.block - n) % 8192) (sym e) ∙ f) c.usage.result c.large_count.result
+    (c.usage.ensures ∙ ap (λ n. usage_for c.args.seat (get_or c.args.core.now.superblocks.items ((c.args.block - n) / 8192) no_superblock)) c.start-start.ensures) c.large_count.ensures
 
 pub returns-then-block-start-ne0 : goal.returns-then-block-start-ne0
 returns-then-block-start-ne0 c = λ k views v keeps below at. refused (split_inside c.args.core.now k views c.args.seat v (entry_there c.args.core.now.seats.items c.args.seat c.requires.seat).0 keeps below at (entry_there c.args.core.now.seats.items c.args.seat c.requires.seat).1 c.args.block (λ e. c.if-block-start-ne0.true (ap (λ n. (c.args.block - n) % 8192) c.start-start.ensures ∙ e)))

@@ -1,9 +1,10 @@
 use Rattle.std.proofs.Common.{◌≡◌, ◌-◌, ◌/◌, get_or, refl, ap, sym, subst, ◌∙◌, arith}
-use Rattle.crash_core.specs.declared.owners.Share.TheVariants as share
+use Rattle.seat_notes.specs.declared.superblocks.SuperblockUsage.TheVariants as usage
 use Rattle.core_model.specs.Cells.{superblock_at}
 use Rattle.core_model.specs.Effects.{cleared, span_count}
-use Rattle.crash_core.specs.Standing.{snapshot, share_for, no_superblock, count_in, IsRange}
-use Rattle.crash_core.proofs.WordLemmas.{entry_is}
+use Rattle.seat_notes.specs.Notes.{snapshot}
+use Rattle.seat_notes.specs.Superblocks.{usage_for, no_superblock, count_in, IsRange}
+use Rattle.seat_notes.proofs.WordLemmas.{entry_is}
 use Rattle.crash_core.proofs.MoveSteps.{retold}
 use Rattle.crash_core.proofs.SplitSteps.{split, split_fits, split_count}
 use Rattle.crash_core.proofs.spans.split.Goals as goal
@@ -15,11 +16,11 @@ pub returns : goal.returns
 returns c = λ k views v t keeps below at at_t.
     let same : c.index-notes.result.now ≡ t = c.index-notes.ensures ∙ entry_is c.args.core.now.seats.items c.args.seat c.index-notes.result.now t c.requires.seat ∙ at_t in
     let may = (c.requires.may k views v keeps below at).0 refl in
-    let count : c.large_count-count.result ≡ span_count (superblock_at c.args.core.now.geometry.capacity c.args.block) v.large = c.large_count-count.ensures ∙ ap count_in (c.share.ensures ∙ ap (λ n. share_for c.args.seat (get_or c.args.core.now.superblocks.items ((c.args.block - n) / 8192) no_superblock)) c.start.ensures) ∙ sym (split_count c.args.core.now k views c.args.seat v c.index-notes.result.now keeps below at (sym c.index-notes.ensures) c.args.block may) in
+    let count : c.large_count-count.result ≡ span_count (superblock_at c.args.core.now.geometry.capacity c.args.block) v.large = c.large_count-count.ensures ∙ ap count_in (c.usage.ensures ∙ ap (λ n. usage_for c.args.seat (get_or c.args.core.now.superblocks.items ((c.args.block - n) / 8192) no_superblock)) c.start.ensures) ∙ sym (split_count c.args.core.now k views c.args.seat v c.index-notes.result.now keeps below at (sym c.index-notes.ensures) c.args.block may) in
     retold _ _ views c.args.seat c.index-notes.result.now t _ same (split c.args.core.now k views c.args.seat v c.index-notes.result.now keeps below at (sym c.index-notes.ensures) c.args.block may c.large_count-count.result count c.give_range.new.owners c.cleared.result
-    (subst (λ n. IsRange c.args.core.now.superblocks.items c.give_range.new.owners.items ((c.args.block - n) / 8192) c.large_count-count.result (record { seat = c.args.seat; share = share.Split })) c.start.ensures c.give_range.ensures)
+    (subst (λ n. IsRange c.args.core.now.superblocks.items c.give_range.new.owners.items ((c.args.block - n) / 8192) c.large_count-count.result (record { seat = c.args.seat; usage = usage.Split })) c.start.ensures c.give_range.ensures)
     (c.cleared.ensures ∙ ap (λ n. cleared ((c.args.block - n) / 8192) c.large_count-count.result (snapshot c.index-notes.result.now.seen_anchor)) c.start.ensures))
 
 pub give_range-requires : goal.give_range-requires
-give_range-requires c = let f = (split_fits c.args.core.now c.args.seat c.args.block c.index-notes.result.now c.requires.core c.requires.seat (sym c.index-notes.ensures) c.requires.may).range in let e = c.start.ensures in let g = c.large_count-count.ensures ∙ ap count_in (c.share.ensures ∙ ap (λ n. share_for c.args.seat (get_or c.args.core.now.superblocks.items ((c.args.block - n) / 8192) no_superblock)) c.start.ensures) in
+give_range-requires c = let f = (split_fits c.args.core.now c.args.seat c.args.block c.index-notes.result.now c.requires.core c.requires.seat (sym c.index-notes.ensures) c.requires.may).range in let e = c.start.ensures in let g = c.large_count-count.ensures ∙ ap count_in (c.usage.ensures ∙ ap (λ n. usage_for c.args.seat (get_or c.args.core.now.superblocks.items ((c.args.block - n) / 8192) no_superblock)) c.start.ensures) in
     let h = ap (λ n. (c.args.block - n) / 8192) c.start.ensures in omega arith

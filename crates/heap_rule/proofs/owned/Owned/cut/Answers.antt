@@ -27,7 +27,7 @@ returns c =
       others = refl;
       blocks = subst (λ l. IsMarking c.args.self.now.blocks c.mark_all.new.blocks l true) (c.cached.ensures ∙ ap (λ (s : Stack). drop s.top s.blocks.items) cut ∙ top_is) c.mark_all.ensures;
       classes = refl;
-      stakes = refl;
+      ownerships = refl;
       stacks = filled_stack c.args.self.now.stacks.items c.args.class.number c.args.class.number c.index_mut.result.now c.fill.new.self (class_blocks c.args.geometry.capacity c.args.class.number c.args.d) refl c.requires.stack.below (sym c.index_mut.ensures.value)
           (ap length c.fill.ensures.blocks ∙ length_steps c.start.result c.block_words.result (length c.index_mut.result.now.blocks.items)) (let t = c.fill.ensures.top in omega arith) top_is;
     }

@@ -1,12 +1,11 @@
 use Rattle.heap_rule.proofs.ChangeLemmas.{lift_change}
-use Rattle.heap_rule.proofs.ShiftLemmas.{cache_first, less}
+use Rattle.heap_rule.proofs.ShiftLemmas.{cache_first, less, cached_above, batch_fits, lift_fits}
 use Rattle.std.proofs.Common.{◌-◌, ◌/◌, get_or, ap, sym, subst, ◌∙◌, arith}
 use Rattle.heap_model.specs.Geometry.{start_word}
 use Rattle.core_model.specs.Guards.{MayAlloc}
-use Rattle.crash_core.proofs.MoveSteps.{no_cache}
+use Rattle.seat_notes.proofs.NewSeat.{no_cache}
 use Rattle.heap_table.specs.SeatViews.{view_in}
 use Rattle.heap_rule.specs.Seated.{SeatView, IsKeptOf}
-use Rattle.heap_rule.proofs.ShiftLemmas.{cached_above, batch_fits, lift_fits}
 use Rattle.heap_rule.proofs.seat.Seat.after_lift.Goals as goal
 
 pub overflow_sub-batch : goal.overflow_sub-batch

@@ -9,7 +9,7 @@ use Rattle.heap_rule.proofs.seat.Seat.claimed_class.Goals as goal
 pub index-requires : goal.index-requires
 index-requires c = let claimed = subst (λ (s : SeatView). 0 < times_classed c.args.d s.view.classed) (sym c.self.view_is) c.requires.claimed in
     let b = classed_below (view_in c.self.inside.bare.me.0) c.self.invariant.seat.kept.has c.self.inside.owned c.self.invariant.own c.args.d claimed in
-    let l = c.self.invariant.own.stakes_long in omega arith
+    let l = c.self.invariant.own.ownerships_long in omega arith
 
 pub overflow_cast-class : goal.overflow_cast-class
 overflow_cast-class c = let claimed = subst (λ (s : SeatView). 0 < times_classed c.args.d s.view.classed) (sym c.self.view_is) c.requires.claimed in

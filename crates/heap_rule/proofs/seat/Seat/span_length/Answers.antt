@@ -9,7 +9,7 @@ use Rattle.heap_rule.proofs.seat.Seat.span_length.Goals as goal
 pub index-requires : goal.index-requires
 index-requires c = let held = subst (λ (s : SeatView). 1 ≤ span_count c.args.d s.view.large) (sym c.self.view_is) c.requires.held in
     let b = span_below (view_in c.self.inside.bare.me.0) c.self.invariant.seat.kept.has c.args.d held in
-    let l = c.self.invariant.own.stakes_long in omega arith
+    let l = c.self.invariant.own.ownerships_long in omega arith
 
 pub returns : goal.returns
 returns c = let held = subst (λ (s : SeatView). 1 ≤ span_count c.args.d s.view.large) (sym c.self.view_is) c.requires.held in

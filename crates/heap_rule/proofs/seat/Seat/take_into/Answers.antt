@@ -6,7 +6,7 @@ use Rattle.heap_model.specs.Sizes.{words_of_class}
 use Rattle.heap_model.specs.Words.{anchor_first}
 use Rattle.core_model.specs.declared.event.Event.TheVariants.{TakeAll}
 use Rattle.core_model.specs.Effects.{seen_word, claim_class}
-use Rattle.crash_core.specs.Standing.{snapshot}
+use Rattle.seat_notes.specs.Notes.{snapshot}
 use Rattle.heap_table.specs.SeatViews.{view_in}
 use Rattle.heap_rule.specs.Seated.{SeatView}
 use Rattle.core_model.specs.View.{of_class}
@@ -92,4 +92,4 @@ index_mut-requires c =
 pub index_mut-requires-2 : goal.index_mut-requires-2
 index_mut-requires-2 c =
     let can = subst (λ (s : SeatView). Can s.view (TakeAll c.args.d)) (sym c.self.view_is) c.requires.can in
-    let b = classed_below (view_in c.self.inside.bare.me.0) c.self.invariant.seat.kept.has c.self.inside.owned c.self.invariant.own c.args.d can.shown.claimed in subst (λ n. c.args.d < n) (sym (c.self.inside.owned.stakes.ok.0 ∙ c.self.invariant.own.stakes_long)) b
+    let b = classed_below (view_in c.self.inside.bare.me.0) c.self.invariant.seat.kept.has c.self.inside.owned c.self.invariant.own c.args.d can.shown.claimed in subst (λ n. c.args.d < n) (sym (c.self.inside.owned.ownerships.ok.0 ∙ c.self.invariant.own.ownerships_long)) b

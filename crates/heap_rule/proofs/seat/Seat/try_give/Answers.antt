@@ -6,7 +6,7 @@ use Rattle.heap_model.specs.Sizes.{IsClass, words_of_class, blocks_of}
 use Rattle.core_model.specs.declared.event.Event.TheVariants.{Give}
 use Rattle.core_model.specs.Effects.{seen_word, given_anchor}
 use Rattle.core_model.specs.Sound.{IsCutBlock}
-use Rattle.crash_core.specs.Standing.{snapshot}
+use Rattle.seat_notes.specs.Notes.{snapshot}
 use Rattle.heap_table.specs.SeatViews.{view_in}
 use Rattle.heap_rule.specs.Seated.{SeatView}
 use Rattle.heap_rule.specs.Shown.{Can}
@@ -90,7 +90,7 @@ pub index_mut-requires : goal.index_mut-requires
 index_mut-requires c =
     let can = subst (λ (s : SeatView). Can s.view (Give c.args.d)) (sym c.self.view_is) c.requires.can in
     let below = batch_below (view_in c.self.inside.bare.me.0) c.self.invariant.seat.kept.has c.args.d can.shown.batch can.shown.some in
-    let l = c.self.invariant.own.stakes_long in omega arith
+    let l = c.self.invariant.own.ownerships_long in omega arith
 
 pub invariant_of-self-2 : goal.invariant_of-self-2
 invariant_of-self-2 c =

@@ -1,14 +1,11 @@
-use Rattle.std.proofs.Common.{arith}
+use Rattle.std.proofs.Common.{arith, refl, ap, sym, subst, ◌<◌, ◌∙◌}
 use Rattle.std.specs.Vec.{with_item}
-use Rattle.std.proofs.Common.{refl}
-use Rattle.core_model.specs.Effects.{seen_of}
-use Rattle.std.proofs.Common.{ap, sym, subst, ◌<◌, ◌∙◌}
+use Rattle.core_model.specs.Effects.{seen_of, seen_word}
 use Rattle.heap_model.specs.Words.{head_pops}
 use Rattle.core_model.specs.declared.event.Event.TheVariants.{Pop}
 use Rattle.core_model.specs.Guards.{IsThere}
 use Rattle.core_model.specs.View.{one_if_some}
-use Rattle.core_model.specs.Effects.{seen_word}
-use Rattle.crash_core.specs.Standing.{snapshot}
+use Rattle.seat_notes.specs.Notes.{snapshot}
 use Rattle.heap_table.specs.SeatViews.{view_in}
 use Rattle.heap_rule.specs.Seated.{SeatView}
 use Rattle.heap_rule.proofs.OwnedSteps.{popped_owned, popped_below, pop_lost as pop_lost_own}
@@ -39,11 +36,11 @@ invariant_of-self-2 c =
       seat = seat_after c.self.inside.bare.me c.exchange-found.new.seat.me c.self.inside.notes _ c.self.inside.geometry.capacity Pop c.exchange-found.result c.args.shared.now c.exchange-found.new.seat.table_id c.self.invariant.seat c.exchange-found.ensures.at c.exchange-found.ensures.event
           (head_popped c.self.inside.notes (view_in c.self.inside.bare.me.0) (view_in c.exchange-found.new.seat.me.0) c.exchange-found.result c.in-Some.head.word c.head_first.result c.saturating_sub-d.result c.cleared.result c.self.invariant.seat.kept c.exchange-found.ensures.event c.exchange-found.ensures.at.has is c.if-found-head.false c.head_first.ensures c.saturating_sub-d.ensures c.cleared.ensures);
       marks_long = c.self.invariant.marks_long;
-      own = popped_owned c.self.inside.owned (with_item c.self.inside.owned.stakes c.saturating_sub-d.result c.listed.result) (view_in c.self.inside.bare.me.0) (view_in c.exchange-found.new.seat.me.0) c.exchange-found.result c.in-Some.head.word c.in-Some.head.of c.head_first.result c.saturating_sub-d.result c.listed.result c.self.invariant.own c.exchange-found.ensures.event is (ap seen_of (c.self.invariant.seat.kept.notes_are.seen_head ∙ ap snapshot c.in-Some.is)) c.if-found-head.false c.head_first.ensures c.saturating_sub-d.ensures c.listed.ensures refl;
+      own = popped_owned c.self.inside.owned (with_item c.self.inside.owned.ownerships c.saturating_sub-d.result c.listed.result) (view_in c.self.inside.bare.me.0) (view_in c.exchange-found.new.seat.me.0) c.exchange-found.result c.in-Some.head.word c.in-Some.head.of c.head_first.result c.saturating_sub-d.result c.listed.result c.self.invariant.own c.exchange-found.ensures.event is (ap seen_of (c.self.invariant.seat.kept.notes_are.seen_head ∙ ap snapshot c.in-Some.is)) c.if-found-head.false c.head_first.ensures c.saturating_sub-d.ensures c.listed.ensures refl;
     }
 
 pub index_mut-requires : goal.index_mut-requires
 index_mut-requires c =
     let is = ap seen_word (c.self.invariant.seat.kept.notes_are.seen_head ∙ ap snapshot c.in-Some.is) in
     let b = popped_below (view_in c.self.inside.bare.me.0) (view_in c.exchange-found.new.seat.me.0) c.exchange-found.result c.in-Some.head.word c.head_first.result c.saturating_sub-d.result c.exchange-found.ensures.event is c.head_first.ensures c.saturating_sub-d.ensures in
-    let l = c.self.invariant.own.stakes_long in omega arith
+    let l = c.self.invariant.own.ownerships_long in omega arith

@@ -1,11 +1,10 @@
 use Rattle.std.specs.Vec.{with_item}
-use Rattle.heap_rule.specs.declared.owned.Stake.TheVariants as stake
-use Rattle.std.proofs.Common.{refl}
-use Rattle.std.proofs.Common.{ap, subst, sym, ◌∙◌, arith}
+use Rattle.heap_rule.specs.declared.owned.Ownership.TheVariants as ownership
+use Rattle.std.proofs.Common.{refl, ap, subst, sym, ◌∙◌, arith}
 use Rattle.heap_model.specs.Geometry.{largest_capacity_fits}
 use Rattle.core_model.specs.declared.event.Event.TheVariants.{Push}
 use Rattle.core_model.specs.Effects.{seen_word}
-use Rattle.crash_core.specs.Standing.{snapshot}
+use Rattle.seat_notes.specs.Notes.{snapshot}
 use Rattle.heap_table.specs.SeatViews.{view_in}
 use Rattle.heap_rule.specs.Seated.{SeatView}
 use Rattle.heap_rule.specs.Shown.{Can}
@@ -42,5 +41,5 @@ invariant_of-self-2 c =
       seat = seat_after c.self.inside.bare.me c.exchange-found.new.seat.me c.self.inside.notes _ c.self.inside.geometry.capacity (Push c.args.d) c.exchange-found.result c.args.shared.now c.exchange-found.new.seat.table_id c.self.invariant.seat c.exchange-found.ensures.at c.exchange-found.ensures.event
           (head_pushed c.self.inside.notes (view_in c.self.inside.bare.me.0) (view_in c.exchange-found.new.seat.me.0) c.args.d c.exchange-found.result c.in-Some.head.word c.cleared.result c.self.invariant.seat.kept c.exchange-found.ensures.event c.exchange-found.ensures.at.has is c.if-found-head.false c.cleared.ensures);
       marks_long = c.self.invariant.marks_long;
-      own = pushed_owned c.self.inside.owned (with_item c.self.inside.owned.stakes c.args.d stake.Nothing) (view_in c.self.inside.bare.me.0) (view_in c.exchange-found.new.seat.me.0) c.args.d c.exchange-found.result c.in-Some.head.word c.self.invariant.own c.exchange-found.ensures.event is c.if-found-head.false refl;
+      own = pushed_owned c.self.inside.owned (with_item c.self.inside.owned.ownerships c.args.d ownership.Nothing) (view_in c.self.inside.bare.me.0) (view_in c.exchange-found.new.seat.me.0) c.args.d c.exchange-found.result c.in-Some.head.word c.self.invariant.own c.exchange-found.ensures.event is c.if-found-head.false refl;
     }

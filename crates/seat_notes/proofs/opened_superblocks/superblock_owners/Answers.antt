@@ -1,12 +1,13 @@
 use Rattle.std.proofs.Common.{◌+◌, ◌-◌, ◌/◌, ap, sym, subst, ◌∙◌, get_or, length, refl, lt-ltb, slice_index, arith}
 use Rattle.heap_model.specs.Geometry.{capacity_word, start_word}
 use Rattle.core_model.proofs.PlaceLemmas.{not-lt}
-use Rattle.crash_core.specs.OpenedOwners.{IsLargeGiven}
-use Rattle.crash_core.proofs.PickedLemmas.{entry_of}
-use Rattle.crash_core.proofs.OpenedBlocks.{block_there}
-use Rattle.crash_core.proofs.OpenedSuperblocks.{HaveSuperblocks, large_at, small_given, large_given, all_given}
-use Rattle.crash_core.proofs.opened.superblock_owners.Goals.{then-block-ge-SUPERBLOCK_WORDS, else-block-ge-SUPERBLOCK_WORDS}
-use Rattle.crash_core.proofs.opened.superblock_owners.Goals as goal
+use Rattle.seat_notes.specs.OpenedSuperblocks.{IsLargeGiven}
+use Rattle.seat_notes.proofs.PickedLemmas.{entry_of}
+use Rattle.seat_notes.proofs.HeldSoFar.{block_there}
+use Rattle.seat_notes.proofs.OpenedSuperblocks.{HaveSuperblocks}
+use Rattle.seat_notes.proofs.OpenedSuperblocks.{large_at, small_given, large_given, all_given}
+use Rattle.seat_notes.proofs.opened_superblocks.superblock_owners.Goals.{then-block-ge-SUPERBLOCK_WORDS, else-block-ge-SUPERBLOCK_WORDS}
+use Rattle.seat_notes.proofs.opened_superblocks.superblock_owners.Goals as goal
 
 pub overflow_sub-d : goal.overflow_sub-d
 overflow_sub-d c =

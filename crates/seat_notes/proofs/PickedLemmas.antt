@@ -16,7 +16,7 @@ use Rattle.core_model.proofs.OpenLemmas.{small_at}
 use Rattle.core_model.proofs.OpenCountLemmas.{times_total}
 use Rattle.core_model.proofs.OpenedHeldLemmas.{owns_root}
 use Rattle.heap_model.proofs.ListLemmas.{one_at_most}
-use Rattle.crash_core.proofs.WordLemmas.{entry_is}
+use Rattle.seat_notes.proofs.WordLemmas.{entry_is}
 
 pub picked_more : {A : Type 0} (j : ℕ) (xs : List A) (os : List ℕ) (i : ℕ) (x : A) (o : ℕ) → i < length xs → get_or xs i x ≡ x → i < length os → get_or os i o ≡ o
     → picked j (take (suc i) xs) (take (suc i) os) ≡ picked j (take i xs) (take i os) ++ cond (nat_eq o j) (x ∷ []) []

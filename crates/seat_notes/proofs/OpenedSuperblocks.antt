@@ -16,15 +16,15 @@ use Rattle.core_model.proofs.PlaceLemmas.{pick, skip, not-eq}
 use Rattle.core_model.proofs.SpanLemmas.{range_is, range_not, cases_range}
 use Rattle.core_model.proofs.OpenLemmas.{picked_in, large_sum, span_from}
 use Rattle.core_model.proofs.OpenedLemmas as opened
-use Rattle.crash_core.specs.declared.owners.Share.{Share}
-use Rattle.crash_core.specs.declared.owners.Share.TheVariants as share
-use Rattle.crash_core.specs.declared.owners.SuperblockOwner.{SuperblockOwner}
-use Rattle.crash_core.specs.OpenedOwners.{AreSuperblockOwners, IsLargeGiven}
-use Rattle.crash_core.specs.Standing.{share_for, no_superblock, count_in, IsShare, HasSuperblocks, IsRange}
-use Rattle.crash_core.proofs.OpenedBlocks.{alone, for_one, block_there}
-use Rattle.crash_core.proofs.PickedLemmas.{picked_more, total_append, none_before, in_taken}
-use Rattle.crash_core.proofs.RangeLemmas.{range_theirs}
-use Rattle.crash_core.proofs.ShareLemmas.{share_own, share_theirs, shares_mine, shares_theirs, no_share}
+use Rattle.seat_notes.specs.declared.superblocks.SuperblockUsage.{SuperblockUsage}
+use Rattle.seat_notes.specs.declared.superblocks.SuperblockUsage.TheVariants as usage
+use Rattle.seat_notes.specs.declared.superblocks.SuperblockOwner.{SuperblockOwner}
+use Rattle.seat_notes.specs.OpenedSuperblocks.{AreSuperblockOwners, IsLargeGiven}
+use Rattle.seat_notes.specs.Superblocks.{usage_for, no_superblock, count_in, IsUsage, HasSuperblocks, IsRange}
+use Rattle.seat_notes.proofs.HeldSoFar.{alone, for_one, block_there}
+use Rattle.seat_notes.proofs.PickedLemmas.{picked_more, total_append, none_before, in_taken}
+use Rattle.seat_notes.proofs.RangeLemmas.{range_theirs}
+use Rattle.seat_notes.proofs.UsageLemmas.{usage_own, usage_theirs, usages_mine, usages_theirs, no_usage}
 
 -- the count of large blocks where one is added
 span_apart : (e : ℕ) (spans : List Span) (s : Span) → s.first ≢ e → span_count e (spans ++ (s ∷ [])) ≡ span_count e spans
@@ -59,11 +59,11 @@ pub record HaveSuperblocks (c : ℕ) (held : List Block) (owners : List ℕ) (i 
   pub each : (j : ℕ) → HasSuperblocks superblocks j [] [] [] [] (large_so_far c held owners i j)
 
 -- a superblock that a large block of the seat takes
-is_large : (e count : ℕ) (large : List Span) → times_large e large ≡ 1 → span_count e large ≡ count → IsShare e (share.Large count) [] [] [] [] large
+is_large : (e count : ℕ) (large : List Span) → times_large e large ≡ 1 → span_count e large ≡ count → IsUsage e (usage.Large count) [] [] [] [] large
 is_large e count large one is = record { is_raw = refl; is_split = refl; is_cutting = refl; is_classed = refl; class = refl; is_large = one; count = is }
 
--- a share where the seat's large blocks change elsewhere
-is_alike : (e : ℕ) (x : Share) (large large' : List Span) → times_large e large' ≡ times_large e large → span_count e large' ≡ span_count e large → IsShare e x [] [] [] [] large → IsShare e x [] [] [] [] large'
+-- what the seat has of a superblock where its large blocks change elsewhere
+is_alike : (e : ℕ) (x : SuperblockUsage) (large large' : List Span) → times_large e large' ≡ times_large e large → span_count e large' ≡ span_count e large → IsUsage e x [] [] [] [] large → IsUsage e x [] [] [] [] large'
 is_alike e x large large' times_same count_same s = record {
   is_raw = s.is_raw;
   is_split = s.is_split;
@@ -111,7 +111,7 @@ module _ (words : List ℕ) (held : List Block) (owners : List ℕ) (ready : IsR
     pub small_given : (superblocks : List SuperblockOwner) → HaveSuperblocks c held owners i superblocks → is_small p ≡ true → HaveSuperblocks c held owners (i + 1) superblocks
     small_given superblocks before small = subst (λ n. HaveSuperblocks c held owners n superblocks) (sym (add-one i)) (record {
       long = before.long;
-      each = λ j d. subst (IsShare d (share_for j (get_or superblocks d no_superblock)) [] [] [] []) (sym (no_more j (none (nat_eq o j)))) (before.each j d);
+      each = λ j d. subst (IsUsage d (usage_for j (get_or superblocks d no_superblock)) [] [] [] []) (sym (no_more j (none (nat_eq o j)))) (before.each j d);
     }) where
       none : (t : Bool) → large_blocks c (cond t (p ∷ []) []) ≡ []
       none true = ap (λ t. cond t [] (record { first = superblock_at c p.first_word; count = p.words / superblock_words } ∷ [])) small
@@ -149,20 +149,20 @@ module _ (words : List ℕ) (held : List Block) (owners : List ℕ) (ready : IsR
           ∙ none_before (large_part c e) j held (take i owners) i p below at (part_once e) part
 
       module _ (old : List SuperblockOwner) (before : HaveSuperblocks c held owners i old) where
-        nothing_yet : (j e : ℕ) → d ≤ e → e < d + n → share_for j (get_or old e no_superblock) ≡ share.Nothing
-        nothing_yet j e low high = no_share e (share_for j (get_or old e no_superblock)) [] [] [] [] (large_so_far c held owners i j) (before.each j e) (omega arith) refl (none_yet e j low high)
+        nothing_yet : (j e : ℕ) → d ≤ e → e < d + n → usage_for j (get_or old e no_superblock) ≡ usage.Nothing
+        nothing_yet j e low high = no_usage e (usage_for j (get_or old e no_superblock)) [] [] [] [] (large_so_far c held owners i j) (before.each j e) (omega arith) refl (none_yet e j low high)
 
         none_counted : (e j : ℕ) → d ≤ e → e < d + n → span_count e (large_so_far c held owners i j) ≡ 0
         none_counted e j low high = (before.each j e).count ∙ ap count_in (nothing_yet j e low high)
 
-        module _ (rest : List SuperblockOwner) (range : IsRange old rest d n (record { seat = o; share = share.Large 0 })) where
+        module _ (rest : List SuperblockOwner) (range : IsRange old rest d n (record { seat = o; usage = usage.Large 0 })) where
           less : d < length rest
           less = let l = range.long in let b = before.long in let f = (large_at p there large).2 in let s = some in omega arith
 
-          abbrev IsMine : ℕ → Share → Type 0
-          IsMine e x = IsShare e x [] [] [] [] (large_so_far c held owners (suc i) o)
+          abbrev IsMine : ℕ → SuperblockUsage → Type 0
+          IsMine e x = IsUsage e x [] [] [] [] (large_so_far c held owners (suc i) o)
 
-          first_mine : IsMine d (share.Large n)
+          first_mine : IsMine d (usage.Large n)
           first_mine = is_large d n (large_so_far c held owners (suc i) o)
               (let m = mine_times d in let z = none_yet d o (omega arith) (let s = some in omega arith) in let r = range_is d n d (omega arith) (let s = some in omega arith) in omega arith)
               (ap (span_count d) mine ∙ span_added d (large_so_far c held owners i o) span (some_each i o) (none_yet d o (omega arith) (let s = some in omega arith)) refl)
@@ -170,28 +170,28 @@ module _ (words : List ℕ) (held : List Block) (owners : List ℕ) (ready : IsR
           apart : (e : ℕ) → e ≢ d → span_count e (large_so_far c held owners (suc i) o) ≡ span_count e (large_so_far c held owners i o)
           apart e other = ap (span_count e) mine ∙ span_apart e (large_so_far c held owners i o) span (λ h. other (sym h))
 
-          rest_mine : (e : ℕ) → e ≢ d → IsMine e (share_for o (get_or rest e no_superblock))
+          rest_mine : (e : ℕ) → e ≢ d → IsMine e (usage_for o (get_or rest e no_superblock))
           rest_mine e other = elim (cases_range d n e) [
-            | inl here ↦ subst (IsMine e) (sym (ap (share_for o) (range.inside e here.0 here.1) ∙ share_own o (share.Large 0)))
+            | inl here ↦ subst (IsMine e) (sym (ap (usage_for o) (range.inside e here.0 here.1) ∙ usage_own o (usage.Large 0)))
                 (is_large e 0 (large_so_far c held owners (suc i) o)
                 (let m = mine_times e in let z = none_yet e o here.0 here.1 in let r = range_is d n e here.0 here.1 in omega arith)
                 (apart e other ∙ none_counted e o here.0 here.1))
-            | inr out ↦ subst (IsMine e) (sym (ap (share_for o) (range.outside e out)))
-                (is_alike e (share_for o (get_or old e no_superblock)) (large_so_far c held owners i o) (large_so_far c held owners (suc i) o)
+            | inr out ↦ subst (IsMine e) (sym (ap (usage_for o) (range.outside e out)))
+                (is_alike e (usage_for o (get_or old e no_superblock)) (large_so_far c held owners i o) (large_so_far c held owners (suc i) o)
                 (let m = mine_times e in let r = range_not d n e out in omega arith) (apart e other) (before.each o e))
           ]
 
           -- the superblocks of a large block are its seat's
-          large_given_on : HaveSuperblocks c held owners (i + 1) (set rest d (record { seat = o; share = share.Large n }))
-          large_given_on = subst (λ m. HaveSuperblocks c held owners m (set rest d (record { seat = o; share = share.Large n }))) (sym (add-one i)) (record {
-            long = length-set rest d (record { seat = o; share = share.Large n }) ∙ range.long ∙ before.long;
-            each = λ j. elim (cases_eq j o) as (λ _. HasSuperblocks (set rest d (record { seat = o; share = share.Large n })) j [] [] [] [] (large_so_far c held owners (suc i) j)) [
-              | inl same ↦ subst (λ m. HasSuperblocks (set rest d (record { seat = o; share = share.Large n })) m [] [] [] [] (large_so_far c held owners (suc i) m)) (sym same)
-                  (shares_mine rest o d (share.Large n) IsMine less first_mine rest_mine)
-              | inr other ↦ subst (HasSuperblocks (set rest d (record { seat = o; share = share.Large n })) j [] [] [] []) (sym (theirs j other))
-                  (shares_theirs rest o j d (share.Large n) (λ e x. IsShare e x [] [] [] [] (large_so_far c held owners i j)) less other
-                  (ap (share_for j) (range.inside d (omega arith) (let s = some in omega arith)) ∙ share_theirs o j (share.Large 0) other)
-                  (range_theirs old rest o j d n (share.Large 0) (λ e x. IsShare e x [] [] [] [] (large_so_far c held owners i j)) other range (λ e low high. nothing_yet j e low high) (before.each j)))
+          large_given_on : HaveSuperblocks c held owners (i + 1) (set rest d (record { seat = o; usage = usage.Large n }))
+          large_given_on = subst (λ m. HaveSuperblocks c held owners m (set rest d (record { seat = o; usage = usage.Large n }))) (sym (add-one i)) (record {
+            long = length-set rest d (record { seat = o; usage = usage.Large n }) ∙ range.long ∙ before.long;
+            each = λ j. elim (cases_eq j o) as (λ _. HasSuperblocks (set rest d (record { seat = o; usage = usage.Large n })) j [] [] [] [] (large_so_far c held owners (suc i) j)) [
+              | inl same ↦ subst (λ m. HasSuperblocks (set rest d (record { seat = o; usage = usage.Large n })) m [] [] [] [] (large_so_far c held owners (suc i) m)) (sym same)
+                  (usages_mine rest o d (usage.Large n) IsMine less first_mine rest_mine)
+              | inr other ↦ subst (HasSuperblocks (set rest d (record { seat = o; usage = usage.Large n })) j [] [] [] []) (sym (theirs j other))
+                  (usages_theirs rest o j d (usage.Large n) (λ e x. IsUsage e x [] [] [] [] (large_so_far c held owners i j)) less other
+                  (ap (usage_for j) (range.inside d (omega arith) (let s = some in omega arith)) ∙ usage_theirs o j (usage.Large 0) other)
+                  (range_theirs old rest o j d n (usage.Large 0) (λ e x. IsUsage e x [] [] [] [] (large_so_far c held owners i j)) other range (λ e low high. nothing_yet j e low high) (before.each j)))
             ];
           })
 

@@ -3,7 +3,7 @@ use Rattle.std.proofs.lemmas.Nat.{mul-le}
 use Rattle.heap_model.proofs.SizeLemmas.{few_words}
 use Rattle.heap_model.specs.Geometry.{largest_capacity_fits}
 use Rattle.heap_model.specs.Sizes.{words_of_class}
-use Rattle.crash_core.proofs.chains.first_free.Goals as goal
+use Rattle.seat_notes.proofs.anchors.first_free.Goals as goal
 
 pub overflow_mul-result : goal.overflow_mul-result
 overflow_mul-result c = let w : c.block_words.result ≡ words_of_class c.args.class.number = c.block_words.ensures.words in let f = few_words c.args.class.number c.args.class.is in let a = c.anchor_first.ensures in

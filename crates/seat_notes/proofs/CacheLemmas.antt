@@ -5,8 +5,8 @@ use Rattle.std.proofs.lemmas.List.{get_or-set_same, get_or-set_other}
 use Rattle.heap_model.specs.Geometry.{lists}
 use Rattle.core_model.specs.Effects.{first_of}
 use Rattle.core_model.proofs.BlockLemmas.{of_class_same, of_class_other}
-use Rattle.crash_core.specs.declared.owners.Cache.{Cache}
-use Rattle.crash_core.specs.Standing.{HasCaches}
+use Rattle.seat_notes.specs.declared.notes.Cache.{Cache}
+use Rattle.seat_notes.specs.Notes.{HasCaches}
 
 pub cache_set : (kept : List Cache) (caches : List (List ℕ)) (class : ℕ) (bs : List ℕ) (new : Cache) → HasCaches kept caches → class < lists → class < length caches
     → (1 ≤ length bs → first_of bs ≡ new.first) → length bs ≡ new.count → HasCaches (set kept class new) (set caches class bs)

@@ -1,7 +1,7 @@
 //! A heap at rest as it is opened for several seats.
 
 ghost use Rattle.std.specs.Prelude.{◌≡◌, ◌++◌, ◌∷◌, [], ℕ, List, IfOk};
-ghost use Rattle.crash_core.specs.OwnerLists.{OwnerLists};
+ghost use Rattle.seat_notes.specs.OwnerLists.{OwnerLists};
 ghost use Rattle.core_model.specs.Opening.{setup_of, opened_state};
 
 use std::alloc::{AllocError, Global};
@@ -16,7 +16,7 @@ pub struct Owners {
 }
 
 impl Model for Owners {
-    ghost use Rattle.crash_core.specs.OwnerLists.{OwnerLists};
+    ghost use Rattle.seat_notes.specs.OwnerLists.{OwnerLists};
 
     ghost Value = { OwnerLists };
 

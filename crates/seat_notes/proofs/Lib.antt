@@ -1,0 +1,12 @@
+pub mod WordLemmas
+pub mod CountLemmas
+pub mod EndLemmas
+pub mod BlockRanges
+pub mod DecisionLemmas
+pub mod CacheLemmas
+pub mod NewSeat
+pub mod UsageLemmas
+pub mod RangeLemmas
+pub mod PickedLemmas
+pub mod HeldSoFar
+pub mod OpenedSuperblocks

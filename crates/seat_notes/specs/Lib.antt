@@ -1,0 +1,5 @@
+pub mod Notes
+pub mod Superblocks
+pub mod OwnerLists
+pub mod OpenedSuperblocks
+pub mod Parts
