@@ -77,10 +77,6 @@ store_sees v u (root_cell i) value s = s
 store_sees v u (data_cell word) value s = record { used_look = s.used_look; head_looks = s.head_looks; wins = s.wins }
 store_sees v u no_cell value s = s
 
--- the other word keeps its value
-unchanged : (f : Cell → ℕ) (at : Cell) (x : ℕ) (cell : Cell) → (cell ≡ at → ⊥) → with_cell f at x cell ≡ f cell
-unchanged f at x cell other = with_other f at x cell other
-
 same_value : (f : Cell → ℕ) (at : Cell) (cell : Cell) → with_cell f at (f at) cell ≡ f cell
 same_value f at cell = by_test (same_cell cell at) refl where
   by_test : (test : Bool) → same_cell cell at ≡ test → cond test (f at) (f cell) ≡ f cell
@@ -152,8 +148,8 @@ looks_say k m v (Tick shift) good may steady = keeps_steady m (memory_after m v 
 looks_say k m v (Load word) good may steady = looks_steady m (cell_at v.setup.capacity word) (seat_after m v (Load word)) (keeps_steady m m v (seat_after m v (Load word)) (record { used_look = refl; head_looks = refl; wins = omega arith }) (λ e. refl) (λ list e. refl) steady)
 looks_say k m v (Store word value) good may steady = keeps_steady m (memory_after m v (Store word value)) v (seat_after m v (Store word value))
     (store_sees v _ (cell_at v.setup.capacity word) value (record { used_look = refl; head_looks = refl; wins = omega arith }))
-    (λ e. unchanged m.volatile (cell_at v.setup.capacity word) value used_cell (own_other v (cell_at v.setup.capacity word) may.ready.0 used_cell refl))
-    (λ list e. unchanged m.volatile (cell_at v.setup.capacity word) value (head_cell list) (own_other v (cell_at v.setup.capacity word) may.ready.0 (head_cell list) refl)) steady
+    (λ e. with_other m.volatile (cell_at v.setup.capacity word) value used_cell (own_other v (cell_at v.setup.capacity word) may.ready.0 used_cell refl))
+    (λ list e. with_other m.volatile (cell_at v.setup.capacity word) value (head_cell list) (own_other v (cell_at v.setup.capacity word) may.ready.0 (head_cell list) refl)) steady
 looks_say k m v (Settle word) good may steady = keeps_steady m (memory_after m v (Settle word)) v (seat_after m v (Settle word)) (record { used_look = refl; head_looks = refl; wins = omega arith }) (λ e. refl) (λ list e. refl) steady
 looks_say k m v LookUsed good may steady = looks_steady m used_cell (seat_after m v LookUsed) (look_used_steady m v steady (used m) refl (seat_after m v LookUsed) refl refl refl
     (λ list less. let long = (good.set_up 0 v (omega arith) refl).looks in omega arith))
