@@ -30,9 +30,6 @@ use Rattle.seat_rows.proofs.RowLemmas.{not_both, stops_later, view_row_none, vie
 abbrev as_core : Parts → CoreParts
 as_core p = record { setup = p.setup; small = p.small; large = p.large; roots = p.roots; caches = p.caches; batch = p.batch; raw = p.raw; split = p.split; cutting = p.cutting; classed = p.classed }
 
-pub owns_same : (v w : View) → parts w ≡ parts v → (cell : Cell) → times_own w cell ≡ times_own v cell
-owns_same v w same cell = own_same v w (ap as_core same) cell
-
 -- the same parts own the same words
 pub still_owns : (v w : View) → parts w ≡ parts v → (k : ℕ) → Owns v k → Owns w k
 still_owns v w same k own =

@@ -112,6 +112,6 @@ Pops list (Got d) v w = HasPopped list d v w
 Pops list (Empty head) v w = IsEmptyList list head v w
 
 -- the same of one try
-abbrev pub Tries : ℕ → Option Pop → View → View → Type 0
-Tries list None v w = HasLost list 3 v w
-Tries list (Some pop) v w = Pops list pop v w
+abbrev pub TriesPop : ℕ → Option Pop → View → View → Type 0
+TriesPop list None v w = HasLost list 3 v w
+TriesPop list (Some pop) v w = Pops list pop v w

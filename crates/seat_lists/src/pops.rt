@@ -6,7 +6,7 @@ ghost use Rattle.core_model.specs.Guards.{MayLink};
 ghost use Rattle.heap_model.specs.Geometry.{lists};
 ghost use Rattle.seat_rows.specs.Costs.{one_draw, one_win};
 ghost use Rattle.seat_rows.specs.Rows.{Row, Stops};
-ghost use Rattle.seat_lists.specs.Pops.{SeesHead, SeesLink, SeesFirst, Exchanges, Tries, Pops};
+ghost use Rattle.seat_lists.specs.Pops.{SeesHead, SeesLink, SeesFirst, Exchanges, TriesPop, Pops};
 
 use heap_rule::{Seat, Shared};
 use line_memory::{Chance, Stopped};
@@ -77,7 +77,7 @@ fn try_pop_from<C: Chance>(
 ) -> Result<Option<Pop>, Stopped>
     requires seat { IsSeatOf shared.now seat.old }
     requires list { list < lists }
-    ensures done { IfOk result (λ pop. Tries list pop seat.old.view seat.new.view) }
+    ensures done { IfOk result (λ pop. TriesPop list pop seat.old.view seat.new.view) }
     ensures stopped { IfErr result (λ e. Stops e.step seat.old.view seat.new.view) }
     ensures row { Row (record one_win { draws = 3 }) seat.old seat.new }
     ensures seat { IsSeatOf shared.now seat.new }

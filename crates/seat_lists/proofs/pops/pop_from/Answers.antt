@@ -1,7 +1,7 @@
 use Rattle.std.proofs.Common.{inl, subst}
 use Rattle.seat_rows.proofs.RowLemmas.{marks_behind}
 use Rattle.std.proofs.lemmas.Result.{err_from_is_err_and}
-use Rattle.seat_lists.specs.Pops.{Tries}
+use Rattle.seat_lists.specs.Pops.{TriesPop}
 use Rattle.seat_lists.proofs.PopLemmas.{tries_begin, tries_less, tries_on, tries_row, tries_stop}
 use Rattle.seat_lists.proofs.pops.pop_from.Goals as goal
 
@@ -22,14 +22,14 @@ returns-in_err-pop-clause-row g c =
 pub loop-pop-preserved : goal.loop-pop-preserved
 loop-pop-preserved g c = record {
   trying = tries_on c.args.list c.args.seat.now.view c.loop-pop.seat.view c.try_pop_from.new.seat.view c.loop-pop.invariant.trying
-      (subst (λ pop. Tries c.args.list pop c.loop-pop.seat.view c.try_pop_from.new.seat.view) c.in_default.is c.in_ok-pop.ensures.done);
+      (subst (λ pop. TriesPop c.args.list pop c.loop-pop.seat.view c.try_pop_from.new.seat.view) c.in_default.is c.in_ok-pop.ensures.done);
   marks = marks_behind c.args.seat.now c.loop-pop.seat c.try_pop_from.new.seat c.loop-pop.invariant.trying.row c.loop-pop.invariant.marks c.try_pop_from.ensures.row;
   is_of = c.try_pop_from.ensures.seat;
 }
 
 pub loop-pop-smaller : goal.loop-pop-smaller
 loop-pop-smaller g c =
-    tries_less c.args.list c.loop-pop.seat.view c.try_pop_from.new.seat.view (subst (λ pop. Tries c.args.list pop c.loop-pop.seat.view c.try_pop_from.new.seat.view) c.in_default.is c.in_ok-pop.ensures.done)
+    tries_less c.args.list c.loop-pop.seat.view c.try_pop_from.new.seat.view (subst (λ pop. TriesPop c.args.list pop c.loop-pop.seat.view c.try_pop_from.new.seat.view) c.in_default.is c.in_ok-pop.ensures.done)
 
 pub returns-in-Some-clause-row : goal.returns-in-Some-clause-row
 returns-in-Some-clause-row g c = record {
