@@ -102,9 +102,9 @@ Takes n (Got d) v w = HasTakenFresh n d v w
 Takes n (Past used) v w = IsPast n used v w
 
 -- the same of one try
-abbrev pub Tries : ℕ → Option Take → View → View → Type 0
-Tries n None v w = HasLostMark 2 v w
-Tries n (Some take) v w = Takes n take v w
+abbrev pub TriesTake : ℕ → Option Take → View → View → Type 0
+TriesTake n None v w = HasLostMark 2 v w
+TriesTake n (Some take) v w = Takes n take v w
 
 -- each superblock that was taken is claimed, and in no sound state that has the view by another seat too
 abbrev pub AreInThisHandAlone : ℕ → Take → View → Type 0

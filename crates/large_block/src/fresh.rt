@@ -4,7 +4,7 @@ ghost use Rattle.heap_rule.specs.Seated.{IsSeatOf};
 ghost use Rattle.std.specs.Prelude.{◌≡◌, ◌≤◌, ◌+◌, ◌-◌, ◌*◌, ℕ, Some, IfOk, OnOk, IfErr};
 ghost use Rattle.seat_rows.specs.Costs.{no_costs, one_draw, one_win};
 ghost use Rattle.seat_rows.specs.Rows.{Row, Stops};
-ghost use Rattle.large_block.specs.Fresh.{AreInThisHandAlone, HasKept, Marks, SeesMark, Takes, Tries};
+ghost use Rattle.large_block.specs.Fresh.{AreInThisHandAlone, HasKept, Marks, SeesMark, Takes, TriesTake};
 
 use heap_rule::{Seat, Shared};
 use line_memory::{Chance, Stopped};
@@ -77,7 +77,7 @@ fn try_take<C: Chance>(
 ) -> Result<Option<Take>, Stopped>
     requires seat { IsSeatOf shared.now seat.old }
     requires some { 1 ≤ n }
-    ensures done { IfOk result (λ take. Tries n take seat.old.view seat.new.view) }
+    ensures done { IfOk result (λ take. TriesTake n take seat.old.view seat.new.view) }
     ensures stopped { IfErr result (λ e. Stops e.step seat.old.view seat.new.view) }
     ensures row { Row (record no_costs { draws = 3; wins = 1; taken = n }) seat.old seat.new }
     ensures seat { IsSeatOf shared.now seat.new }

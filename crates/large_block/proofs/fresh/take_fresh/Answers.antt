@@ -1,7 +1,7 @@
 use Rattle.std.proofs.Common.{inl, subst}
 use Rattle.std.proofs.lemmas.Result.{err_from_is_err_and}
 use Rattle.seat_rows.proofs.RowLemmas.{marks_behind}
-use Rattle.large_block.specs.Fresh.{Tries}
+use Rattle.large_block.specs.Fresh.{TriesTake}
 use Rattle.large_block.proofs.FreshLemmas.{alone, tries_begin, tries_less, tries_on, tries_row, tries_stop}
 use Rattle.large_block.proofs.fresh.take_fresh.Goals as goal
 
@@ -21,14 +21,14 @@ returns-in_err-take-clause-row g c = record {
 pub loop-take-preserved : goal.loop-take-preserved
 loop-take-preserved g c = record {
   trying = tries_on c.args.seat.now.view c.loop-take.seat.view c.try_take.new.seat.view c.loop-take.invariant.trying
-      (subst (λ take. Tries c.args.n take c.loop-take.seat.view c.try_take.new.seat.view) c.in_default.is c.in_ok-take.ensures.done);
+      (subst (λ take. TriesTake c.args.n take c.loop-take.seat.view c.try_take.new.seat.view) c.in_default.is c.in_ok-take.ensures.done);
   marks = marks_behind c.args.seat.now c.loop-take.seat c.try_take.new.seat c.loop-take.invariant.trying.row c.loop-take.invariant.marks c.try_take.ensures.row;
   is_of = c.try_take.ensures.seat;
 }
 
 pub loop-take-smaller : goal.loop-take-smaller
 loop-take-smaller g c =
-    tries_less c.loop-take.seat.view c.try_take.new.seat.view (subst (λ take. Tries c.args.n take c.loop-take.seat.view c.try_take.new.seat.view) c.in_default.is c.in_ok-take.ensures.done)
+    tries_less c.loop-take.seat.view c.try_take.new.seat.view (subst (λ take. TriesTake c.args.n take c.loop-take.seat.view c.try_take.new.seat.view) c.in_default.is c.in_ok-take.ensures.done)
 
 pub returns-in-Some-clause-row : goal.returns-in-Some-clause-row
 returns-in-Some-clause-row g c = record {
@@ -38,4 +38,4 @@ returns-in-Some-clause-row g c = record {
 
 pub returns-in-Some-clause-alone : goal.returns-in-Some-clause-alone
 returns-in-Some-clause-alone g c = alone c.a_claimed_superblock_is_in_one_hand.ensures c.loop-take.seat.view c.try_take.new.seat.view c.args.n c.in-Some.take
-    (subst (λ take. Tries c.args.n take c.loop-take.seat.view c.try_take.new.seat.view) c.in-Some.is c.in_ok-take.ensures.done)
+    (subst (λ take. TriesTake c.args.n take c.loop-take.seat.view c.try_take.new.seat.view) c.in-Some.is c.in_ok-take.ensures.done)
