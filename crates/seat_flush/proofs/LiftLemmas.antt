@@ -20,7 +20,9 @@ use Rattle.core_model.specs.View.{Batch, View, Setup, no_batch, of_class, times_
 use Rattle.core_model.proofs.OwnerLemmas.{in_lists_total}
 use Rattle.core_model.proofs.PlaceLemmas.{cell_at_index}
 use Rattle.core_model.proofs.TotalLemmas.{eq-eqb-one}
-use Rattle.seat_notes.proofs.EndLemmas.{last_there}
+use Rattle.core_model.proofs.BlockLemmas.{first_there}
+use Rattle.core_model.proofs.ShiftLemmas.{first_rest}
+use Rattle.seat_notes.proofs.EndLemmas.{last_append, last_there, rest_first}
 use Rattle.seat_notes.proofs.BlockRanges.{in_classes_word}
 use Rattle.heap_rule.specs.Fences.{Owns}
 use Rattle.heap_table.specs.Plays.{HasSoundState, IsEvent}
@@ -39,16 +41,6 @@ use Rattle.seat_rows.proofs.WordLemmas.{learned_word, word_then}
 use Rattle.seat_lists.proofs.PopLemmas.{drawn_as, still_owns}
 use Rattle.seat_flush.specs.Lifts.{HasLifted, HasLiftedPrefix, IsLifting, lift_costs, with_lifted}
 
-first_there : (bs : List ℕ) → 1 ≤ length bs → 0 < times (first_of bs) bs
-first_there [] some = absurd (omega arith)
-first_there (b ∷ bs) some = let one = eq-eqb-one b b refl in omega arith
-
--- where a cache's first block leads
-next_is : (next : ℕ → ℕ) (bs : List ℕ) → Walks next (first_of bs) bs → 1 ≤ length (rest_of bs) → next (first_of bs) ≡ first_of (rest_of bs)
-next_is next [] walks some = absurd (omega arith)
-next_is next (b ∷ []) walks some = absurd (omega arith)
-next_is next (b ∷ c ∷ bs) walks some = walks.1.0
-
 module _ (v : View) (has : HasSoundState v) (class : ℕ) (can : CanLift v class) where
   abbrev b : ℕ
   b = first_of (of_class v.caches class)
@@ -66,7 +58,7 @@ module _ (v : View) (has : HasSoundState v) (class : ℕ) (can : CanLift v class
 
   pub first_next : (s : HasSoundState v) → 1 ≤ length (rest_of (of_class v.caches class)) → (memory_of v.setup.capacity s.words).volatile (cell_at v.setup.capacity b) ≡ first_of (rest_of (of_class v.caches class))
   first_next s some = ap (λ (cell : Cell). (memory_of v.setup.capacity s.words).volatile cell) first_cell
-      ∙ next_is (next (memory_of v.setup.capacity s.words)) (of_class v.caches class) ((s.sound.good.blocks s.seat v s.below s.at).cache_linked class) some
+      ∙ sym (rest_first (next (memory_of v.setup.capacity s.words)) (of_class v.caches class) ((s.sound.good.blocks s.seat v s.below s.at).cache_linked class) some)
 
   last_shown : 1 ≤ length v.batch.blocks → Owns v (last_of v.batch.blocks)
   last_shown some = let there = last_there v.batch.blocks some in
@@ -164,19 +156,9 @@ can_load v u has class first can drawn is = subst (λ y. Can y (Load first)) (sy
   shown = subst (λ n. IsOwn (drawn_as v drawn.ticket u) (cell_at v.setup.capacity n)) (sym is) (still_owns v (drawn_as v drawn.ticket u) refl (first_of (of_class v.caches class)) (first_own v has class can));
 })
 
--- a cache that has blocks, by its first one
-pub by_first : (bs : List ℕ) → 1 ≤ length bs → bs ≡ first_of bs ∷ rest_of bs
-by_first [] some = absurd (omega arith)
-by_first (b ∷ bs) some = refl
-
 append_again : (bs : List ℕ) (b : ℕ) (cs : List ℕ) → (bs ++ b ∷ []) ++ cs ≡ bs ++ b ∷ cs
 append_again [] b cs = refl
 append_again (x ∷ bs) b cs = ap (λ l. x ∷ l) (append_again bs b cs)
-
-last_added : (bs : List ℕ) (b : ℕ) → last_of (bs ++ b ∷ []) ≡ b
-last_added [] b = refl
-last_added (a ∷ []) b = refl
-last_added (a ∷ c ∷ bs) b = last_added (c ∷ bs) b
 
 pub lifts_begin : (v : View) (class : ℕ) → IsClass class → 1 ≤ length (of_class v.caches class) → v.batch ≡ no_batch → CanLift v class
 lifts_begin v class is some none = let empty = ap (λ (x : Batch). length x.blocks) none in record {
@@ -196,7 +178,7 @@ lifting_one v w class first some none is lifted row = record {
   more = lifted.more;
   lifted = first ∷ [];
   rest = rest_of (of_class v.caches class);
-  both = by_first (of_class v.caches class) some ∙ ap (λ b. b ∷ rest_of (of_class v.caches class)) (sym is);
+  both = first_rest (of_class v.caches class) some ∙ ap (λ b. b ∷ rest_of (of_class v.caches class)) (sym is);
   parts_are = lifted.parts_are
       ∙ ap (λ (x : Batch). record (parts v) { caches = set v.caches class (rest_of (of_class v.caches class)); batch = record { descriptor = superblock_at v.setup.capacity first; class = class; blocks = x.blocks ++ first ∷ []; linked = true } }) none;
   some = omega arith;
@@ -236,7 +218,7 @@ module _ (v : View) (has : HasSoundState v) (class : ℕ) (is : IsClass class) w
     module _ (w : View) (next : ℕ) (some : 1 ≤ length (of_class t.caches class)) (next_is : next ≡ first_of (of_class t.caches class)) (at : superblock_at v.setup.capacity (first_of (of_class t.caches class)) ≡ d)
         (lifted : HasLifted class next t w) (row : ViewRow (record no_costs { draws = 2 }) t w) where
       rest_is : lifting.rest ≡ next ∷ rest_of lifting.rest
-      rest_is = by_first lifting.rest (subst (λ bs. 1 ≤ length bs) lifting_cache some) ∙ ap (λ b. b ∷ rest_of lifting.rest) (ap first_of (sym lifting_cache) ∙ sym next_is)
+      rest_is = first_rest lifting.rest (subst (λ bs. 1 ≤ length bs) lifting_cache some) ∙ ap (λ b. b ∷ rest_of lifting.rest) (ap first_of (sym lifting_cache) ∙ sym next_is)
 
       many : length (lifting.lifted ++ next ∷ []) ≡ length lifting.lifted + 1
       many = length-append lifting.lifted (next ∷ [])
@@ -259,7 +241,7 @@ module _ (v : View) (has : HasSoundState v) (class : ℕ) (is : IsClass class) w
             ∙ ap (λ n. record (parts v) { caches = set v.caches class (rest_of lifting.rest); batch = record { descriptor = n; class = class; blocks = lifting.lifted ++ next ∷ []; linked = true } }) (ap (superblock_at v.setup.capacity) next_is ∙ at);
         some = omega (arith, many);
         together = All-push (λ b. superblock_at v.setup.capacity b ≡ d) lifting.lifted next lifting.together (ap (superblock_at v.setup.capacity) next_is ∙ at);
-        last_is = last_added lifting.lifted next;
+        last_is = last_append lifting.lifted next;
         link = subst (λ bs. 1 ≤ length (rest_of bs) → Shows w (data_cell next) (first_of (rest_of bs))) lifting_cache lifted.link;
         row = let m = many in view_row_within (lift_costs (length (lifting.lifted ++ next ∷ []))) v w (record { draws = omega arith; wins = omega arith; gives = omega arith; cuts = omega arith; taken = omega arith; moves = omega arith }) (view_row_then v t w lifting.row row);
       }
