@@ -35,7 +35,7 @@ use Rattle.seat_rows.proofs.WordLemmas.{owns_held, still_held}
 use Rattle.seat_fill.specs.Refills.{IsFilledInOrder}
 use Rattle.seat_calls.specs.Large.{AllocatesNoLarge, HasAllocatedLarge, HasFreedLarge, large_costs, large_free_costs}
 use Rattle.seat_calls.specs.Requests.{Answers, IsGivenBack, IsGranted, IsRefused, IsSmallBlock, IsSpan, MayBeGivenBack, by_class, by_span, light_free_costs, light_request, most_free_costs, of_a_class, of_a_span, request_costs}
-use Rattle.seat_calls.specs.Small.{AllocatesNone, HasAllocated, HasFreed, IfGoing, IsHeldOutside, MayHaveFreed, alloc_costs, block_of, free_costs, light_alloc}
+use Rattle.seat_calls.specs.Small.{AllocatesNone, HasAllocated, HasFreed, IfGoing, IsHeldOutside, MayHoldLess, alloc_costs, block_of, free_costs, light_alloc}
 
 -- a span has a superblock at least
 some_span : (bytes : ℕ) → 1 ≤ span_of bytes

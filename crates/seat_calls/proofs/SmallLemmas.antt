@@ -18,7 +18,7 @@ use Rattle.core_model.specs.Guards.{IsOwn}
 use Rattle.core_model.specs.View.{Batch, View, of_class, times_block, no_batch}
 use Rattle.core_model.proofs.OwnerLemmas.{in_lists_total}
 use Rattle.core_model.proofs.PlaceLemmas.{and_both, and_is, cell_at_index, not-eq, skip}
-use Rattle.core_model.proofs.ShiftLemmas.{in_classes_set, within_without}
+use Rattle.core_model.proofs.ShiftLemmas.{first_rest, in_classes_set, within_without}
 use Rattle.seat_notes.proofs.EndLemmas.{last_there}
 use Rattle.seat_notes.proofs.BlockRanges.{in_classes_word}
 use Rattle.heap_rule.specs.Fences.{Owns}
@@ -42,7 +42,7 @@ use Rattle.seat_rows.specs.Words.{IsHeldWord, times_held}
 use Rattle.seat_rows.proofs.DrawLemmas.{early_rest, early_words, row_of_stop, shifted_is, stops}
 use Rattle.seat_rows.proofs.RowLemmas.{but_fewer, but_then, row_but, stops_passed}
 use Rattle.seat_rows.proofs.WordLemmas.{owns_held, still_held}
-use Rattle.seat_calls.specs.Small.{HasAllocated, HasCached, HasFreed, HasWay, IsHeldOutside, MayHaveFreed, block_of, free_costs, with_freed}
+use Rattle.seat_calls.specs.Small.{HasAllocated, HasCached, HasFreed, HasWay, IsHeldOutside, MayHoldLess, block_of, free_costs, with_freed}
 
 -- a held block is the seat's once, and so neither cached nor in the batch
 module _ (v : View) (has : HasSoundState v) (class block : ℕ) (is : IsClass class) (held : 0 < times block (of_class v.small class)) where
@@ -146,9 +146,9 @@ module _ (v : View) (has : HasSoundState v) (class block : ℕ) (is : IsClass cl
     free_stopped passes (Ok x) going = tt
     free_stopped passes (Err e) told = stops_passed v t w e.step way.ran way.going passes (stops t early settles (Some (Free block)) w found event e.step way.going told)
 
-    pub may_have_freed : MayHaveFreed block class v w
-    may_have_freed = by_stop w.stopped refl where
-      by_stop : (o : Option ℕ) → w.stopped ≡ o → MayHaveFreed block class v w
+    pub may_hold_less : MayHoldLess block class v w
+    may_hold_less = by_stop w.stopped refl where
+      by_stop : (o : Option ℕ) → w.stopped ≡ o → MayHoldLess block class v w
       by_stop None going = let p = (cached going).parts_are in record { large = ap (λ (x : Parts). x.large) p; small = inr (ap (λ (x : Parts). x.small) p) }
       by_stop (Some step) stop = let row = row_of_stop t early settles (Some (Free block)) w found event step way.going stop in record {
         large = row.large ∙ ap (λ (x : Parts). x.large) way.parts_are;
@@ -186,7 +186,7 @@ module _ (v : View) (class block : ℕ) (below : class < length v.small) (held :
       omega (arith, all, some, none)
   held_words k no_cell at out = refl
 
-  pub held_outside : (w : View) → w.setup ≡ v.setup → w.roots ≡ v.roots → MayHaveFreed block class v w → (k : ℕ) → IsHeldOutside v (block_of class block) k → IsHeldWord w k
+  pub held_outside : (w : View) → w.setup ≡ v.setup → w.roots ≡ v.roots → MayHoldLess block class v w → (k : ℕ) → IsHeldOutside v (block_of class block) k → IsHeldWord w k
   held_outside w setup roots may k kept = elim may.small as (λ _. IsHeldWord w k) [
     | inl same ↦ still_held v w setup same may.large roots k kept.0
     | inr less ↦ still_held without_it w setup less may.large roots k
@@ -210,7 +210,7 @@ lead_row v t class block is storing = but_fewer (IsHeldOutside v.view (block_of 
 
 -- the store, and the draw with the change
 pub freed_row : (v t w : SeatView) (has : HasSoundState v.view) (class block : ℕ) (is : IsClass class) (held : 0 < times block (of_class v.view.small class))
-    → StoringRow block one_draw v t → HoldingRow one_draw t w → MayHaveFreed block class v.view w.view
+    → StoringRow block one_draw v t → HoldingRow one_draw t w → MayHoldLess block class v.view w.view
     → RowBut (IsHeldOutside v.view (block_of class block)) (record no_costs { draws = 2 }) v w
 freed_row v t w has class block is held storing holding may = but_then v t w
     (but_fewer Kept one_draw v t (λ k kept. (kept.0, λ same. kept.1 (subst (IsIn (block_of class block)) (sym same) (is_first class block is)))) within_itself storing.but)
@@ -263,14 +263,14 @@ module _ (v t : View) (has : HasSoundState v) (class block : ℕ) (is : IsClass 
   pub idle_still : IsIdle v → t.batch ≡ no_batch
   idle_still idle = ap (λ (p : Parts). p.batch) cached.parts_are ∙ idle.batch
 
-pub freed_behind : {a : Costs} (v w x : SeatView) (class block : ℕ) → MayHaveFreed block class v.view w.view → Row a w x → MayHaveFreed block class v.view x.view
+pub freed_behind : {a : Costs} (v w x : SeatView) (class block : ℕ) → MayHoldLess block class v.view w.view → Row a w x → MayHoldLess block class v.view x.view
 freed_behind v w x class block may row = record {
   large = row.view.large ∙ may.large;
   small = elim may.small [ inl same ↦ inl (row.view.small ∙ same) | inr less ↦ inr (row.view.small ∙ less) ];
 }
 
 -- a free, and the flush behind it
-pub flushed_row : (v t w : SeatView) (has : HasSoundState v.view) (class block : ℕ) (is : IsClass class) (held : 0 < times block (of_class v.view.small class)) → MayHaveFreed block class v.view t.view → length (of_class t.view.caches class) ≤ blocks_of class
+pub flushed_row : (v t w : SeatView) (has : HasSoundState v.view) (class block : ℕ) (is : IsClass class) (held : 0 < times block (of_class v.view.small class)) → MayHoldLess block class v.view t.view → length (of_class t.view.caches class) ≤ blocks_of class
     → RowBut (IsHeldOutside v.view (block_of class block)) (record no_costs { draws = 2 }) v t → Row (cache_costs t.view class) t w → RowBut (IsHeldOutside v.view (block_of class block)) (free_costs (blocks_of class)) v w
 flushed_row v t w has class block is held may few row flush = let runs = runs_few t.view.setup.capacity (of_class t.view.caches class) in
     but_fewer Kept (free_costs (blocks_of class)) v w (λ k kept. kept)
@@ -289,10 +289,6 @@ rest_length : (bs : List ℕ) → 1 ≤ length bs → length (rest_of bs) + 1 �
 rest_length [] some = absurd (omega (arith, some))
 rest_length (b ∷ bs) some = omega arith
 
-first_and_rest : (bs : List ℕ) → 1 ≤ length bs → bs ≡ first_of bs ∷ rest_of bs
-first_and_rest [] some = absurd (omega (arith, some))
-first_and_rest (b ∷ bs) some = refl
-
 module _ (v early w : View) (class found : ℕ) (settles : Settles v early) (event : IsEvent (Tick (Some (Alloc class))) early found w) where
   pub allocated : (first words : ℕ) → 1 ≤ length (of_class v.caches class) → length (of_class v.caches class) ≤ blocks_of class → first ≡ first_of (of_class v.caches class) → words ≡ words_of_class class → w.stopped ≡ None
       → HasAllocated class (record { first_word = first; words = words }) v w
@@ -300,7 +296,7 @@ module _ (v early w : View) (class found : ℕ) (settles : Settles v early) (eve
     going = going;
     size = size;
     cache = rest_of (of_class v.caches class);
-    first = λ _. first_and_rest (of_class v.caches class) some ∙ ap (λ b. b ∷ rest_of (of_class v.caches class)) (sym is);
+    first = λ _. first_rest (of_class v.caches class) some ∙ ap (λ b. b ∷ rest_of (of_class v.caches class)) (sym is);
     short = let rest = rest_length (of_class v.caches class) some in omega (arith, rest, most);
     parts_are = ap parts (shifted_is v early settles (Some (Alloc class)) w found event going)
         ∙ ap (λ b. record (parts v) { small = set v.small class (b ∷ of_class v.small class); caches = set v.caches class (rest_of (of_class v.caches class)) }) (sym is);

@@ -14,7 +14,7 @@ use Rattle.seat_rows.specs.Rows.{Stops}
 use Rattle.seat_fill.specs.Refills.{IsFull}
 use Rattle.large_block.specs.Splits.{MayHaveSplit}
 use Rattle.seat_calls.specs.Large.{HasAllocatedLarge, HasFreedLarge, HasNoRoom}
-use Rattle.seat_calls.specs.Small.{HasAllocated, HasFreed, MayHaveFreed}
+use Rattle.seat_calls.specs.Small.{HasAllocated, HasFreed, MayHoldLess}
 
 -- the block is one of the least class that holds so many bytes, or of as many superblocks as they take
 pub data IsGranted (bytes : ℕ) (b : Block) (v w : View) : Type 0 where
@@ -55,7 +55,7 @@ pub data IsGivenBack (b : Block) (v w : View) : Type 0 where
 
 -- at most it is held no more
 pub data MayBeGivenBack (b : Block) (v w : View) : Type 0 where
-  of_a_class : (class : ℕ) → IsSmallBlock class b v → MayHaveFreed b.first_word class v w → MayBeGivenBack b v w
+  of_a_class : (class : ℕ) → IsSmallBlock class b v → MayHoldLess b.first_word class v w → MayBeGivenBack b v w
   of_a_span : (d : ℕ) → IsSpan d b v → MayHaveSplit d v w → MayBeGivenBack b v w
 
 -- what the freeing of a block may cost at most; and where no batch is given and no large block is freed

@@ -66,7 +66,7 @@ pub record HasFreed (block class : ℕ) (v w : View) : Type 0 where
   pub parts_are : parts w ≡ with_freed class block cache (parts v)
 
 -- the block may be held no more; all others are, as before
-pub record MayHaveFreed (block class : ℕ) (v w : View) : Type 0 where
+pub record MayHoldLess (block class : ℕ) (v w : View) : Type 0 where
   pub large : w.large ≡ v.large
   pub small : (w.small ≡ v.small) ⊎ (w.small ≡ set v.small class (without block (of_class v.small class)))
 

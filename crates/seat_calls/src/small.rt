@@ -10,7 +10,7 @@ ghost use Rattle.seat_rows.specs.Costs.{no_costs, one_draw};
 ghost use Rattle.seat_rows.specs.Idle.{HasShortCaches, IsIdle};
 ghost use Rattle.seat_rows.specs.Rows.{HoldingRow, Row, RowBut, SameLooks, Stops, StoringRow, next_of};
 ghost use Rattle.seat_fill.specs.Refills.{IsFilledInOrder};
-ghost use Rattle.seat_calls.specs.Small.{AllocatesNone, HasAllocated, HasCached, HasFreed, HasWay, IfGoing, IsHeldOutside, MayHaveFreed, alloc_costs, block_of, free_costs, light_alloc};
+ghost use Rattle.seat_calls.specs.Small.{AllocatesNone, HasAllocated, HasCached, HasFreed, HasWay, IfGoing, IsHeldOutside, MayHoldLess, alloc_costs, block_of, free_costs, light_alloc};
 
 use core_model::Shift;
 use heap_rule::{Seat, Shared};
@@ -139,7 +139,7 @@ fn free_cached<C: Chance>(
     requires seat { IsSeatOf shared.now seat.old }
     requires held { 0 < times block (of_class seat.old.view.small class.number) }
     ensures cached { OnOk result (HasCached block class.number seat.old.view seat.new.view) }
-    ensures may { MayHaveFreed block class.number seat.old.view seat.new.view }
+    ensures may { MayHoldLess block class.number seat.old.view seat.new.view }
     ensures stopped { IfErr result (λ e. Stops e.step seat.old.view seat.new.view) }
     ensures drew { seat.old.view.stopped ≡ None → next_of seat.old.view < next_of seat.new.view }
     ensures row { RowBut (IsHeldOutside seat.old.view (block_of class.number block))
@@ -169,7 +169,7 @@ pub fn free_small<C: Chance>(
     requires idle { IsIdle seat.old.view }
     requires short { HasShortCaches seat.old.view }
     ensures freed { OnOk result (HasFreed block class.number seat.old.view seat.new.view) }
-    ensures may { MayHaveFreed block class.number seat.old.view seat.new.view }
+    ensures may { MayHoldLess block class.number seat.old.view seat.new.view }
     ensures stopped { IfErr result (λ e. Stops e.step seat.old.view seat.new.view) }
     ensures drew { next_of seat.old.view < next_of seat.new.view }
     ensures light { length (of_class seat.old.view.caches class.number) + 1

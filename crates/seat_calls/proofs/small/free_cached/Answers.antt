@@ -1,6 +1,6 @@
 use Rattle.seat_rows.proofs.ShiftLemmas.{shift_row}
 use Rattle.core_model.specs.declared.event.Shift.TheVariants.{Free}
-use Rattle.seat_calls.proofs.SmallLemmas.{cached_told, free_stopped, freed_row, lead_row, may_have_freed}
+use Rattle.seat_calls.proofs.SmallLemmas.{cached_told, free_stopped, freed_row, lead_row, may_hold_less}
 use Rattle.seat_calls.proofs.small.free_cached.Goals as goal
 
 pub returns-in_err-lead_to_cache-clause-row : goal.returns-in_err-lead_to_cache-clause-row
@@ -12,7 +12,7 @@ returns-clause-cached g c = let way = c.in_ok-lead_to_cache.ensures.way in let e
 
 pub returns-clause-may : goal.returns-clause-may
 returns-clause-may g c = let way = c.in_ok-lead_to_cache.ensures.way in let e = c.draw_with.ensures.event way.going in
-    may_have_freed c.args.seat.now.view c.has_a_sound_state.ensures c.args.class.number c.args.block c.args.class.is c.requires.held c.lead_to_cache.new.seat.view e.0 c.draw_with.new.seat.view e.2 way e.1 e.3
+    may_hold_less c.args.seat.now.view c.has_a_sound_state.ensures c.args.class.number c.args.block c.args.class.is c.requires.held c.lead_to_cache.new.seat.view e.0 c.draw_with.new.seat.view e.2 way e.1 e.3
 
 pub returns-clause-stopped : goal.returns-clause-stopped
 returns-clause-stopped g c = let way = c.in_ok-lead_to_cache.ensures.way in let e = c.draw_with.ensures.event way.going in
@@ -24,4 +24,4 @@ returns-clause-row g c = let way = c.in_ok-lead_to_cache.ensures.way in let e = 
     let v = c.args.seat.now in let t = c.lead_to_cache.new.seat in let w = c.draw_with.new.seat in
     freed_row v t w c.has_a_sound_state.ensures c.args.class.number c.args.block c.args.class.is c.requires.held c.lead_to_cache.ensures.row
     (shift_row t w c.draw_with.ensures.stores e.0 e.1 way.going e.2 (Free c.args.block) e.3)
-    (may_have_freed v.view c.has_a_sound_state.ensures c.args.class.number c.args.block c.args.class.is c.requires.held t.view e.0 w.view e.2 way e.1 e.3)
+    (may_hold_less v.view c.has_a_sound_state.ensures c.args.class.number c.args.block c.args.class.is c.requires.held t.view e.0 w.view e.2 way e.1 e.3)
