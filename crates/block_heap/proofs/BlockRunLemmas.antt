@@ -15,7 +15,7 @@ use Rattle.heap_shape.specs.Standing.{first_of, HasFreeBlocks}
 use Rattle.heap_shape.specs.Whole.{IsShape}
 use Rattle.heap_shape.specs.Effects.{IsInSuperblock}
 use Rattle.heap_shape.specs.Moves.{after_give, after_give_full, after_give_all}
-use Rattle.heap_shape.proofs.BasicLemmas.{with_at_same, walks_same, first_inside, in_class_list}
+use Rattle.heap_shape.proofs.BasicLemmas.{with_at_same, first_inside, in_class_list}
 use Rattle.line_memory.specs.View.{View, volatile_at}
 use Rattle.anchor_word.specs.declared.anchor.Anchor.{Anchor}
 use Rattle.anchor_word.specs.declared.anchor.State.TheVariants.{Full}
@@ -31,7 +31,7 @@ use Rattle.block_heap.specs.Returns.{CachesAlong, GivesInRuns, GivesPrefix, IsLo
 use Rattle.block_heap.specs.Running.{IsRunning}
 use Rattle.block_heap.proofs.FlushLemmas.{full_number, split, rest_long, prefix_class, prefix_first, linked_long, new_other, gave_listed, gave_full, gave_shape, pops_now, all_shape, some_shape}
 use Rattle.block_heap.proofs.SmallLemmas.{changed}
-use Rattle.heap_at_rest.proofs.ListLemmas.{one_walk}
+use Rattle.heap_at_rest.proofs.ListLemmas.{one_walk, walks_same}
 
 -- the cache of a running heap leads along that of its shape
 pub cached_along : (p : Parts) (class : ℕ) → IsClass class → (run : IsRunning p) → CachesAlong class p (run.shape.cached class)

@@ -13,7 +13,8 @@ use Rattle.heap_shape.specs.Moves.{TakesFrom}
 use Rattle.heap_shape.proofs.AccountLemmas.{use_without}
 use Rattle.heap_shape.proofs.BasicLemmas.{member_place}
 use Rattle.heap_shape.proofs.FreeLargeLemmas.{large_places, drop_large}
-use Rattle.heap_shape.proofs.OwnLemmas.{one_following, large_block}
+use Rattle.heap_at_rest.proofs.ListLemmas.{one_following}
+use Rattle.heap_shape.proofs.OwnLemmas.{large_block}
 use Rattle.line_memory.specs.Marks.{marked_words}
 use Rattle.block_heap.specs.declared.held.HeldBlocks.{HeldBlocks}
 use Rattle.block_heap.specs.Held.{held_of, at_mark, block_of_mark, HasMark}

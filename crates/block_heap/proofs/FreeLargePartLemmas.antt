@@ -17,7 +17,7 @@ use Rattle.heap_shape.specs.Draining.{for_later}
 use Rattle.heap_shape.proofs.AccountLemmas.{free_follows, use_kept}
 use Rattle.heap_shape.proofs.BasicLemmas.{with_at_same, with_at_other}
 use Rattle.heap_shape.proofs.FreeLargeLemmas.{split_one}
-use Rattle.heap_shape.proofs.OwnLemmas.{one_following}
+use Rattle.heap_at_rest.proofs.ListLemmas.{one_following}
 use Rattle.line_memory.specs.View.{View, word_count, volatile_at, durable_at}
 use Rattle.block_heap.specs.Accounts.{IsUsed, GivesUse}
 use Rattle.block_heap.specs.Links.{IsPushed, IsPushWord}

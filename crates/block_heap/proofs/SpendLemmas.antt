@@ -6,7 +6,7 @@ use Rattle.heap_model.specs.Sizes.{IsClass}
 use Rattle.heap_model.specs.Words.{head_first}
 use Rattle.heap_model.specs.Chains.{Follows}
 use Rattle.heap_shape.proofs.CountLemmas.{few_listed}
-use Rattle.heap_shape.proofs.OwnLemmas.{one_following}
+use Rattle.heap_at_rest.proofs.ListLemmas.{one_following}
 use Rattle.block_heap.specs.Parts.{Parts, image_of, held_in}
 use Rattle.block_heap.specs.Refill.{Stocks}
 use Rattle.block_heap.specs.Running.{IsRunning}

@@ -13,7 +13,7 @@ use Rattle.heap_shape.specs.Moves.{after_take, after_recycle}
 use Rattle.heap_shape.proofs.BasicLemmas.{with_at_same, with_at_other, in_class_list}
 use Rattle.heap_shape.proofs.RefillLemmas.{take}
 use Rattle.heap_shape.proofs.RecycleLemmas.{recycle}
-use Rattle.heap_shape.proofs.OwnLemmas.{one_following}
+use Rattle.heap_at_rest.proofs.ListLemmas.{one_following}
 use Rattle.heap_shape.proofs.DrainLemmas.{take_drains, recycle_drains}
 use Rattle.line_memory.specs.View.{View, volatile_at}
 use Rattle.block_heap.specs.declared.cache.Cache.{Cache}

@@ -15,7 +15,7 @@ use Rattle.heap_model.specs.Words.{anchor_first, anchor_state, head_first, large
 use Rattle.heap_model.proofs.CountingLemmas.{times_none}
 use Rattle.heap_model.proofs.PartLemmas.{same_fields}
 use Rattle.heap_model.proofs.SizeLemmas.{few_words}
-use Rattle.heap_at_rest.proofs.ListLemmas.{times_of}
+use Rattle.heap_at_rest.proofs.ListLemmas.{one_following, times_of}
 use Rattle.core_model.specs.Cells.{superblock_at}
 use Rattle.core_model.specs.Effects.{chain as walked, span_count}
 use Rattle.core_model.specs.Held.{IsHeld, IsHeldBy, a_large, a_small, volatile_image}
@@ -31,7 +31,7 @@ use Rattle.orderly_image.specs.Orderly.{HasPartialChain, IsHeldByAnchors, IsLarg
 use Rattle.closed_heap.specs.Emptied.{KeepsNothing}
 use Rattle.closed_heap.proofs.OrderlyLemmas.{anchored, chain_once, free_list, free_listed, in_room, large_outside, not_free, partial}
 use Rattle.closed_heap.proofs.PlaceLemmas.{IsInLarge, in_large, in_small, large_behind, large_first, large_not_class, place, taken}
-use Rattle.closed_heap.proofs.WordLemmas.{anchor_is, capacity_is, info_is, one_list, used_is}
+use Rattle.closed_heap.proofs.WordLemmas.{anchor_is, capacity_is, info_is, used_is}
 
 module _ (k : Setup) (words : List ℕ) (views : List View) (sound : Sound k words views) (nothing : Each views KeepsNothing) (image : Image) (closed : IsClosedImage (volatile_image k.capacity words) image) where
   abbrev m : Memory
@@ -55,7 +55,7 @@ module _ (k : Setup) (words : List ℕ) (views : List View) (sound : Sound k wor
   -- a taken superblock that is not in the free list is cut, or of a large block
   outside_free : (d : ℕ) → d < used_of image → (listed : List ℕ) → IsListOf image 0 listed → (Contains listed d → ⊥) → cut d + large d ≡ 1
   outside_free d less listed is outside =
-      let same = one_list (λ e. image (link_word e)) (capacity_of image) (head_first (image (head_word 0))) listed free is (free_listed k words views sound nothing image closed) in
+      let same = one_following (λ e. image (link_word e)) (capacity_of image) (head_first (image (head_word 0))) listed free is (free_listed k words views sound nothing image closed) in
       let none = times_none d free (subst (λ (ds : List ℕ). Contains ds d → ⊥) same outside) in
       let one = place k words views sound nothing d in
       let u = used_is k words views sound image closed in

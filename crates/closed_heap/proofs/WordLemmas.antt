@@ -1,6 +1,5 @@
--- What a close leaves of a sound state, word by word, and what walks and lists that read alike have in common.
-use Rattle.std.proofs.Common.{◌≡◌, ◌≢◌, ℕ, ◌<◌, ◌≤◌, inl, true, nat_lt, nat_le, List, [], ◌∷◌, get_or, refl, ap, sym, subst, ◌∙◌, lt-ltb, le-leb, arith}
-use Rattle.heap_model.specs.Chains.{Follows}
+-- What a close leaves of a sound state, word by word.
+use Rattle.std.proofs.Common.{◌≡◌, ◌≢◌, ℕ, ◌<◌, ◌≤◌, inl, true, nat_lt, nat_le, List, get_or, refl, sym, ◌∙◌, lt-ltb, le-leb, arith}
 use Rattle.heap_model.specs.Durability.{IsClosedImage}
 use Rattle.heap_model.specs.Geometry.{image_words, info_word, anchor_word, link_word, head_word, lists, start_word, superblocks_end, state_word}
 use Rattle.heap_model.specs.Header.{capacity_of, used_of}
@@ -11,17 +10,6 @@ use Rattle.core_model.specs.Memory.{Memory, used, head, info, anchor, link, next
 use Rattle.core_model.specs.Sound.{Sound}
 use Rattle.core_model.specs.View.{Setup, View}
 use Rattle.core_model.proofs.PlaceLemmas.{and_is, pick}
-
--- a list is the one that its links lead along
-pub one_list : (links : ℕ → ℕ) (capacity from : ℕ) (xs ys : List ℕ) → Follows links capacity from xs → Follows links capacity from ys → xs ≡ ys
-one_list links capacity from [] [] a b = refl
-one_list links capacity from [] (y ∷ ys) a b = let first = b.0 in absurd (omega (arith, a, first))
-one_list links capacity from (x ∷ xs) [] a b = let first = a.0 in absurd (omega (arith, b, first))
-one_list links capacity from (x ∷ xs) (y ∷ ys) a b =
-    let first = a.0 in
-    let other = b.0 in
-    let same : x ≡ y = omega (arith, first, other) in
-    ap (λ zs. x ∷ zs) (one_list links capacity (links x) xs ys a.2 (subst (λ n. Follows links capacity (links n) ys) (sym same) b.2)) ∙ ap (λ n. n ∷ ys) same
 
 module _ (k : Setup) (words : List ℕ) (views : List View) (sound : Sound k words views) (image : Image) (closed : IsClosedImage (volatile_image k.capacity words) image) where
   abbrev pub m : Memory

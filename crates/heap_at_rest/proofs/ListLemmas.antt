@@ -46,6 +46,32 @@ follows_same link new capacity from (d ∷ ds) same follows = (
       (follows_same link new capacity (link d) ds (λ e p. same e (in_rest d e ds p)) follows.2),
 )
 
+-- the members of a list are superblocks
+pub follows_below : (link : ℕ → ℕ) (capacity from : ℕ) (ds : List ℕ) (d : ℕ) → Follows link capacity from ds → Contains ds d → d < capacity
+follows_below link capacity from [] d follows p = absurd (in_none d p)
+follows_below link capacity from (e ∷ ds) d follows p = elim (head_or_rest e d ds p) [
+  | inl same ↦ subst (λ x. x < capacity) same follows.1
+  | inr later ↦ follows_below link capacity (link e) ds d follows.2 later
+]
+
+-- a list that a link leads along is the only one
+pub one_following : (link : ℕ → ℕ) (capacity from : ℕ) (ds es : List ℕ) → Follows link capacity from ds → Follows link capacity from es → ds ≡ es
+one_following link capacity from [] [] is_ds is_es = refl
+one_following link capacity from [] (e ∷ es) is_ds is_es = absurd (let none : from ≡ 0 = is_ds in let first = is_es.0 in omega arith)
+one_following link capacity from (d ∷ ds) [] is_ds is_es = absurd (let none : from ≡ 0 = is_es in let first = is_ds.0 in omega arith)
+one_following link capacity from (d ∷ ds) (e ∷ es) is_ds is_es =
+    let first_d = is_ds.0 in
+    let first_e = is_es.0 in
+    let same : d ≡ e = omega arith in
+    let rest : ds ≡ es = one_following link capacity (link d) ds es is_ds.2 (subst (λ x. Follows link capacity (link x) es) (sym same) is_es.2) in
+    ap (λ x. x ∷ ds) same ∙ ap (λ xs. e ∷ xs) rest
+
+-- a walk reads its members alone
+pub walks_same : (image new : ℕ → ℕ) (from : ℕ) (ws : List ℕ) → ((w : ℕ) → Contains ws w → new w ≡ image w) → Walks image from ws → Walks new from ws
+walks_same image new from [] same walks = tt
+walks_same image new from (w ∷ ws) same walks =
+    (walks.0, subst (λ x. Walks new x ws) (sym (same w (in_head w ws))) (walks_same image new (image w) ws (λ v p. same v (in_rest w v ws p)) walks.1))
+
 -- behind some numbers a walk goes on from where the last of them leads
 pub walk_behind : (next : ℕ → ℕ) (from : ℕ) (before : List ℕ) (last : ℕ) (rest : List ℕ)
     → Walks next from ((before ++ last ∷ []) ++ rest) → Walks next (next last) rest

@@ -9,7 +9,7 @@ use Rattle.heap_model.specs.Words.{anchor_state, anchor_first, anchor_count, par
 use Rattle.heap_model.specs.Blocks.{IsBlock, layout_of}
 use Rattle.heap_model.specs.Recovered.{HasPartIn}
 use Rattle.heap_model.specs.Chains.{IsChain}
-use Rattle.heap_model.specs.Recovery.{IsPartial, in_header, IsRecovered}
+use Rattle.heap_model.specs.Recovery.{IsPartial, IsKeptWord, in_header, IsRecovered}
 use Rattle.heap_model.specs.Rest.{IsAnchored}
 use Rattle.heap_at_rest.proofs.PartLemmas.{part_taken}
 use Rattle.heap_at_rest.proofs.StandingLemmas.{Standing, is_untaken, is_free, is_partial, is_fully_kept, is_in_large, cases_superblock}
@@ -18,12 +18,20 @@ use Rattle.heap_model.proofs.WordLemmas.{anchor_parts}
 use Rattle.heap_at_rest.proofs.ChainLemmas.{some_spare, not_all_spare, first_short}
 use Rattle.heap_at_rest.proofs.LeftLemmas.{HasSpares, LeavesHeap, IsLeft}
 
+-- where the kept words stay, so do the capacity and the number of superblocks that have been taken
+module _ (old new : Image) (same : (word : ℕ) → IsKeptWord (capacity_of old) word → new word ≡ old word) where
+  pub same_capacity : capacity_of new ≡ capacity_of old
+  same_capacity = same capacity_word (in_header capacity_word (inr (inr (inl refl))))
+
+  pub same_used : used_of new ≡ used_of old
+  same_used = same used_word (in_header used_word (inr (inr (inr refl))))
+
 module _ (old new : Image) (kept : Block → Type 0) (held : List Block) (left : IsLeft old new kept held) where
   pub capacity_is : capacity_of new ≡ capacity_of old
-  capacity_is = left.heap.same capacity_word (in_header capacity_word (inr (inr (inl refl))))
+  capacity_is = same_capacity old new left.heap.same
 
   pub used_is : used_of new ≡ used_of old
-  used_is = left.heap.same used_word (in_header used_word (inr (inr (inr refl))))
+  used_is = same_used old new left.heap.same
 
   -- recovery keeps a good header
   pub formed_left : (bytes : ℕ) → IsWellFormed bytes old → IsWellFormed bytes new
@@ -67,7 +75,7 @@ module _ (old new : Image) (kept : Block → Type 0) (named : (b : Block) → ke
       let state : anchor_state (new (anchor_word d)) ≡ 1 = ap anchor_state anchor ∙ parts.0 in
       let first : anchor_first (new (anchor_word d)) ≡ rechained.first = ap anchor_first anchor ∙ parts.1 in
       record {
-        linked = subst (λ c. IsChain new c class d (start_word c d + anchor_first (new (anchor_word d)) * words_of_class class) ws) (sym (recovered.same capacity_word (in_header capacity_word (inr (inr (inl refl))))))
+        linked = subst (λ c. IsChain new c class d (start_word c d + anchor_first (new (anchor_word d)) * words_of_class class) ws) (sym (same_capacity old new recovered.same))
             (subst (λ k. IsChain new (capacity_of old) class d (start_word (capacity_of old) d + k * words_of_class class) ws) (sym first) (record {
               walks = rechained.walks;
               blocks = λ w p. let spare = chained.sound w p in (spare.index, record { below = spare.is_block.below; at = sym spare.first ∙ spare.is_block.at; size = refl });

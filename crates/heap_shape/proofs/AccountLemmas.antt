@@ -17,7 +17,7 @@ use Rattle.heap_shape.specs.Effects.{IsSet}
 use Rattle.heap_shape.specs.Moves.{AddsTo, TakesFrom}
 use Rattle.heap_shape.specs.Draining.{IsInFreeList, HasUse, for_class, for_held, for_later, IsAccounted}
 use Rattle.heap_shape.proofs.BasicLemmas.{member_place}
-use Rattle.heap_shape.proofs.OwnLemmas.{one_following}
+use Rattle.heap_at_rest.proofs.ListLemmas.{one_following}
 
 -- what is in the list that the head of list 0 leads along is in the free list
 pub free_follows : (capacity e : ℕ) (image : Image) (free : List ℕ) → Follows (λ k. image (link_word k)) capacity (head_first (image (head_word 0))) free

@@ -1,19 +1,17 @@
 -- What follows at once from the shape of a heap, and how lists and walks stay.
-use Rattle.std.proofs.Common.{◌≡◌, ◌≢◌, ℕ, zero, suc, ◌+◌, ◌<◌, ◌≤◌, inl, inr, nat_eq, List, [], ◌∷◌, Contains, refl, ap, sym, subst, arith}
+use Rattle.std.proofs.Common.{◌≡◌, ◌≢◌, ℕ, zero, suc, ◌+◌, ◌<◌, ◌≤◌, inl, inr, nat_eq, List, ◌∷◌, Contains, refl, ap, subst, arith}
 use Rattle.std.proofs.lemmas.Bool.{cases_eq, cases_order, eqb-true, eq-eqb, ne_eqb, cond-true, cond-false}
 use Rattle.heap_model.specs.declared.block.Block.{Block}
 use Rattle.heap_model.specs.Geometry.{lists, head_word, link_word}
 use Rattle.heap_model.specs.Image.{Image}
 use Rattle.heap_model.specs.Sizes.{IsClass, blocks_of, words_of_class}
 use Rattle.heap_model.specs.Words.{head_first}
-use Rattle.heap_model.specs.Recovered.{HasPartIn, IsBlockOfClass}
-use Rattle.heap_model.specs.Chains.{Follows, Walks}
+use Rattle.heap_model.specs.Chains.{Follows}
 use Rattle.heap_model.specs.Counting.{times, one_if}
 use Rattle.heap_model.proofs.SizeLemmas.{two_words, blocks_fit}
 use Rattle.heap_model.proofs.BlockLemmas.{block_step}
-use Rattle.heap_model.proofs.MemberLemmas.{in_none, in_head, in_rest, head_or_rest}
 use Rattle.heap_model.proofs.CountingLemmas.{one_if_true, one_if_false, one_if_some}
-use Rattle.heap_at_rest.proofs.ListLemmas.{times_of}
+use Rattle.heap_at_rest.proofs.ListLemmas.{follows_below, times_of}
 use Rattle.heap_shape.specs.Shape.{Place, in_list, is_full, in_large, is_new, Shape, stands_in, with_at}
 use Rattle.heap_shape.specs.Standing.{first_of, IsFirstOf, IsOfClass, HasFreeBlocks, IsFullSuperblock, IsFree, IsAs}
 use Rattle.heap_shape.specs.Whole.{IsShape}
@@ -26,20 +24,6 @@ with_at_same f at value = cond-true (nat_eq at at) value (f at) (eq-eqb at at re
 
 pub with_at_other : {A : Type 0} (f : ℕ → A) (at : ℕ) (value : A) (n : ℕ) → n ≢ at → with_at f at value n ≡ f n
 with_at_other f at value n other = cond-false (nat_eq n at) value (f n) (ne_eqb n at other)
-
--- a walk reads its members alone
-pub walks_same : (image new : ℕ → ℕ) (from : ℕ) (ws : List ℕ) → ((w : ℕ) → Contains ws w → new w ≡ image w) → Walks image from ws → Walks new from ws
-walks_same image new from [] same walks = tt
-walks_same image new from (w ∷ ws) same walks =
-    (walks.0, subst (λ x. Walks new x ws) (sym (same w (in_head w ws))) (walks_same image new (image w) ws (λ v p. same v (in_rest w v ws p)) walks.1))
-
--- the members of a list are superblocks
-pub follows_below : (link : ℕ → ℕ) (capacity from : ℕ) (ds : List ℕ) (d : ℕ) → Follows link capacity from ds → Contains ds d → d < capacity
-follows_below link capacity from [] d follows p = absurd (in_none d p)
-follows_below link capacity from (e ∷ ds) d follows p = elim (head_or_rest e d ds p) [
-  | inl same ↦ subst (λ x. x < capacity) same follows.1
-  | inr later ↦ follows_below link capacity (link e) ds d follows.2 later
-]
 
 -- a place that is a list
 pub place_is : (p : Place) (list : ℕ) → 0 < stands_in p list → p ≡ in_list list
@@ -84,16 +68,6 @@ first_inside capacity class d word is first =
     let two = two_words class is in
     let at = first.at in
     record { from = omega arith; until = omega arith }
-
--- a block of a class has a part in its superblock
-pub class_part : (capacity class d index : ℕ) (b : Block) → IsClass class → IsBlockOfClass capacity class d index b → HasPartIn capacity b d
-class_part capacity class d index b is of =
-    let step = block_step index (blocks_of class) (words_of_class class) of.below in
-    let fit = blocks_fit class is in
-    let two = two_words class is in
-    let at = of.at in
-    let size = of.size in
-    record { begins = omega arith; ends = omega arith }
 
 pub inside_one : (capacity d e word : ℕ) → IsInSuperblock capacity d word → IsInSuperblock capacity e word → d ≡ e
 inside_one capacity d e word in_d in_e =

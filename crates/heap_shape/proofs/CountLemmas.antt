@@ -12,11 +12,11 @@ use Rattle.heap_model.specs.Recovered.{IsBlockOfClass}
 use Rattle.heap_model.proofs.MemberLemmas.{in_head, head_or_rest}
 use Rattle.heap_model.proofs.CountingLemmas.{times_some}
 use Rattle.heap_model.proofs.PartLemmas.{cases_of_part}
-use Rattle.heap_at_rest.proofs.ListLemmas.{times_of}
+use Rattle.heap_at_rest.proofs.ListLemmas.{times_of, follows_below}
 use Rattle.heap_shape.specs.Shape.{Shape}
 use Rattle.heap_shape.specs.Standing.{first_of, IsFirstOf, HoldsAt, IsOfClass, HasNoHeld, times_free, a_free, a_held}
 use Rattle.heap_shape.specs.Whole.{layout_at, IsShape}
-use Rattle.heap_shape.proofs.BasicLemmas.{times_here, times_past, stands_once, follows_below, first_injective}
+use Rattle.heap_shape.proofs.BasicLemmas.{times_here, times_past, stands_once, first_injective}
 use Rattle.heap_model.proofs.ListLemmas.{times_append, length_without, without_less, without_at}
 
 -- a list of values of f below n, none of them twice

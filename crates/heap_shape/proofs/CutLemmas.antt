@@ -13,13 +13,13 @@ use Rattle.heap_model.specs.Counting.{times, one_if}
 use Rattle.heap_model.proofs.CountingLemmas.{times_none, one_if_true, one_if_false}
 use Rattle.heap_model.proofs.MemberLemmas.{in_none, head_or_rest}
 use Rattle.heap_at_rest.proofs.PartLemmas.{part_taken}
-use Rattle.heap_at_rest.proofs.ListLemmas.{follows_same}
+use Rattle.heap_at_rest.proofs.ListLemmas.{follows_same, walks_same, follows_below}
 use Rattle.heap_at_rest.proofs.LayoutLemmas.{block_more}
 use Rattle.heap_shape.specs.Shape.{Place, in_list, is_full, in_large, is_new, Shape, stands_in, with_at}
 use Rattle.heap_shape.specs.Standing.{first_of, IsFirstOf, HoldsAt, HasOneOwner, a_free, a_held, IsOfClass, IsFullSuperblock, IsAs}
 use Rattle.heap_shape.specs.Whole.{layout_at, IsCachedIn, IsShape}
 use Rattle.heap_shape.specs.Effects.{IsPoppedOf, IsInSuperblock, firsts_from}
-use Rattle.heap_shape.proofs.BasicLemmas.{with_at_same, with_at_other, walks_same, follows_below, first_inside, inside_one, first_injective, first_place}
+use Rattle.heap_shape.proofs.BasicLemmas.{with_at_same, with_at_other, first_inside, inside_one, first_injective, first_place}
 use Rattle.heap_model.proofs.ListLemmas.{follows_small}
 use Rattle.heap_shape.proofs.FrameLemmas.{frame}
 

@@ -10,7 +10,8 @@ use Rattle.heap_model.specs.Counting.{times}
 use Rattle.heap_shape.specs.Shape.{Place, in_list, is_full, in_large, is_new, Shape}
 use Rattle.heap_shape.specs.Standing.{first_of, HoldsAt, HasOneOwner, a_free, a_held, times_free, IsOfClass, HasNoHeld, IsAs}
 use Rattle.heap_shape.specs.Effects.{IsInSuperblock}
-use Rattle.heap_shape.proofs.BasicLemmas.{walks_same, first_inside}
+use Rattle.heap_at_rest.proofs.ListLemmas.{walks_same}
+use Rattle.heap_shape.proofs.BasicLemmas.{first_inside}
 
 -- what steps on list heads and one superblock's descriptor leave: `used`, infos, the links of others, and superblocks
 pub record KeepsBut (capacity d : ℕ) (image new : Image) : Type 0 where

@@ -13,14 +13,14 @@ use Rattle.heap_model.specs.Counting.{times, one_if}
 use Rattle.heap_model.proofs.BlockLemmas.{never_overlap}
 use Rattle.heap_model.proofs.CountingLemmas.{one_if_true, one_if_false}
 use Rattle.heap_at_rest.proofs.PartLemmas.{part_taken, long_takes}
-use Rattle.heap_at_rest.proofs.ListLemmas.{follows_same, times_of}
+use Rattle.heap_at_rest.proofs.ListLemmas.{follows_same, times_of, walks_same}
 use Rattle.heap_at_rest.proofs.LayoutLemmas.{same_there}
 use Rattle.heap_shape.specs.Shape.{Place, in_list, is_full, in_large, is_new, Shape, stands_in, with_at}
 use Rattle.heap_shape.specs.Standing.{HasNoHeld, IsFree, IsTakenByLarge, IsAs}
 use Rattle.heap_shape.specs.Whole.{layout_at, IsCachedIn, IsShape}
 use Rattle.heap_shape.specs.Effects.{IsSet, IsPushedOn}
 use Rattle.heap_shape.specs.Moves.{after_split, TakesFrom}
-use Rattle.heap_shape.proofs.BasicLemmas.{with_at_same, with_at_other, walks_same, first_inside}
+use Rattle.heap_shape.proofs.BasicLemmas.{with_at_same, with_at_other, first_inside}
 use Rattle.heap_shape.proofs.FrameLemmas.{SameThere, frame, KeepsBut}
 
 -- each superblock of a held large block has that place

@@ -1,5 +1,5 @@
 -- Stores to words of held blocks and to roots, and the same held blocks in another order, leave the shape.
-use Rattle.std.proofs.Common.{◌≡◌, ◌≢◌, ℕ, zero, suc, ◌+◌, ◌*◌, ◌<◌, ◌≤◌, ◌⊎◌, inl, inr, true, cond, nat_eq, List, [], ◌∷◌, length, Contains, refl, ap, sym, subst, ◌∙◌, arith}
+use Rattle.std.proofs.Common.{◌≡◌, ◌≢◌, ℕ, zero, suc, ◌+◌, ◌*◌, ◌<◌, ◌≤◌, ◌⊎◌, inl, inr, true, cond, nat_eq, List, length, Contains, refl, ap, sym, subst, ◌∙◌, arith}
 use Rattle.std.proofs.Math.Nat.{zero-mul}
 use Rattle.std.proofs.lemmas.Bool.{agree_below, eqb-true, eq-eqb, cond-true}
 use Rattle.heap_model.specs.declared.block.Block.{Block}
@@ -13,13 +13,13 @@ use Rattle.heap_model.specs.Counting.{times}
 use Rattle.heap_model.proofs.SizeLemmas.{at_class, two_words, few_words}
 use Rattle.heap_model.proofs.BlockLemmas.{never_overlap, block_inside, block_begins}
 use Rattle.heap_at_rest.proofs.PartLemmas.{part_taken}
-use Rattle.heap_at_rest.proofs.ListLemmas.{follows_same, times_of}
+use Rattle.heap_at_rest.proofs.ListLemmas.{follows_same, times_of, walks_same}
 use Rattle.heap_at_rest.proofs.LayoutLemmas.{class_block as a_class_block, same_there}
 use Rattle.heap_shape.specs.Shape.{Place, in_list, is_full, in_large, is_new, Shape}
 use Rattle.heap_shape.specs.Standing.{first_of, a_free, a_held, IsOfClass, HasNoHeld, IsAs}
 use Rattle.heap_shape.specs.Whole.{layout_at, IsCachedIn, IsShape}
 use Rattle.heap_shape.specs.Effects.{IsSet, IsInSuperblock}
-use Rattle.heap_shape.proofs.BasicLemmas.{walks_same, first_inside, member_place}
+use Rattle.heap_shape.proofs.BasicLemmas.{first_inside, member_place}
 use Rattle.heap_shape.proofs.FrameLemmas.{SameThere, frame}
 use Rattle.heap_shape.proofs.CacheLemmas.{cached_apart}
 
@@ -175,18 +175,6 @@ same_held capacity image held now s has only shape = record {
     held_before = λ w inside at. record { block = at.block; holds = only at.block at.holds; at = at.at };
     none = λ none b p part. none b (only b p) part;
   }
-
--- a list that a link leads along is the only one
-pub one_following : (link : ℕ → ℕ) (capacity from : ℕ) (ds es : List ℕ) → Follows link capacity from ds → Follows link capacity from es → ds ≡ es
-one_following link capacity from [] [] is_ds is_es = refl
-one_following link capacity from [] (e ∷ es) is_ds is_es = absurd (let none : from ≡ 0 = is_ds in let first = is_es.0 in omega arith)
-one_following link capacity from (d ∷ ds) [] is_ds is_es = absurd (let none : from ≡ 0 = is_es in let first = is_ds.0 in omega arith)
-one_following link capacity from (d ∷ ds) (e ∷ es) is_ds is_es =
-    let first_d = is_ds.0 in
-    let first_e = is_es.0 in
-    let same : d ≡ e = omega arith in
-    let rest : ds ≡ es = one_following link capacity (link d) ds es is_ds.2 (subst (λ x. Follows link capacity (link x) es) (sym same) is_es.2) in
-    ap (λ x. x ∷ ds) same ∙ ap (λ xs. e ∷ xs) rest
 
 -- no held block has a part in a superblock that was never taken
 pub none_past : (capacity d : ℕ) (image : Image) (held : List Block) (s : Shape) → IsShape capacity image held s → image used_word ≤ d → HasNoHeld capacity held d

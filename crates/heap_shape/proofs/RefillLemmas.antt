@@ -10,13 +10,13 @@ use Rattle.heap_model.specs.Chains.{Follows}
 use Rattle.heap_model.specs.Counting.{times}
 use Rattle.heap_model.proofs.BlockLemmas.{block_words}
 use Rattle.heap_at_rest.proofs.PartLemmas.{part_taken}
-use Rattle.heap_at_rest.proofs.ListLemmas.{follows_same}
+use Rattle.heap_at_rest.proofs.ListLemmas.{follows_same, walks_same, follows_below}
 use Rattle.heap_shape.specs.Shape.{in_list, is_full, is_new, Shape, stands_in, with_at}
 use Rattle.heap_shape.specs.Standing.{first_of, HoldsAt, HasOneOwner, a_free, a_held, IsOfClass, HasNoHeld, IsFree, IsNew, IsAs}
 use Rattle.heap_shape.specs.Whole.{layout_at, IsShape}
 use Rattle.heap_shape.specs.Effects.{IsSet, IsPoppedOf, IsInSuperblock, IsCut, all_firsts}
 use Rattle.heap_shape.specs.Moves.{after_take, after_cut, after_fresh}
-use Rattle.heap_shape.proofs.BasicLemmas.{with_at_same, with_at_other, walks_same, follows_below, first_inside, inside_one, first_place, in_class_list, in_free_list}
+use Rattle.heap_shape.proofs.BasicLemmas.{with_at_same, with_at_other, first_inside, inside_one, first_place, in_class_list, in_free_list}
 use Rattle.heap_shape.proofs.CutLemmas.{refilled, IsRefilled, refill, follows_popped, listed_popped, past_is_new, firsts_once, firsts_are, firsts_walk}
 
 -- the chain of the first superblock of the class list is taken

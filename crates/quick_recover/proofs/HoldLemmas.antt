@@ -10,34 +10,16 @@ use Rattle.heap_model.specs.Blocks.{layout_of}
 use Rattle.heap_model.specs.Recovered.{HasPartIn, IsBlockOfClass}
 use Rattle.heap_model.specs.Chains.{IsListOf}
 use Rattle.heap_model.proofs.MemberLemmas.{in_none}
-use Rattle.heap_at_rest.proofs.PartLemmas.{long_takes}
-use Rattle.heap_at_rest.proofs.ListLemmas.{one_walk}
-use Rattle.heap_shape.proofs.OwnLemmas.{one_following}
+use Rattle.heap_at_rest.proofs.PartLemmas.{class_part, long_takes, one_superblock}
+use Rattle.heap_at_rest.proofs.ListLemmas.{one_following, one_walk}
 use Rattle.orderly_image.specs.Orderly.{HasPartialChain, IsLargeOutside, IsOutsideFreeList, IsHeldByAnchors, in_full, in_partial, as_large}
 use Rattle.orderly_image.proofs.HeldLemmas.{held_block}
 use Rattle.heap_recover.specs.Marked.{KeepsBlocks}
-use Rattle.heap_recover.proofs.SurveyLemmas.{class_inside}
 use Rattle.quick_recover.specs.Anchored.{block_word, IsToldBy, by_full, by_chain}
 
 -- all that is held are blocks
 pub keeps : (image : Image) → KeepsBlocks (layout_of image) (IsHeldByAnchors image)
 keeps image = record { each = held_block image }
-
--- a block of a class has a part in its superblock alone
-pub one_superblock : (capacity class d e index : ℕ) (b : Block) → IsClass class → IsBlockOfClass capacity class e index b → HasPartIn capacity b d → e ≡ d
-one_superblock capacity class d e index b is of part =
-    let inside = class_inside capacity class e index b is of in
-    let begins = part.begins in
-    let ends = part.ends in
-    let low = inside.0 in
-    let high = inside.1 in
-    omega arith
-
--- it has one there
-pub class_part : (capacity class d index : ℕ) (b : Block) → IsClass class → IsBlockOfClass capacity class d index b → HasPartIn capacity b d
-class_part capacity class d index b is of =
-    let inside = class_inside capacity class d index b is of in
-    record { begins = omega (arith, inside.0, inside.1, inside.2); ends = omega (arith, inside.0, inside.2) }
 
 -- a partial anchor has one chain
 pub one_chain : (image : Image) (class d : ℕ) (xs ys : List ℕ) → HasPartialChain image class d xs → HasPartialChain image class d ys → xs ≡ ys
