@@ -15,14 +15,11 @@ use Rattle.heap_recover.proofs.UnchangedLemmas.{kinds_unchanged}
 
 -- a trace with kinds that are the stored ones
 module _ (image : Image) (kinds : ℕ → ℕ) (links : Links) (same : (i : ℕ) → i < roots → kinds i ≡ kinds_of image i) where
-  back : (i : ℕ) → i < roots → kinds_of image i ≡ kinds i
-  back i less = sym (same i less)
-
   pub reached_stored : (pairs : List (Block × ℕ)) → AreReached image kinds links pairs → AreReached image (kinds_of image) links pairs
   reached_stored pairs are = record {
     each = λ b kind. (
       λ p. reach_by_kinds image kinds (kinds_of image) links same b kind ((are.each b kind).0 p),
-      λ reached. (are.each b kind).1 (reach_by_kinds image (kinds_of image) kinds links back b kind reached),
+      λ reached. (are.each b kind).1 (reach_by_kinds image (kinds_of image) kinds links (λ i less. sym (same i less)) b kind reached),
     );
   }
 
@@ -30,7 +27,7 @@ module _ (image : Image) (kinds : ℕ → ℕ) (links : Links) (same : (i : ℕ)
   outside_stored at out = record { traced = traced_by_kinds image kinds (kinds_of image) links same at out.traced; outside = out.outside }
 
   pub outside_traced : (at : ℕ) → IsOutsideIn image links at → IsOutside image kinds links at
-  outside_traced at out = record { traced = traced_by_kinds image (kinds_of image) kinds links back at out.traced; outside = out.outside }
+  outside_traced at out = record { traced = traced_by_kinds image (kinds_of image) kinds links (λ i less. sym (same i less)) at out.traced; outside = out.outside }
 
   pub tells_stored : (fault : TraceFault) → TellsOutside image kinds links fault → TellsOutsideIn image links (of_trace fault)
   tells_stored (Outside at value) told = (outside_stored at told.0, told.1)

@@ -13,7 +13,7 @@ use Rattle.heap_model.specs.Recovered.{AreAscending}
 use Rattle.heap_model.specs.Recovery.{IsSpare, IsRecovered, but_last}
 use Rattle.heap_model.specs.Chains.{Walks}
 use Rattle.heap_recover.specs.Superblock.{IsNextSpare, IsRelinked, LeavesSuperblock}
-use Rattle.heap_recover.proofs.SurveyLemmas.{class_inside}
+use Rattle.heap_at_rest.proofs.PartLemmas.{class_inside}
 use Rattle.heap_recover.proofs.SuperblockLemmas.{but_last_in}
 
 -- along a walk each first word leads to the next

@@ -6,6 +6,7 @@ pub mod SuperblockLemmas
 pub mod ListLemmas
 pub mod PassLemmas
 pub mod RoleLemmas
+pub mod LinkedLemmas
 pub mod RebuildLemmas
 pub mod KeptLemmas
 pub mod UnchangedLemmas

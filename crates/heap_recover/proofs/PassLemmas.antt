@@ -19,7 +19,8 @@ use Rattle.heap_recover.specs.Marked.{KeepsBlocks, IsKeptIn, IsKeptBelow, GoOnTo
 use Rattle.heap_recover.specs.Roles.{IsRole, is_free, is_partial, is_full, is_large}
 use Rattle.heap_recover.specs.Rebuilt.{IsOf, is_info, is_anchor, is_link, is_inside, HasSpares, HasInfo, IsDescribed, KeepsInside, IsRebuiltAs, IsRebuiltInRole, AreDone, AreCleared}
 use Rattle.heap_recover.proofs.AscendingLemmas.{ascending_none, ascending_append}
-use Rattle.heap_recover.proofs.SuperblockLemmas.{walks_same, spares_inside}
+use Rattle.heap_at_rest.proofs.ListLemmas.{walks_same}
+use Rattle.heap_recover.proofs.SuperblockLemmas.{spares_inside}
 
 -- a superblock of the role has spares that can be chained
 pub role_spares : (old : Image) (kept : Block → Type 0) (d : ℕ) (role : Role) (spares : List ℕ) → IsRole (layout_of old) kept d role spares
@@ -133,7 +134,7 @@ described_same old new other d spares Free has same is = record { info_is = same
 described_same old new other d spares (Partial class) has same is = record {
   first = is.first;
   words = record { info_is = same.info ∙ is.words.info_is; anchor_is = same.anchor ∙ is.words.anchor_is };
-  walks = walks_same new other spares (start_word (capacity_of old) d + is.first * words_of_class class.number)
+  walks = walks_same new other (start_word (capacity_of old) d + is.first * words_of_class class.number) spares
       (λ b here. let inside = spares_inside (capacity_of old) d spares (Partial class) has b here in same.inside b inside.0 inside.1) is.walks;
 }
 described_same old new other d spares (Full class) has same is = record { info_is = same.info ∙ is.info_is; anchor_is = same.anchor ∙ is.anchor_is }

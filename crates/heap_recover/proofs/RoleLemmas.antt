@@ -1,18 +1,17 @@
 -- A superblock has one role, and the role tells its list.
 use Rattle.std.proofs.Math.Bridge.{le_prop}
-use Rattle.std.proofs.Common.{◌≡◌, ℕ, zero, suc, ◌+◌, ◌*◌, ◌<◌, Some, List, refl, ap, sym, subst, ◌∙◌, arith}
+use Rattle.std.proofs.Common.{◌≡◌, ℕ, zero, suc, ◌<◌, Some, List, length, slice_index_or, refl, ap, sym, subst, ◌∙◌, arith}
 use Rattle.heap_model.specs.declared.block.Block.{Block}
-use Rattle.heap_model.specs.Geometry.{start_word, lists}
-use Rattle.heap_model.specs.Sizes.{IsClass, words_of_class}
+use Rattle.heap_model.specs.Geometry.{lists}
+use Rattle.heap_model.specs.Sizes.{IsClass}
 use Rattle.heap_model.specs.Blocks.{Layout}
-use Rattle.heap_model.specs.Recovered.{IsFreeSuperblock, IsBlockOfClass, AreAscending}
+use Rattle.heap_model.specs.Recovered.{IsFreeSuperblock, AreAscending}
 use Rattle.heap_model.specs.Recovery.{HoldsKept, IsSpare, IsPartial, IsFullyKept, IsInLarge, IsListed}
-use Rattle.heap_model.proofs.SizeLemmas.{four_blocks}
 use Rattle.size_table.specs.declared.size_class.SizeClass.{SizeClass}
 use Rattle.heap_recover.specs.declared.roles.Role.{Role}
 use Rattle.heap_recover.specs.declared.roles.Role.TheVariants.{Free, Partial, Full, Large}
-use Rattle.heap_recover.specs.Roles.{IsRole, is_free, is_partial, is_full, is_large, list_of}
-use Rattle.heap_recover.proofs.SurveyLemmas.{class_inside}
+use Rattle.heap_recover.specs.Roles.{IsRole, is_free, is_partial, is_full, is_large, list_of, IsMember}
+use Rattle.heap_at_rest.proofs.LeftLemmas.{full_holds, full_not_partial, partial_listed}
 
 -- classes of one number are one
 same_class : (a b : SizeClass) → a.number ≡ b.number → a ≡ b
@@ -25,23 +24,11 @@ module _ (l : Layout) (kept : Block → Type 0) (d : ℕ) where
   pub not_free : HoldsKept l kept d → IsFreeSuperblock l kept d → ⊥
   not_free holds free = free.empty holds.block holds.is_kept holds.part
 
-  -- one of a class that is fully kept holds some
-  pub full_holds : (class : ℕ) → IsClass class → IsFullyKept l kept class d → HoldsKept l kept d
-  full_holds class is full =
-      let first : Block = record { first_word = start_word l.capacity d + 0 * words_of_class class; words = words_of_class class } in
-      let is_first : IsBlockOfClass l.capacity class d 0 first = record { below = (let four = four_blocks class is in omega arith); at = refl; size = refl } in
-      let inside = class_inside l.capacity class d 0 first is is_first in
-      record { block = first; is_kept = full.all 0 first is_first; part = record { begins = omega (arith, inside.1, inside.2); ends = omega (arith, inside.0, inside.2) } }
-
-  -- fully kept, it has no spare block
-  pub not_partial : (class : ℕ) → IsFullyKept l kept class d → IsPartial l kept class d → ⊥
-  not_partial class full partial = let spare = partial.spare.1 in spare.unkept (full.all spare.index spare.block spare.is_block)
-
   -- a free one has the role of a free one
   pub free_role : (role : Role) (spares : List ℕ) → IsRole l kept d role spares → IsFreeSuperblock l kept d → role ≡ Free
   free_role _ _ (is_free free') free = refl
   free_role _ _ (is_partial class spares partial chained) free = absurd (not_free partial.holds free)
-  free_role _ _ (is_full class full) free = absurd (not_free (full_holds class.number class.is full) free)
+  free_role _ _ (is_full class full) free = absurd (not_free (full_holds l kept class.number d class.is full) free)
   free_role _ _ (is_large large) free = absurd (not_free large.holds free)
 
   -- a partial one that of a partial one, with all its spares
@@ -52,14 +39,14 @@ module _ (l : Layout) (kept : Block → Type 0) (d : ℕ) where
       let same : other ≡ class = same_class other class (sym partial'.info_is ∙ partial.info_is) in
       (ap Partial same, subst (λ (c : SizeClass). AreAscending (λ w. w) (IsSpare l kept c.number d) spares) same chained)
   partial_role class _ _ (is_full other full) partial =
-      absurd (not_partial class.number (subst (λ c. IsFullyKept l kept c d) (sym full.info_is ∙ partial.info_is) full) partial)
+      absurd (full_not_partial l kept other.number class.number d full partial)
   partial_role class _ _ (is_large large) partial = absurd (large.no_class (subst IsClass (sym partial.info_is) class.is))
 
   -- a fully kept one that of a full one
   pub full_role : (class : SizeClass) (role : Role) (spares : List ℕ) → IsRole l kept d role spares → IsFullyKept l kept class.number d → role ≡ Full class
-  full_role class _ _ (is_free free) full = absurd (not_free (full_holds class.number class.is full) free)
+  full_role class _ _ (is_free free) full = absurd (not_free (full_holds l kept class.number d class.is full) free)
   full_role class _ _ (is_partial other spares partial chained) full =
-      absurd (not_partial other.number (subst (λ c. IsFullyKept l kept c d) (sym full.info_is ∙ partial.info_is) full) partial)
+      absurd (full_not_partial l kept class.number other.number d full partial)
   full_role class _ _ (is_full other full') full = ap Full (same_class other class (sym full'.info_is ∙ full.info_is))
   full_role class _ _ (is_large large) full = absurd (large.no_class (subst IsClass (sym full.info_is) class.is))
 
@@ -70,15 +57,11 @@ module _ (l : Layout) (kept : Block → Type 0) (d : ℕ) where
   large_role _ _ (is_full class full) large = absurd (large.no_class (subst IsClass (sym full.info_is) class.is))
   large_role _ _ (is_large large') large = refl
 
-  listed_partial : (class : ℕ) → IsClass class → IsPartial l kept class d → IsListed l kept class d
-  listed_partial zero is partial = absurd (let some = is.some in omega arith)
-  listed_partial (suc c) is partial = partial
-
   -- the role puts it into a list
   pub role_listed : (list : ℕ) (role : Role) (spares : List ℕ) → IsRole l kept d role spares → list_of role ≡ Some list → IsListed l kept list d
   role_listed list _ _ (is_free free) same = let zeroth : 0 ≡ list = cc in subst (λ n. IsListed l kept n d) zeroth free
   role_listed list _ _ (is_partial class spares partial chained) same =
-      let is_list : class.number ≡ list = cc in subst (λ n. IsListed l kept n d) is_list (listed_partial class.number class.is partial)
+      let is_list : class.number ≡ list = cc in subst (λ n. IsListed l kept n d) is_list (partial_listed l kept class.number d class.is partial)
   role_listed list _ _ (is_full class full) same = absurd (cc)
   role_listed list _ _ (is_large large) same = absurd (cc)
 
@@ -91,3 +74,27 @@ module _ (l : Layout) (kept : Block → Type 0) (d : ℕ) where
   pub listed_taken : (list : ℕ) → IsListed l kept list d → d < l.used
   listed_taken zero listed = listed.taken
   listed_taken (suc c) listed = listed.taken
+
+-- a role of superblock d
+pub record HasRole (l : Layout) (kept : Block → Type 0) (d : ℕ) (role : Role) : Type 0 where
+  pub spares : List ℕ
+  pub is : IsRole l kept d role spares
+
+-- the superblocks that have been taken have these roles
+pub record AreRoles (l : Layout) (kept : Block → Type 0) (roles : List Role) : Type 0 where
+  pub long : length roles ≡ l.used
+  pub each : (d : ℕ) → d < l.used → HasRole l kept d (slice_index_or roles d Large)
+
+-- so a superblock is a member of a list exactly where it is listed there
+module _ (l : Layout) (kept : Block → Type 0) (roles : List Role) (are : AreRoles l kept roles) where
+  pub member_below : (list d : ℕ) → IsMember roles list d → d < l.used
+  member_below list d is = let below = is.below in let long = are.long in omega arith
+
+  pub member_listed : (list d : ℕ) → IsMember roles list d → IsListed l kept list d
+  member_listed list d is = let here = are.each d (member_below list d is) in role_listed l kept d list (slice_index_or roles d Large) here.spares here.is is.in_list
+
+  pub listed_member : (list d : ℕ) → list < lists → IsListed l kept list d → IsMember roles list d
+  listed_member list d few is =
+      let taken = listed_taken l kept d list is in
+      let here = are.each d taken in
+      record { below = (let long = are.long in omega arith); in_list = listed_role l kept d list (slice_index_or roles d Large) here.spares few here.is is }

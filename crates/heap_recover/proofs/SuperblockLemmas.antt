@@ -10,11 +10,13 @@ use Rattle.heap_model.specs.Sizes.{words_of_class, blocks_of}
 use Rattle.heap_model.specs.Recovery.{but_last}
 use Rattle.heap_model.specs.Chains.{Walks}
 use Rattle.heap_model.proofs.SizeLemmas.{two_words, few_blocks}
+use Rattle.heap_at_rest.proofs.ListLemmas.{walks_same}
 use Rattle.size_table.specs.declared.size_class.SizeClass.{SizeClass}
 use Rattle.heap_recover.specs.declared.roles.Role.{Role}
 use Rattle.heap_recover.specs.declared.roles.Role.TheVariants.{Free, Partial, Full, Large}
 use Rattle.heap_recover.specs.Rebuilt.{IsChained, IsOf, is_info, is_anchor, is_link, is_inside, AreSpares, HasSpares, HasInfo, IsAnchorOf, IsWrittenAs, IsDescribed, IsRebuiltAs}
-use Rattle.heap_recover.proofs.SurveyLemmas.{class_inside, none_of}
+use Rattle.heap_at_rest.proofs.PartLemmas.{class_inside}
+use Rattle.heap_recover.proofs.SurveyLemmas.{none_of}
 
 -- a member of all but the last is a member
 pub but_last_in : (xs : List ℕ) (w : ℕ) → Contains (but_last xs) w → Contains xs w
@@ -101,12 +103,6 @@ found_first capacity class d spares start words small below are start_is words_i
       few = first.1.few;
     }
 
--- a walk on words that agree
-pub walks_same : (next next' : ℕ → ℕ) (bs : List ℕ) (from : ℕ) → ((b : ℕ) → Contains bs b → next' b ≡ next b) → Walks next from bs → Walks next' from bs
-walks_same next next' [] from same walks = tt
-walks_same next next' (b ∷ bs) from same walks =
-    (walks.0, subst (λ f. Walks next' f bs) (sym (same b (0, omega arith, refl))) (walks_same next next' bs (next b) (λ x has. same x (suc has.0, (let below = has.1 in omega arith), has.2)) walks.1))
-
 -- the chain and the descriptor of a superblock are written
 module _ (old chained new : Image) (capacity d : ℕ) (spares : List ℕ) (anchor : ℕ) (below : d < capacity) (is_chained : IsChained old chained spares) where
   -- a word that is no first word of a chained block is as it was before the chain
@@ -135,7 +131,7 @@ module _ (old chained new : Image) (capacity d : ℕ) (spares : List ℕ) (ancho
     first = counts.first;
     words = record { info_is = written.info ∙ before_chain (Partial class) are (info_word d) (inr (omega arith)) ∙ info; anchor_is = written.anchor_is ∙ counts.is };
     walks = subst (λ n. Walks new (start_word n d + counts.first * words_of_class class.number) spares) (sym same)
-        (walks_same chained new spares (start_word capacity d + counts.first * words_of_class class.number)
+        (walks_same chained new (start_word capacity d + counts.first * words_of_class class.number) spares
         (λ b has. inside_kept (Partial class) are written b (spares_inside capacity d spares (Partial class) are b has).0)
         (is_chained.walks (start_word capacity d + counts.first * words_of_class class.number) (λ some. counts.begins)));
   }

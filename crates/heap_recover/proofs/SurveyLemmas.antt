@@ -11,9 +11,9 @@ use Rattle.heap_model.specs.Words.{large_info}
 use Rattle.heap_model.specs.Blocks.{Layout, Begins, of_class, as_large, IsBlock, IsBlockOf}
 use Rattle.heap_model.specs.Recovered.{IsFreeSuperblock, IsBlockOfClass, AreAscending}
 use Rattle.heap_model.specs.Recovery.{HoldsKept, IsSpare}
-use Rattle.heap_model.proofs.BlockLemmas.{same_begins, block_begins, block_step}
+use Rattle.heap_model.proofs.BlockLemmas.{same_begins, block_begins}
 use Rattle.heap_model.proofs.PartLemmas.{same_fields}
-use Rattle.heap_model.proofs.SizeLemmas.{two_words, blocks_fit}
+use Rattle.heap_at_rest.proofs.PartLemmas.{class_inside}
 use Rattle.heap_recover.specs.Marked.{KeepsBlocks, IsKeptAmong, IsSpareAmong, AreParted, IsKeptIn, GoOnTo}
 use Rattle.size_table.specs.declared.size_class.SizeClass.{SizeClass}
 use Rattle.heap_recover.specs.declared.roles.Role.{Role}
@@ -46,17 +46,6 @@ class_block l d class b info is begun =
       at = of.at ∙ ap (λ w. start_word l.capacity d + begun.index * w) same.0;
       size = of.size ∙ same.0;
     }
-
--- a block of a class lies in its superblock
-pub class_inside : (capacity class d index : ℕ) (b : Block) → IsClass class → IsBlockOfClass capacity class d index b
-    → (start_word capacity d ≤ b.first_word) × (b.first_word + b.words ≤ start_word capacity (d + 1)) × (b.first_word + 2 ≤ b.first_word + b.words)
-class_inside capacity class d index b is is_b =
-    let step = block_step index (blocks_of class) (words_of_class class) is_b.below in
-    let fit = blocks_fit class is in
-    let some = two_words class is in
-    let at = is_b.at in
-    let size = is_b.size in
-    (omega arith, omega arith, omega arith)
 
 -- an empty list has no element
 pub none_of : {A : Type 0} {x : A} {xs : List A} → xs ≡ [] → Contains xs x → ⊥

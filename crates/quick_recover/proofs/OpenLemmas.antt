@@ -1,13 +1,14 @@
 -- What opening gives back, by the way that was taken.
-use Rattle.std.proofs.Common.{◌≡◌, ℕ, ◌*◌, ◌<◌, inl, inr, Option, Some, None, List, length, slice_index, refl, ap, sym, subst, ◌∙◌}
+use Rattle.std.proofs.Common.{◌≡◌, ℕ, ◌*◌, ◌<◌, inr, Option, Some, None, List, length, slice_index, refl, ap, sym, subst, ◌∙◌}
 use Rattle.heap_model.specs.declared.block.Block.{Block}
 use Rattle.heap_model.specs.declared.header.BadHeader.{BadHeader}
-use Rattle.heap_model.specs.Geometry.{clean, capacity_word, kind_word}
+use Rattle.heap_model.specs.Geometry.{clean, kind_word}
 use Rattle.heap_model.specs.Image.{Image}
 use Rattle.heap_model.specs.Header.{IsWellFormed, HasGoodHeader, HasKindsBelow, header_fault, capacity_of, kinds_of, state_of}
 use Rattle.heap_model.specs.Reach.{Links, IsReachedIn, IsOutsideIn}
-use Rattle.heap_model.specs.Recovery.{in_header, is_kind}
+use Rattle.heap_model.specs.Recovery.{is_kind}
 use Rattle.heap_model.proofs.HeaderLemmas.{no_fault}
+use Rattle.heap_at_rest.proofs.RecoveredLemmas.{same_capacity}
 use Rattle.orderly_image.specs.Orderly.{IsOrderly, IsHeldByAnchors}
 use Rattle.heap_recover.specs.declared.answer.Recovered.{Recovered}
 use Rattle.heap_recover.specs.declared.roles.Role.{Role}
@@ -29,7 +30,7 @@ not_refused cause limit bytes image good told = let same : Some cause ≡ None =
 below_left : (limit : Option ℕ) (old new : Image) (kept : Block → Type 0) → IsReopened old new kept → HasKindsBelow limit old → HasKindsBelow limit new
 below_left None old new kept left below = tt
 below_left (Some most) old new kept left below = λ i less.
-    let capacity : capacity_of new ≡ capacity_of old = left.same capacity_word (in_header capacity_word (inr (inr (inl refl)))) in
+    let capacity = same_capacity old new left.same in
     let kind : kinds_of new i ≡ kinds_of old i = ap (λ c. new (kind_word c i)) capacity ∙ left.same (kind_word (capacity_of old) i) (is_kind i (kind_word (capacity_of old) i) less refl) in
     subst (λ k. k < most) (sym kind) (below i less)
 

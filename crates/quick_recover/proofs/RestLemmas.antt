@@ -1,28 +1,30 @@
 -- What is left of an orderly image is a heap at rest.
-use Rattle.std.proofs.Common.{◌≡◌, ◌≢◌, ℕ, ◌+◌, ◌*◌, ◌<◌, ◌≤◌, ◌⊎◌, inl, inr, nat_eq, List, [], ◌∷◌, length, slice_index, slice_index_or, Contains, refl, ap, sym, subst, ◌∙◌, arith}
+use Rattle.std.proofs.Common.{◌≡◌, ◌≢◌, ℕ, ◌+◌, ◌*◌, ◌<◌, ◌≤◌, ◌⊎◌, inl, inr, nat_eq, List, [], ◌∷◌, length, slice_index, slice_index_or, Contains, ap, sym, subst, ◌∙◌, arith}
 use Rattle.std.specs.Prelude.{AllPairs}
 use Rattle.std.proofs.lemmas.Bool.{cases_lt, eq-eqb, eqb-true, cases_eq}
 use Rattle.heap_model.specs.declared.block.Block.{Block}
-use Rattle.heap_model.specs.Geometry.{anchor_word, start_word, capacity_word}
+use Rattle.heap_model.specs.Geometry.{anchor_word, start_word}
 use Rattle.heap_model.specs.Image.{Image}
 use Rattle.heap_model.specs.Header.{IsWellFormed, capacity_of, used_of}
 use Rattle.heap_model.specs.Sizes.{IsClass, words_of_class}
 use Rattle.heap_model.specs.Words.{anchor_state, anchor_first, anchor_count}
 use Rattle.heap_model.specs.Blocks.{layout_of}
 use Rattle.heap_model.specs.Recovered.{AreAscending}
-use Rattle.heap_model.specs.Recovery.{IsPartial, IsFullyKept, in_header}
+use Rattle.heap_model.specs.Recovery.{IsPartial}
 use Rattle.heap_model.specs.Chains.{IsChain}
 use Rattle.heap_model.specs.Counting.{times}
 use Rattle.heap_model.specs.Rest.{IsAnchored, IsReady}
 use Rattle.heap_model.proofs.MemberLemmas.{in_none, head_or_rest, order_head, order_rest}
 use Rattle.heap_model.proofs.CountingLemmas.{times_none, one_if_true, one_if_false}
-use Rattle.heap_at_rest.proofs.LeftLemmas.{HasSpares, LeavesHeap}
+use Rattle.heap_at_rest.proofs.LeftLemmas.{HasSpares, LeavesHeap, full_not_partial}
+use Rattle.heap_at_rest.proofs.RecoveredLemmas.{same_capacity}
 use Rattle.heap_at_rest.proofs.ReadyLemmas.{left_ready}
 use Rattle.heap_recover.specs.declared.roles.Role.{Role}
 use Rattle.heap_recover.specs.declared.roles.Role.TheVariants.{Free, Partial, Full, Large}
 use Rattle.heap_recover.specs.Roles.{IsRole, is_free, is_partial, is_full, is_large}
-use Rattle.heap_recover.proofs.RoleLemmas.{not_free, not_partial}
-use Rattle.heap_recover.proofs.SuperblockLemmas.{walks_same}
+use Rattle.heap_recover.proofs.RoleLemmas.{not_free}
+use Rattle.heap_recover.proofs.LinkedLemmas.{list_below}
+use Rattle.heap_at_rest.proofs.ListLemmas.{walks_same}
 use Rattle.orderly_image.specs.Orderly.{HasPartialChain, IsHeldByAnchors}
 use Rattle.orderly_image.proofs.HeldLemmas.{held_block}
 use Rattle.quick_recover.specs.Anchored.{FitsAnchor, HaveRoles}
@@ -70,20 +72,16 @@ chained image class d _ _ (is_partial c spares part' in_order) fits is part =
       has = fits.has;
     })
 chained image class d _ _ (is_full c full) fits is part =
-    absurd (not_partial (layout_of image) (IsHeldByAnchors image) d class (subst (λ n. IsFullyKept (layout_of image) (IsHeldByAnchors image) n d) (sym full.info_is ∙ part.info_is) full) part)
+    absurd (full_not_partial (layout_of image) (IsHeldByAnchors image) c.number class d full part)
 chained image class d _ _ (is_large large) fits is part = absurd (large.no_class (subst IsClass (sym part.info_is) is))
 
 module _ (old new : Image) (roles : List Role) (have : HaveRoles old roles) (left : IsReopened old new (IsHeldByAnchors old)) where
   abbrev chain_at : (d : ℕ) → (d < used_of old) ⊎ (used_of old ≤ d) → List ℕ
-  chain_at d (inl taken) = let here = have.each d taken in chain_of old d here.spares (slice_index_or roles d Large) here.fits
-  chain_at d (inr past) = []
+  chain_at = list_below (used_of old) (λ d taken. let here = have.each d taken in chain_of old d here.spares (slice_index_or roles d Large) here.fits)
 
   chained_at : (class d : ℕ) (which : (d < used_of old) ⊎ (used_of old ≤ d)) → IsClass class → IsPartial (layout_of old) (IsHeldByAnchors old) class d → HasChained old class d (chain_at d which)
   chained_at class d (inl taken) is part = let here = have.each d taken in chained old class d (slice_index_or roles d Large) here.spares here.has_role here.fits is part
   chained_at class d (inr past) is part = absurd (let taken = part.taken in omega arith)
-
-  capacity_is : capacity_of new ≡ capacity_of old
-  capacity_is = left.same capacity_word (in_header capacity_word (inr (inr (inl refl))))
 
   -- the anchor of a partial superblock is that of its chain
   anchored : (class d : ℕ) (ws : List ℕ) → IsClass class → IsPartial (layout_of old) (IsHeldByAnchors old) class d → HasChained old class d ws → IsAnchored new class d ws
@@ -92,9 +90,9 @@ module _ (old new : Image) (roles : List Role) (have : HaveRoles old roles) (lef
       let has = chain.has in
       let state : anchor_state (new (anchor_word d)) ≡ 1 = ap anchor_state anchor ∙ has.state in
       record {
-        linked = subst (λ c. IsChain new c class d (start_word c d + anchor_first (new (anchor_word d)) * words_of_class class) ws) (sym capacity_is)
+        linked = subst (λ c. IsChain new c class d (start_word c d + anchor_first (new (anchor_word d)) * words_of_class class) ws) (sym (same_capacity old new left.same))
             (subst (λ a. IsChain new (capacity_of old) class d (start_word (capacity_of old) d + anchor_first a * words_of_class class) ws) (sym anchor) (record {
-              walks = walks_same old new ws (start_word (capacity_of old) d + anchor_first (old (anchor_word d)) * words_of_class class)
+              walks = walks_same old new (start_word (capacity_of old) d + anchor_first (old (anchor_word d)) * words_of_class class) ws
                   (λ b p. left.inside b (let at = (has.linked.blocks b p).1.at in omega arith)) has.linked.walks;
               blocks = has.linked.blocks;
             }));
