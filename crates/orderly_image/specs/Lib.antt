@@ -1,2 +1,3 @@
 pub mod Orderly
+pub mod Agreement
 pub mod Examples

@@ -3,4 +3,4 @@
 
 mod laws;
 
-pub use laws::what_anchors_hold_are_blocks;
+pub use laws::{anchors_tell_without_the_words_of_full_superblocks, what_anchors_hold_are_blocks};
