@@ -8,3 +8,5 @@ pub mod TakenLemmas
 pub mod ReopenLemmas
 pub mod RestLemmas
 pub mod OpenLemmas
+pub mod DrainLemmas
+pub mod AgreementLemmas

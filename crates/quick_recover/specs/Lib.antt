@@ -2,3 +2,4 @@ pub mod Reopened
 pub mod Anchored
 pub mod Written
 pub mod Opened
+pub mod Examples

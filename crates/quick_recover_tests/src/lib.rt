@@ -5,6 +5,8 @@
 #[cfg(test)]
 mod closed;
 #[cfg(test)]
+mod drains;
+#[cfg(test)]
 mod orderly;
 #[cfg(test)]
 mod other;
