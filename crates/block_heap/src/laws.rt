@@ -9,6 +9,7 @@ ghost use Rattle.heap_model.specs.Header.{capacity_of, used_of, kinds_of};
 ghost use Rattle.heap_model.specs.Blocks.{layout_of};
 ghost use Rattle.heap_model.specs.Reach.{Links, IsReached};
 ghost use Rattle.heap_model.specs.Recovered.{IsDrained};
+ghost use Rattle.heap_shape.specs.Draining.{IsDrainable, IsToDrain};
 ghost use Rattle.line_memory.specs.View.{word_count, volatile_at, durable_at};
 ghost use Rattle.heap_seat.specs.Rows.{IsRow};
 ghost use Rattle.heap_seat.specs.Words.{HasPicked};
@@ -18,7 +19,7 @@ ghost use Rattle.block_heap.specs.Lists.{IsEmptyList, IsInList};
 ghost use Rattle.block_heap.specs.Order.{HasNothing, IsServedInOrder};
 ghost use Rattle.block_heap.specs.Parts.{held_in, cache_at};
 ghost use Rattle.block_heap.specs.Reopening.{IsReopened};
-ghost use Rattle.block_heap.specs.Requests.{IsDrainableFor, IsDrainedOf};
+ghost use Rattle.block_heap.specs.Requests.{IsDrainableFor, IsDrainedOf, Drains};
 ghost use Rattle.block_heap.specs.SeqState.{SeqState, seat_of, MayLeave};
 ghost use Rattle.heap_model.specs.Geometry.{roots, kind_word, IsFixed};
 ghost use Rattle.heap_seat.specs.View.{kind_of};
@@ -106,4 +107,21 @@ pub fn a_recovered_heap_drains_what_the_image_says()
         → IsReopened bytes old kinds links words held budget s
         → (class : ℕ) (b : Block)
         → IsDrained (layout_of old) (IsReached old kinds links) class b ↔ IsDrainedOf class s b }
+{}
+
+/// A heap is to give of a class what the words say that it was opened with, beside the blocks that
+/// were held then. Where two heaps are to give the same, drains of both give the same offsets, each
+/// once; in which order depends on their chains and lists.
+pub fn a_heap_drains_what_its_words_say()
+    ensures drainable { (words : List ℕ) (held : List Block) (budget : ℕ) (s : SeqState)
+        → IsOpened words held budget s → (class : ℕ)
+        → IsDrainable (capacity_of (slice_index words)) (slice_index words) held class
+        → IsDrainableFor class s }
+    ensures drains { (words : List ℕ) (held : List Block) (budget : ℕ) (s : SeqState)
+        → IsOpened words held budget s → (class : ℕ) (b : Block) → IsDrainedOf class s b
+        ↔ IsToDrain (capacity_of (slice_index words)) (slice_index words) held class b }
+    ensures offsets { (class : ℕ) (s t : SeqState)
+        → ((b : Block) → IsDrainedOf class s b ↔ IsDrainedOf class t b)
+        → (xs ys : List ℕ) → Drains class xs s → Drains class ys t
+        → (offset : ℕ) → Contains xs offset ↔ Contains ys offset }
 {}

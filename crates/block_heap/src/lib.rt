@@ -21,8 +21,8 @@ mod superblocks;
 pub use heap_model::Block;
 pub use heap_seat::{AllocFault, HeapSeat, Look, Looks, Spot, persist, rows_of_calls_go_together};
 pub use laws::{
-    a_recovered_heap_drains_what_the_image_says, fixed_words_stay, freed_blocks_serve_first,
-    looks_and_tickets_add_up, what_is_left_is_an_image,
+    a_heap_drains_what_its_words_say, a_recovered_heap_drains_what_the_image_says,
+    fixed_words_stay, freed_blocks_serve_first, looks_and_tickets_add_up, what_is_left_is_an_image,
 };
 pub use line_memory::{Chance, Closed, Stopped};
 pub use seq_heap::{DrainFault, SeqHeap};
