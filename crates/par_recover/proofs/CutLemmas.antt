@@ -15,9 +15,6 @@ pushed_before xs x i below = get_or-append xs (x ∷ []) 0 i below
 pub pushed_here : (xs : List ℕ) (x i : ℕ) → length xs ≡ i → slice_index (xs ++ x ∷ []) i ≡ x
 pushed_here xs x i long = subst (λ k. slice_index (xs ++ x ∷ []) k ≡ x) long (get_or-append_seam xs x [] 0)
 
-pub pushed_long : (xs : List ℕ) (x : ℕ) → length (xs ++ x ∷ []) ≡ length xs + 1
-pushed_long xs x = length-append xs (x ∷ [])
-
 -- no superblock yet
 pub ends_none : (l : Layout) (kept : Block → Type 0) (ends : List ℕ) → ends ≡ [] → AreEnds l kept 0 ends
 ends_none l kept ends empty = record { long = ap length empty; each = λ d below. absurd (omega arith) }
@@ -25,7 +22,7 @@ ends_none l kept ends empty = record { long = ap length empty; each = λ d below
 -- one more
 pub ends_push : (l : Layout) (kept : Block → Type 0) (n end : ℕ) (ends : List ℕ) → AreEnds l kept n ends → GoOnTo l kept n end → AreEnds l kept (n + 1) (ends ++ end ∷ [])
 ends_push l kept n end ends are here = record {
-  long = pushed_long ends end ∙ ap (λ k. k + 1) are.long;
+  long = length-append ends (end ∷ []) ∙ ap (λ k. k + 1) are.long;
   each = λ d below. elim (cases_lt d n) as (λ _. GoOnTo l kept d (slice_index (ends ++ end ∷ []) d)) [
     | inl before ↦ subst (λ e. GoOnTo l kept d e) (sym (pushed_before ends end d (let long = are.long in omega arith))) (are.each d before)
     | inr past ↦ let same : n ≡ d = omega arith in
@@ -44,7 +41,7 @@ bounds_none bounds is = subst (λ bs. EndBelow bs 0) (sym is) (record {
 pub bounds_push : (bounds : List ℕ) (d e : ℕ) → EndBelow bounds d → d ≤ e → EndAt (bounds ++ e ∷ []) e
 bounds_push bounds d e before less =
     let some = before.are.some in
-    let long = pushed_long bounds e in
+    let long = length-append bounds (e ∷ []) in
     record {
       are = record {
         some = omega arith;
