@@ -57,8 +57,10 @@ fn are_told(offsets: &[u64], told: &str) -> Result<bool, Fail> {
 fn is_drained_as_told(alloc: Global, row: &str) -> Result<bool, Fail> {
     let quick = row_opened(alloc, row)??;
     let is_quick = quick.path == Path::Quick;
-    let mut by_anchors = drained(alloc, quick.recovered.heap)?;
-    let traced = drained(alloc, row_recovered(alloc, row)??.heap)?;
+    let opened = quick.recovered;
+    let mut by_anchors = drained(alloc, opened.heap)?;
+    let recovered = row_recovered(alloc, row)??;
+    let traced = drained(alloc, recovered.heap)?;
     let in_order = are_told(&by_anchors, column(row, 2))? && are_told(&traced, column(row, 3))?;
     by_anchors.sort()?;
     Ok(is_quick && in_order && by_anchors.as_slice() == traced.as_slice())
