@@ -1,6 +1,7 @@
 -- Where the blocks of the dictionary hold pointers, and what a root has for its kind.
 use Rattle.std.specs.Prelude.{◌≡◌, ℕ, ◌+◌, ◌<◌, List, [], ◌∷◌, cond, nat_eq, nat_lt, refl}
 use Rattle.heap_model.specs.Reach.{Links}
+use Rattle.dict_model.specs.Layout.{next_index}
 
 -- the roots 0 to 7 lead to the tables of the eight shards
 abbrev pub shards : ℕ
@@ -29,10 +30,10 @@ abbrev pub all_to_nodes : ℕ → List ℕ → List (ℕ × ℕ)
 all_to_nodes position [] = []
 all_to_nodes position (w ∷ words) = (position, node_kind) ∷ all_to_nodes (position + 1) words
 
--- the first word of a block, as a link to a node
+-- the first word of a block, where a node has its link, as a link to a node
 abbrev pub first_to_node : List ℕ → List (ℕ × ℕ)
 first_to_node [] = []
-first_to_node (w ∷ words) = (0, node_kind) ∷ []
+first_to_node (w ∷ words) = (next_index, node_kind) ∷ []
 
 -- a table links each of its words to a node, a node its first word to the next node; a block of another kind has no links
 abbrev pub dict_links : Links
@@ -42,7 +43,7 @@ dict_links kind words =
 -- the position of a link in a block of the kind with so many words, and the kind of what it leads to: `dict_links`, which looks at no word
 pub data IsLink : ℕ → ℕ → ℕ → ℕ → Type 0 where
   in_table : (words position : ℕ) → position < words → IsLink table_kind words position node_kind
-  in_node : (words : ℕ) → 0 < words → IsLink node_kind words 0 node_kind
+  in_node : (words : ℕ) → 0 < words → IsLink node_kind words next_index node_kind
 
 -- a table of three words, a node of three words, and a block of another kind
 three_buckets : dict_links 1 (0 ∷ 5 ∷ 0 ∷ []) ≡ (0, 2) ∷ (1, 2) ∷ (2, 2) ∷ []

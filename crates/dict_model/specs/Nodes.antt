@@ -2,6 +2,7 @@
 use Rattle.std.specs.Prelude.{◌≡◌, ℕ, ◌+◌, ◌*◌, ◌^◌, ◌/◌, ◌%◌, ◌≤◌, List, [], ◌∷◌, Option, None, Some, cond, nat_eq, take, refl}
 use Rattle.heap_model.specs.declared.block.Block.{Block}
 use Rattle.heap_model.specs.Image.{Image, words_from, bytes_of_words}
+use Rattle.dict_model.specs.Layout.{key_index, length_index, value_index}
 use Rattle.dict_model.specs.Links.{shards}
 
 -- how many buckets a table has: one for each of its words
@@ -24,7 +25,7 @@ abbrev pub value_words : ℕ → ℕ
 value_words length = (length + 7) / 8
 
 abbrev pub node_bytes : ℕ → ℕ
-node_bytes length = 24 + 8 * value_words length
+node_bytes length = 8 * value_index + 8 * value_words length
 
 -- the bytes that are asked for a table
 abbrev pub table_bytes : ℕ
@@ -32,20 +33,20 @@ table_bytes = 8 * buckets
 
 -- what stands in a node
 abbrev pub key_in : Image → Block → ℕ
-key_in image b = image (b.first_word + 1)
+key_in image b = image (b.first_word + key_index)
 
 abbrev pub length_in : Image → Block → ℕ
-length_in image b = image (b.first_word + 2)
+length_in image b = image (b.first_word + length_index)
 
 abbrev pub value_in : Image → Block → List ℕ
-value_in image b = take (length_in image b) (bytes_of_words (words_from image (b.first_word + 3) (value_words (length_in image b))))
+value_in image b = take (length_in image b) (bytes_of_words (words_from image (b.first_word + value_index) (value_words (length_in image b))))
 
 -- a block can be a node of the bucket: its key belongs there, and its value has its room
 pub record IsNode (image : Image) (shard bucket : ℕ) (b : Block) : Type 0 where
   pub in_shard : shard_of (key_in image b) ≡ shard
   pub in_bucket : bucket_of (key_in image b) ≡ bucket
   pub short : length_in image b ≤ largest_value
-  pub fits : 3 + value_words (length_in image b) ≤ b.words
+  pub fits : value_index + value_words (length_in image b) ≤ b.words
 
 -- the value of the key in the first of the nodes that has it
 abbrev pub find : Image → ℕ → List Block → Option (List ℕ)

@@ -3,17 +3,22 @@
 
 ghost use Rattle.std.specs.Prelude.{◌≡◌, ℕ};
 ghost use Rattle.heap_model.specs.Image.{Image};
+ghost use Rattle.dict_model.specs.Layout.{next_index, key_index, length_index, value_index};
 ghost use Rattle.dict_model.specs.Links.{shards};
 ghost use Rattle.dict_model.specs.Nodes.{buckets, largest_value};
 ghost use Rattle.dict_model.specs.Shards.{Map, MapOf, BadShard};
 
-use crate::{BUCKETS, LARGEST_VALUE, SHARDS};
+use crate::{BUCKETS, KEY_INDEX, LARGEST_VALUE, LENGTH_INDEX, NEXT_INDEX, SHARDS, VALUE_INDEX};
 
 /// The constants of this crate are the numbers that the definitions speak of.
 pub fn constants_agree()
     ensures shards { SHARDS ≡ shards }
     ensures buckets { BUCKETS ≡ buckets }
     ensures largest_value { LARGEST_VALUE ≡ largest_value }
+    ensures next { NEXT_INDEX ≡ next_index }
+    ensures key { KEY_INDEX ≡ key_index }
+    ensures length { LENGTH_INDEX ≡ length_index }
+    ensures value { VALUE_INDEX ≡ value_index }
 {}
 
 /// A shard of an image is one map, or it has one first bad place, and not both.

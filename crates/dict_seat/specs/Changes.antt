@@ -3,6 +3,7 @@ use Rattle.std.specs.Prelude.{◌≡◌, ℕ, ◌+◌, ◌≤◌, List, [], ◌�
 use Rattle.heap_model.specs.declared.block.Block.{Block}
 use Rattle.heap_seat.specs.View.{View, word_of}
 use Rattle.heap_seat.specs.Words.{IsOwnSpot}
+use Rattle.dict_model.specs.Layout.{key_index, value_index}
 use Rattle.dict_model.specs.Nodes.{shard_of, bucket_of}
 use Rattle.dict_model.specs.Shards.{Map, link_behind}
 use Rattle.dict_seat.specs.declared.walk.Place.{Place}
@@ -28,6 +29,6 @@ pub record IsReadPlace (reads : View → Reading) (v : View) (key : ℕ) (place 
   pub come : HasCome reads v (shard_of key) key table (before ++ (place.node ∷ []))
   pub at_is : word_of place.link ≡ link_behind (table.first_word + bucket_of key) before
   pub own : IsOwnSpot v place.link
-  pub room : 3 ≤ place.node.words
+  pub room : value_index ≤ place.node.words
   pub next_is : reads v place.node.first_word next
-  pub key_is : reads v (place.node.first_word + 1) key
+  pub key_is : reads v (place.node.first_word + key_index) key

@@ -4,6 +4,7 @@ use Rattle.heap_model.specs.declared.block.Block.{Block}
 use Rattle.heap_model.specs.Image.{Image, bytes_of_words}
 use Rattle.heap_seat.specs.View.{View}
 use Rattle.heap_seat.specs.Tickets.{Runs}
+use Rattle.dict_model.specs.Layout.{value_index}
 use Rattle.dict_model.specs.Nodes.{shard_of, value_words, value_in}
 use Rattle.dict_model.specs.Shards.{Map}
 use Rattle.dict_seat.specs.Maps.{GivesMap}
@@ -42,7 +43,7 @@ ReadsFew key v w = (map : Map) → GivesMap v (shard_of key) map → MakesFew (w
 pub record HasRead (b : Block) (count : ℕ) (old new : List ℕ) (w : View) : Type 0 where
   pub words : List ℕ
   pub count_is : length words ≡ count
-  pub seen : (i : ℕ) → i < count → w.volatile (b.first_word + (3 + i)) ≡ Some (slice_index words i)
+  pub seen : (i : ℕ) → i < count → w.volatile (b.first_word + (value_index + i)) ≡ Some (slice_index words i)
   pub bytes : new ≡ take (length old) (bytes_of_words words) ++ drop (8 * count) old
 
 -- how far a value has been read since the call began

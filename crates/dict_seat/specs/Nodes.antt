@@ -8,6 +8,7 @@ use Rattle.heap_seat.specs.Words.{IsOwn, KeepsWord}
 use Rattle.heap_seat.specs.Tickets.{Runs}
 use Rattle.heap_seat.specs.Calls.{SameRefusals}
 use Rattle.heap_seat.specs.Rows.{IsRow, Settles}
+use Rattle.dict_model.specs.Layout.{next_index, key_index, length_index, value_index}
 use Rattle.dict_model.specs.Nodes.{value_words}
 use Rattle.dict_seat.specs.Reached.{Reading}
 use Rattle.dict_seat.specs.Trails.{IsDurableAt, IsSettling}
@@ -33,13 +34,13 @@ pub record Writes (word value : ℕ) (v w : View) : Type 0 where
 
 -- the words of the value from the first on, so many
 abbrev pub HasWords : Reading → Block → List ℕ → ℕ → Type 0
-HasWords reads b value count = (i : ℕ) → i < count → reads (b.first_word + (3 + i)) (image_of_bytes value i)
+HasWords reads b value count = (i : ℕ) → i < count → reads (b.first_word + (value_index + i)) (image_of_bytes value i)
 
 -- the block is a node of the key with this value, and leads on to this word
 pub record IsWrittenNode (reads : Reading) (b : Block) (key next : ℕ) (value : List ℕ) : Type 0 where
-  pub next_is : reads (b.first_word + 0) next
-  pub key_is : reads (b.first_word + 1) key
-  pub length_is : reads (b.first_word + 2) (length value)
+  pub next_is : reads (b.first_word + next_index) next
+  pub key_is : reads (b.first_word + key_index) key
+  pub length_is : reads (b.first_word + length_index) (length value)
   pub words : HasWords reads b value (value_words (length value))
 
 -- how far a value has been written since the call began
@@ -64,7 +65,7 @@ pub record MakesNode (b : Block) (key next : ℕ) (value : List ℕ) (v w : View
   pub new : Contains v.held b → ⊥
   pub held : Contains w.held b
   pub only : (a : Block) → Contains w.held a → (a ≡ b) ⊎ Contains v.held a
-  pub room : 3 + value_words (length value) ≤ b.words
+  pub room : value_index + value_words (length value) ≤ b.words
   pub settles : Settles v w
   pub written : IsWrittenNode (IsDurableAt w) b key next value
   pub refusals : SameRefusals v w

@@ -4,6 +4,7 @@ use Rattle.heap_model.specs.declared.block.Block.{Block}
 use Rattle.heap_seat.specs.declared.spot.Spot.{Spot}
 use Rattle.heap_seat.specs.View.{View, word_of}
 use Rattle.heap_seat.specs.Words.{IsOwnSpot}
+use Rattle.dict_model.specs.Layout.{key_index, value_index}
 use Rattle.dict_model.specs.Nodes.{shard_of, bucket_of}
 use Rattle.dict_model.specs.Shards.{Map, link_behind}
 use Rattle.dict_seat.specs.declared.walk.Place.{Place}
@@ -25,14 +26,14 @@ pub record IsWalk (v : View) (key : ℕ) (table : Block) (at : ℕ) : Type 0 whe
 -- the link leads to the block, which has the words of a node
 pub record IsNodeAt (w : View) (at : ℕ) (b : Block) : Type 0 where
   pub held : Contains w.held b
-  pub room : 3 ≤ b.words
+  pub room : value_index ≤ b.words
   pub link : IsSettling w at (pointer_to b)
 
 -- what the link leads to: nothing, a node of the key, or another node
 abbrev pub LeadsOn : View → ℕ → ℕ → Next → Type 0
 LeadsOn w key at End = IsSettling w at 0
-LeadsOn w key at (Key b) = IsNodeAt w at b × (w.volatile (b.first_word + 1) ≡ Some key)
-LeadsOn w key at (Other b) = IsNodeAt w at b × ((x : ℕ) × (w.volatile (b.first_word + 1) ≡ Some x) × (x ≢ key))
+LeadsOn w key at (Key b) = IsNodeAt w at b × (w.volatile (b.first_word + key_index) ≡ Some key)
+LeadsOn w key at (Other b) = IsNodeAt w at b × ((x : ℕ) × (w.volatile (b.first_word + key_index) ≡ Some x) × (x ≢ key))
 
 -- one link was followed
 pub record StepsAlong (key at : ℕ) (next : Next) (v w : View) : Type 0 where
@@ -46,8 +47,8 @@ pub record IsFoundPlace (w : View) (key : ℕ) (place : Place) : Type 0 where
   pub come : HasCome IsSettling w (shard_of key) key table (before ++ (place.node ∷ []))
   pub at_is : word_of place.link ≡ link_behind (table.first_word + bucket_of key) before
   pub own : IsOwnSpot w place.link
-  pub room : 3 ≤ place.node.words
-  pub key_seen : w.volatile (place.node.first_word + 1) ≡ Some key
+  pub room : value_index ≤ place.node.words
+  pub key_seen : w.volatile (place.node.first_word + key_index) ≡ Some key
 
 -- the shard's map has no other keys than these
 pub record ListsKeys (v : View) (shard : ℕ) (keys : List ℕ) : Type 0 where

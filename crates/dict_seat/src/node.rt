@@ -11,6 +11,7 @@ ghost use Rattle.heap_seat.specs.Calls.{SameRefusals};
 ghost use Rattle.heap_seat.specs.Rows.{IsRow};
 ghost use Rattle.heap_seat.specs.Alloc.{FailsBy};
 ghost use Rattle.heap_model.specs.Sizes.{span_of};
+ghost use Rattle.dict_model.specs.Layout.{value_index};
 ghost use Rattle.dict_model.specs.Nodes.{largest_value, value_words, node_bytes};
 ghost use Rattle.dict_seat.specs.Quiet.{Grown};
 ghost use Rattle.dict_seat.specs.Trails.{IsSettling};
@@ -18,7 +19,7 @@ ghost use Rattle.dict_seat.specs.Puts.{WasTurnedDown};
 ghost use Rattle.dict_seat.specs.Nodes.{StoresWithin, KeepsPendingBut, Writes, WritesValue, WritesNode, MakesNode};
 
 use crate::value::value_word;
-use crate::walk::{KEY, NEXT};
+use dict_model::{KEY_INDEX, LENGTH_INDEX, NEXT_INDEX, VALUE_INDEX};
 use heap_model::Block;
 use heap_seat::{AllocFault, HeapSeat, Spot};
 use line_memory::Stopped;
@@ -45,13 +46,10 @@ pub(crate) fn write_word<H: HeapSeat>(
     seat.write_back(Spot::InBlock(block, index))
 }
 
-/// The words of a node in front of its value: the link, the key and the length.
-pub(crate) const HEAD: u64 = 3;
-
 /// Stores a value into its node.
 fn write_value<H: HeapSeat>(seat: &mut H, node: Block, value: &[u8]) -> Result<(), Stopped>
     requires held { Contains (H.view seat.old).held node }
-    requires room { 3 + value_words (length value.now) ≤ node.words }
+    requires room { value_index + value_words (length value.now) ≤ node.words }
     requires short { length value.now < 2 ^ 32 }
     ensures ok { OnOk result (WritesValue node value.now (H.view seat.old) (H.view seat.new)) }
     ensures cause { IfErr result (λ e. Stops e.step (H.view seat.old) (H.view seat.new)) }
@@ -60,7 +58,7 @@ fn write_value<H: HeapSeat>(seat: &mut H, node: Block, value: &[u8]) -> Result<(
     ensures kept { H.keeps seat.old seat.new }
 {
     for index in 0..value.len().div_ceil(8) {
-        write_word(seat, node, HEAD + index as u64, value_word(value, index))?;
+        write_word(seat, node, VALUE_INDEX + index as u64, value_word(value, index))?;
     }
     Ok(())
 }
@@ -74,7 +72,7 @@ fn write_node<H: HeapSeat>(
     value: &[u8],
 ) -> Result<(), Stopped>
     requires held { Contains (H.view seat.old).held node }
-    requires room { 3 + value_words (length value.now) ≤ node.words }
+    requires room { value_index + value_words (length value.now) ≤ node.words }
     requires short { length value.now < 2 ^ 32 }
     ensures ok { OnOk result (WritesNode node key next value.now
         (H.view seat.old) (H.view seat.new)) }
@@ -84,13 +82,10 @@ fn write_node<H: HeapSeat>(
     ensures kept { H.keeps seat.old seat.new }
 {
     write_value(seat, node, value)?;
-    write_word(seat, node, LENGTH, value.len() as u64)?;
-    write_word(seat, node, KEY, key)?;
-    write_word(seat, node, NEXT, next)
+    write_word(seat, node, LENGTH_INDEX, value.len() as u64)?;
+    write_word(seat, node, KEY_INDEX, key)?;
+    write_word(seat, node, NEXT_INDEX, next)
 }
-
-/// The word of a node that holds the length of its value.
-pub(crate) const LENGTH: u64 = 2;
 
 /// Makes a node, all of which is durable, and so are the words whose write-backs were pending.
 pub(crate) fn make_node<H: HeapSeat>(
@@ -114,7 +109,7 @@ pub(crate) fn make_node<H: HeapSeat>(
         (span_of (node_bytes (length value.now))) (H.view seat.old) (H.view seat.new) }
     ensures kept { H.keeps seat.old seat.new }
 {
-    let words = HEAD + value.len().div_ceil(8) as u64;
+    let words = VALUE_INDEX + value.len().div_ceil(8) as u64;
     let node = seat.alloc(8 * words)?;
     write_node(seat, node, key, next, value)?;
     // The node is whole before a link leads to it.

@@ -5,15 +5,16 @@ ghost use Rattle.heap_seat.specs.View.{View};
 ghost use Rattle.heap_seat.specs.Words.{KeepsOwn};
 ghost use Rattle.heap_seat.specs.Tickets.{Stops};
 ghost use Rattle.heap_seat.specs.Calls.{SameRefusals};
+ghost use Rattle.dict_model.specs.Layout.{value_index};
 ghost use Rattle.dict_model.specs.Nodes.{shard_of, bucket_of, value_words, IsNode};
 ghost use Rattle.dict_seat.specs.Trails.{Completes};
 ghost use Rattle.dict_seat.specs.Quiet.{IsQuiet};
 ghost use Rattle.dict_seat.specs.Removal.{IsShard};
 ghost use Rattle.dict_seat.specs.Gets.{Gets, ReadsFew, ReadsWords, ReadsValue, IsQuietRead};
 
-use crate::node::{HEAD, LENGTH};
 use crate::search::{SearchEnd, search};
 use crate::value::put_word;
+use dict_model::{LENGTH_INDEX, VALUE_INDEX};
 use heap_model::Block;
 use heap_seat::{HeapSeat, Spot};
 use line_memory::Stopped;
@@ -21,7 +22,7 @@ use line_memory::Stopped;
 /// Reads the value's words, and puts their bytes into all of the output.
 fn read_words<H: HeapSeat>(seat: &mut H, node: Block, out: &mut [u8]) -> Result<(), Stopped>
     requires held { Contains (H.view seat.old).held node }
-    requires room { 3 + value_words (length out.old) ≤ node.words }
+    requires room { value_index + value_words (length out.old) ≤ node.words }
     requires short { length out.old < 2 ^ 32 }
     ensures ok { OnOk result (ReadsWords node out.old out.new
         (H.view seat.old) (H.view seat.new)) }
@@ -31,7 +32,7 @@ fn read_words<H: HeapSeat>(seat: &mut H, node: Block, out: &mut [u8]) -> Result<
     ensures kept { H.keeps seat.old seat.new }
 {
     for index in 0..out.len().div_ceil(8) {
-        let word = seat.load(Spot::InBlock(node, HEAD + index as u64))?;
+        let word = seat.load(Spot::InBlock(node, VALUE_INDEX + index as u64))?;
         put_word(out, 8 * index, word);
     }
     Ok(())
@@ -45,7 +46,7 @@ fn read_value<H: HeapSeat>(
     out: &mut [u8],
 ) -> Result<usize, Stopped>
     requires held { Contains (H.view seat.old).held node }
-    requires room { 3 ≤ node.words }
+    requires room { value_index ≤ node.words }
     requires node { (image : Image) → Completes (H.view seat.old) image
         → IsNode image (shard_of key) (bucket_of key) node }
     ensures ok { IfOk result (λ answer. ReadsValue node answer out.old out.new
@@ -55,7 +56,7 @@ fn read_value<H: HeapSeat>(
     ensures same { length out.new ≡ length out.old }
     ensures kept { H.keeps seat.old seat.new }
 {
-    let length = seat.load(Spot::InBlock(node, LENGTH))? as usize;
+    let length = seat.load(Spot::InBlock(node, LENGTH_INDEX))? as usize;
     let count = length.min(out.len());
     read_words(seat, node, &mut out[..count])?;
     Ok(length)

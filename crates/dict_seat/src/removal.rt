@@ -13,7 +13,8 @@ ghost use Rattle.dict_seat.specs.Changes.{MayChange, Changes};
 ghost use Rattle.dict_seat.specs.Reached.{ReachesAllHeld};
 ghost use Rattle.dict_seat.specs.Removal.{IsShard, Takes};
 
-use crate::walk::{KEY, NEXT, Place, follow};
+use crate::walk::{Place, follow};
+use dict_model::{KEY_INDEX, NEXT_INDEX};
 use heap_seat::{HeapSeat, Spot, persist};
 use line_memory::Stopped;
 
@@ -26,8 +27,8 @@ pub(crate) fn take<H: HeapSeat>(seat: &mut H, key: u64, place: Place) -> Result<
     ensures quiet { IsQuiet 3 (H.view seat.old) (H.view seat.new) }
     ensures kept { H.keeps seat.old seat.new }
 {
-    let next = follow(seat, Spot::InBlock(place.node, NEXT))?;
-    seat.write_back(Spot::InBlock(place.node, KEY))?;
+    let next = follow(seat, Spot::InBlock(place.node, NEXT_INDEX))?;
+    seat.write_back(Spot::InBlock(place.node, KEY_INDEX))?;
     Ok(next)
 }
 

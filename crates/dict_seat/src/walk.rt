@@ -13,7 +13,7 @@ ghost use Rattle.dict_model.specs.Nodes.{shard_of, bucket_of};
 ghost use Rattle.dict_seat.specs.Trails.{IsSettling, HasCome};
 ghost use Rattle.dict_seat.specs.Maps.{GivesMap};
 
-use dict_model::{BUCKETS, SHARDS};
+use dict_model::{BUCKETS, KEY_INDEX, NEXT_INDEX, SHARDS};
 use heap_model::Block;
 use heap_seat::{HeapSeat, Spot};
 use line_memory::Stopped;
@@ -64,12 +64,6 @@ pub(crate) struct Place {
     pub node: Block,
 }
 
-/// The word of a node that leads to the next one of its bucket.
-pub(crate) const NEXT: u64 = 0;
-
-/// The word of a node that holds its key.
-pub(crate) const KEY: u64 = 1;
-
 /// Follows a link of the key's bucket.
 fn step<H: HeapSeat>(seat: &mut H, link: Spot, key: u64) -> Result<Next, Stopped>
     requires own { IsOwnSpot (H.view seat.old) link }
@@ -84,7 +78,7 @@ fn step<H: HeapSeat>(seat: &mut H, link: Spot, key: u64) -> Result<Next, Stopped
     let Some(node) = block_of(seat, word) else {
         return Ok(Next::End);
     };
-    if seat.load(Spot::InBlock(node, KEY))? == key {
+    if seat.load(Spot::InBlock(node, KEY_INDEX))? == key {
         Ok(Next::Key(node))
     } else {
         Ok(Next::Other(node))
@@ -109,7 +103,7 @@ pub(crate) fn walk<H: HeapSeat>(
         match step(seat, link, key)? {
             Next::End => return Ok(None),
             Next::Key(node) => return Ok(Some(Place { link, node })),
-            Next::Other(node) => link = Spot::InBlock(node, NEXT),
+            Next::Other(node) => link = Spot::InBlock(node, NEXT_INDEX),
         }
     }
 }
