@@ -23,7 +23,7 @@ use Rattle.dict_seat.specs.Walks.{IsFoundPlace, IsQuietWalk}
 use Rattle.dict_seat.specs.Changes.{Changes}
 use Rattle.dict_seat.specs.Removal.{IsShard}
 use Rattle.dict_seat.specs.Answers.{Deletes, MakesFew}
-use Rattle.dict_seat.proofs.GrownLemmas.{kind_kept, grown_keeps, gives_grown, only_grown}
+use Rattle.dict_seat.proofs.GrownLemmas.{grown_keeps, gives_grown, shard_grown}
 use Rattle.dict_seat.proofs.TrailLemmas.{now_image, now_completes, settling_in, is_along, found_at, bucket_below}
 use Rattle.dict_seat.proofs.RemovalLemmas.{found_held}
 
@@ -89,13 +89,7 @@ deletes_node v u w key place seat keeps runs found changes runs' =
 
 -- the shard is a map still after quiet calls
 pub shard_still : (v u : View) (shard : ℕ) → IsSeat u → KeepsOwn v u → u.kinds ≡ v.kinds → IsShard v shard → IsShard u shard
-shard_still v u shard seat keeps kinds is = record {
-  owned = subst (λ (rs : List ℕ). Contains rs shard) (sym keeps.roots) is.owned;
-  kind_is = kind_kept v u shard kinds ∙ is.kind_is;
-  only = only_grown v u (grown_keeps v u keeps) kinds seat is.only;
-  map = is.map;
-  gives = gives_grown v u (grown_keeps v u keeps) shard is.map is.gives;
-}
+shard_still v u shard seat keeps kinds is = shard_grown v u shard seat (grown_keeps v u keeps) kinds is
 
 -- the calls of a search, and some more
 pub few_calls : (small large most words shard : ℕ) (v u w : View) → small ≤ 500 + 2 * words → large ≤ 3 → IsQuietWalk 5 shard v u → IsRow small large most u w → MakesFew words most shard v w

@@ -6,7 +6,7 @@ use Rattle.heap_seat.specs.declared.fault.AllocFault.{AllocFault}
 use Rattle.heap_seat.specs.declared.fault.AllocFault.TheVariants.{Full, Stopped}
 use Rattle.heap_seat.specs.declared.look.Look.{Look}
 use Rattle.heap_seat.specs.declared.fault.Looks.{Looks}
-use Rattle.heap_seat.specs.View.{View, kind_of}
+use Rattle.heap_seat.specs.View.{View}
 use Rattle.heap_seat.specs.Words.{IsOwn, KeepsOwn, MixesOwn, MayHaveStored, in_block}
 use Rattle.heap_seat.specs.Tickets.{Runs}
 use Rattle.heap_seat.specs.Calls.{SameRefusals}
@@ -26,7 +26,7 @@ use Rattle.dict_seat.specs.Nodes.{MakesNode}
 use Rattle.dict_seat.specs.Changes.{MayChange, Changes}
 use Rattle.dict_seat.specs.Removal.{IsShard}
 use Rattle.dict_seat.specs.Puts.{IsMissing, IsRefused, PutFails}
-use Rattle.dict_seat.proofs.GrownLemmas.{stays_held, kind_kept, grown_keeps, grown_then, own_grown, new_block_outside, gives_grown, only_grown}
+use Rattle.dict_seat.proofs.GrownLemmas.{stays_held, kind_kept, grown_keeps, grown_then, own_grown, new_block_outside, gives_grown, only_grown, shard_grown}
 use Rattle.dict_seat.proofs.TrailLemmas.{settles, come_stays, bucket_own, bucket_below, same_map, leads_held}
 use Rattle.dict_seat.proofs.QuietLemmas.{still_settling}
 use Rattle.dict_seat.proofs.ComeLemmas.{followed_leads, bucket_followed, link_followed, link_behind_roots}
@@ -34,7 +34,7 @@ use Rattle.dict_seat.proofs.PutLemmas.{put_left, put_done, new_key, publish}
 use Rattle.heap_model.specs.Blocks.{IsIn}
 use Rattle.dict_seat.proofs.ExactLemmas.{target_sees, come_sees, node_link, sees_grown, sees_after}
 use Rattle.dict_seat.proofs.ExactCallLemmas.{come_kept}
-use Rattle.dict_model.specs.Links.{table_kind, node_kind}
+use Rattle.dict_model.specs.Links.{node_kind}
 use Rattle.dict_seat.proofs.ChangeLemmas.{change_after, changes_after}
 use Rattle.dict_seat.proofs.DeleteLemmas.{shard_below}
 
@@ -113,14 +113,11 @@ module _ (v t u w : View) (seat_t : IsSeat t) (seat : IsSeat u) (key first x : �
   kinds_all : u.kinds ≡ v.kinds
   kinds_all = kinds_u ∙ kinds_t
 
-  root_is : kind_of u (shard_of key) ≡ table_kind
-  root_is = kind_kept v u (shard_of key) kinds_all ∙ shard.kind_is
+  still : IsShard u (shard_of key)
+  still = shard_grown v u (shard_of key) seat grown_all kinds_all shard
 
   only_t : ReachesOnlyHeld t
   only_t = only_grown v t grown_t kinds_t seat_t shard.only
-
-  only_u : ReachesOnlyHeld u
-  only_u = only_grown v u grown_all kinds_all seat shard.only
 
   was : IsDurableAt u (table.first_word + bucket_of key) first
   was = settle (table.first_word + bucket_of key) first own_t follows.settling
@@ -130,20 +127,20 @@ module _ (v t u w : View) (seat_t : IsSeat t) (seat : IsSeat u) (key first x : �
 
   new_map : (map : Map) → GivesMap u (shard_of key) map → (image : Image) → MixesOwn w image → image (table.first_word + bucket_of key) ≡ x → IsMapIn w image (shard_of key) (with_key map key value)
   new_map = new_key t u seat grown_u kinds_u only_t key first value n makes.held makes.new makes.room short small makes.written
-      (followed_leads u seat (shard_of key) (shard_below key) (table.first_word + bucket_of key) first (bucket_followed u seat key (shard_below key) table [] come_u root_is) was only_u)
-      w only_u table [] [] come_u come_u (table.first_word + bucket_of key) x first refl was may points own_t come_t.held_table was (own_grown t u (table.first_word + bucket_of key) grown_u own_t) root_is kinds_w refl none_u
+      (followed_leads u seat (shard_of key) (shard_below key) (table.first_word + bucket_of key) first (bucket_followed u seat key (shard_below key) table [] come_u still.kind_is) was still.only)
+      w still.only table [] [] come_u come_u (table.first_word + bucket_of key) x first refl was may points own_t come_t.held_table was (own_grown t u (table.first_word + bucket_of key) grown_u own_t) still.kind_is kinds_w refl none_u
 
   pub first_left : MayChange (shard_of key) (λ map. with_key map key value) v w
   first_left = change_after (shard_of key) (λ map. with_key map key value) v u w grown_all kinds_all seat shard.only
       (put_left t u seat grown_u kinds_u only_t key first value n makes.held makes.new makes.room short small makes.written
-      (followed_leads u seat (shard_of key) (shard_below key) (table.first_word + bucket_of key) first (bucket_followed u seat key (shard_below key) table [] come_u root_is) was only_u)
-      w only_u table [] [] come_u come_u (table.first_word + bucket_of key) x first refl was may points own_t come_t.held_table was (own_grown t u (table.first_word + bucket_of key) grown_u own_t) root_is kinds_w new_map)
+      (followed_leads u seat (shard_of key) (shard_below key) (table.first_word + bucket_of key) first (bucket_followed u seat key (shard_below key) table [] come_u still.kind_is) was still.only)
+      w still.only table [] [] come_u come_u (table.first_word + bucket_of key) x first refl was may points own_t come_t.held_table was (own_grown t u (table.first_word + bucket_of key) grown_u own_t) still.kind_is kinds_w new_map)
 
   pub first_done : IsDurableAt w (table.first_word + bucket_of key) x → Changes (shard_of key) (λ map. with_key map key value) v w
   first_done settled = changes_after (shard_of key) (λ map. with_key map key value) v u w grown_all
       (put_done t u seat grown_u kinds_u only_t key first value n makes.held makes.new makes.room short small makes.written
-      (followed_leads u seat (shard_of key) (shard_below key) (table.first_word + bucket_of key) first (bucket_followed u seat key (shard_below key) table [] come_u root_is) was only_u)
-      w only_u table [] [] come_u come_u (table.first_word + bucket_of key) x first refl was may points own_t come_t.held_table was (own_grown t u (table.first_word + bucket_of key) grown_u own_t) root_is kinds_w new_map settled)
+      (followed_leads u seat (shard_of key) (shard_below key) (table.first_word + bucket_of key) first (bucket_followed u seat key (shard_below key) table [] come_u still.kind_is) was still.only)
+      w still.only table [] [] come_u come_u (table.first_word + bucket_of key) x first refl was may points own_t come_t.held_table was (own_grown t u (table.first_word + bucket_of key) grown_u own_t) still.kind_is kinds_w new_map settled)
 
   -- all that is held is reached still, the new node in front of the bucket's others
   pub all_first : IsSeat w → IsDurableAt w (table.first_word + bucket_of key) x → ReachesAllHeld v → ReachesAllHeld w
@@ -158,7 +155,7 @@ module _ (v t u w : View) (seat_t : IsSeat t) (seat : IsSeat u) (key first x : �
   } where
     n_reached : Reaches w (shard_of key) n node_kind
     n_reached = target_sees w (shard_of key) (table.first_word + bucket_of key) x n
-        (come_sees w key table [] seat_w (come_kept u w key (table.first_word + bucket_of key) x table [] shard.map seat (gives_grown v u grown_all (shard_of key) shard.map shard.gives) come_u refl may) (kind_kept u w (shard_of key) kinds_w ∙ root_is))
+        (come_sees w key table [] seat_w (come_kept u w key (table.first_word + bucket_of key) x table [] still.map seat still.gives come_u refl may) (kind_kept u w (shard_of key) kinds_w ∙ still.kind_is))
         settled.seen (subst (λ q. LeadsTo (Contains w.held) q n) (sym points) (leads_held w n seat_w (stays_held u w may.held n makes.held)))
 
     n_next : w.volatile n.first_word ≡ Some first
@@ -171,10 +168,10 @@ module _ (v t u w : View) (seat_t : IsSeat t) (seat : IsSeat u) (key first x : �
         (λ e. new_block_outside t u n seat grown_u makes.held makes.new (table.first_word + bucket_of key) own_t (subst (IsIn n) e inside))).volatile first makes.written.next_is.seen)
 
     past : (root : ℕ) (c : Block) (k : ℕ) → Reaches u root c k → Reaches w root c k ⊎ ⊥
-    past = sees_after u w seat (shard_of key) (table.first_word + bucket_of key) x first (shard_below key) may kinds_w only_u (link_followed u seat key (shard_below key) table [] come_u root_is)
+    past = sees_after u w seat (shard_of key) (table.first_word + bucket_of key) x first (shard_below key) may kinds_w still.only (link_followed u seat key (shard_below key) table [] come_u still.kind_is)
         (publish t u seat grown_u kinds_u only_t key first value n makes.held makes.new makes.room short small makes.written
-        (followed_leads u seat (shard_of key) (shard_below key) (table.first_word + bucket_of key) first (bucket_followed u seat key (shard_below key) table [] come_u root_is) was only_u)
-        w only_u table [] [] come_u come_u (table.first_word + bucket_of key) x first refl was may points own_t come_t.held_table was (own_grown t u (table.first_word + bucket_of key) grown_u own_t) root_is kinds_w)
+        (followed_leads u seat (shard_of key) (shard_below key) (table.first_word + bucket_of key) first (bucket_followed u seat key (shard_below key) table [] come_u still.kind_is) was still.only)
+        w still.only table [] [] come_u come_u (table.first_word + bucket_of key) x first refl was may points own_t come_t.held_table was (own_grown t u (table.first_word + bucket_of key) grown_u own_t) still.kind_is kinds_w)
         was (λ root owned e. link_behind_roots u key table [] root seat owned come_u e) (λ d. ⊥)
         (λ d leads. inr (target_sees w (shard_of key) n.first_word first d (node_link w (shard_of key) n seat_w n_reached) n_next (stays_held u w may.held d leads.0, leads.1)))
         (λ a d read none seen leads. absurd none) (λ root a kind none reached. absurd none)

@@ -18,6 +18,7 @@ use Rattle.dict_model.proofs.MapLemmas.{map_wider}
 use Rattle.dict_seat.specs.Reached.{MayReach, IsNullOrHeld, ReachesOnlyHeld}
 pub use Rattle.dict_seat.specs.Quiet.{Grown}
 use Rattle.dict_seat.specs.Maps.{IsMapIn, GivesMap, KeepsOtherShards}
+use Rattle.dict_seat.specs.Removal.{IsShard}
 
 -- the blocks of a seat are apart, lie behind the roots and have words
 pub are_placed : (v : View) → IsSeat v → ArePlaced (Contains v.held)
@@ -163,3 +164,13 @@ module _ (v w : View) (grown : Grown v w) where
     root_words = λ root owned differs. grown.words (root_word root) (in_root root (root_word root) owned refl);
     blocks = λ b h unreached. (grown.keeps b h, λ word inside. grown.words word (in_block b word h inside));
   }
+
+-- the shard is a map still, and all that the requests rely on
+pub shard_grown : (v u : View) (shard : ℕ) → IsSeat u → Grown v u → u.kinds ≡ v.kinds → IsShard v shard → IsShard u shard
+shard_grown v u shard seat grown kinds is = record {
+  owned = subst (λ (rs : List ℕ). Contains rs shard) (sym grown.roots) is.owned;
+  kind_is = kind_kept v u shard kinds ∙ is.kind_is;
+  only = only_grown v u grown kinds seat is.only;
+  map = is.map;
+  gives = gives_grown v u grown shard is.map is.gives;
+}

@@ -9,12 +9,12 @@ use Rattle.std.proofs.lemmas.List.Elements.{Contains-append_right}
 use Rattle.heap_model.proofs.MemberLemmas.{in_head}
 use Rattle.heap_seat.specs.declared.spot.Spot.{Spot}
 use Rattle.heap_seat.specs.declared.spot.Spot.TheVariants.{InBlock, Root}
-use Rattle.heap_seat.specs.View.{View, kind_of, word_of}
+use Rattle.heap_seat.specs.View.{View, word_of}
 use Rattle.heap_seat.specs.Words.{IsOwn, IsOwnSpot, in_root, in_block, KeepsOwn, MixesOwn, MayHaveStored}
 use Rattle.heap_seat.specs.Free.{MayHaveFreed}
 use Rattle.heap_seat.specs.Sound.{IsSeat}
 use Rattle.heap_seat.proofs.CallerLemmas.{own_same, own_spot}
-use Rattle.dict_model.specs.Links.{table_kind, node_kind}
+use Rattle.dict_model.specs.Links.{node_kind}
 use Rattle.dict_model.specs.Nodes.{largest_value, shard_of, bucket_of}
 use Rattle.dict_model.specs.Requests.{with_key}
 use Rattle.dict_model.specs.Shards.{Map, LeadsTo, IsPath, but, link_behind}
@@ -28,7 +28,7 @@ use Rattle.dict_seat.specs.Quiet.{Grown}
 use Rattle.dict_seat.specs.Nodes.{MakesNode}
 use Rattle.dict_seat.specs.Changes.{MayChange, Changes, IsReadPlace}
 use Rattle.dict_seat.specs.Removal.{IsShard}
-use Rattle.dict_seat.proofs.GrownLemmas.{are_placed, stays_held, kind_kept, grown_keeps, grown_then, gives_grown, only_grown, new_block_outside}
+use Rattle.dict_seat.proofs.GrownLemmas.{are_placed, stays_held, kind_kept, grown_keeps, grown_then, only_grown, shard_grown, new_block_outside}
 use Rattle.dict_seat.proofs.TrailLemmas.{now_image, settled_stays, come_stays, first_own, bucket_own, bucket_below, trail_more, leads_held}
 use Rattle.dict_seat.proofs.MapPublishLemmas.{trail_held}
 use Rattle.dict_seat.proofs.ComeLemmas.{followed_leads, own_link_followed, begins_chain, link_behind_roots, last_not_table, trail_kept}
@@ -79,38 +79,32 @@ module _ (v t u w : View) (seat_t : IsSeat t) (seat : IsSeat u) (key next x : �
   kinds_all : u.kinds ≡ v.kinds
   kinds_all = kinds_u ∙ kinds_t
 
-  root_is : kind_of u (shard_of key) ≡ table_kind
-  root_is = kind_kept v u (shard_of key) kinds_all ∙ shard.kind_is
+  still : IsShard u (shard_of key)
+  still = shard_grown v u (shard_of key) seat grown_all kinds_all shard
 
   only_t : ReachesOnlyHeld t
   only_t = only_grown v t (grown_keeps v t keeps) kinds_t seat_t shard.only
 
-  only_u : ReachesOnlyHeld u
-  only_u = only_grown v u grown_all kinds_all seat shard.only
-
-  gives_u : GivesMap u (shard_of key) shard.map
-  gives_u = gives_grown v u grown_all (shard_of key) shard.map shard.gives
-
   found : IsFoundNode u key place taken.table taken.before
-  found = found_node u seat key place next taken shard.map gives_u root_is
+  found = found_node u seat key place next taken still.map still.gives still.kind_is
 
   next_leads : (next ≡ 0) ⊎ ((f : Block) × LeadsTo (Contains u.held) next f × MayReach u (shard_of key) f node_kind)
-  next_leads = followed_leads u seat (shard_of key) (shard_below key) place.node.first_word next (own_link_followed u seat (shard_of key) (shard_below key) place.node found.held found.reached) taken.next_is only_u
+  next_leads = followed_leads u seat (shard_of key) (shard_below key) place.node.first_word next (own_link_followed u seat (shard_of key) (shard_below key) place.node found.held found.reached) taken.next_is still.only
 
   first_word_own : IsOwn u.held u.roots place.node.first_word
   first_word_own = first_own u place.node seat found.held
 
   key_word_own : IsOwn u.held u.roots (place.node.first_word + 1)
-  key_word_own = node_word_own u seat key place next taken shard.map gives_u root_is (place.node.first_word + 1) (key_in_node u seat key place next taken shard.map gives_u root_is)
+  key_word_own = node_word_own u seat key place next taken still.map still.gives still.kind_is (place.node.first_word + 1) (key_in_node u seat key place next taken still.map still.gives still.kind_is)
 
   new_map : (map : Map) → GivesMap u (shard_of key) map → (image : Image) → MixesOwn w image → image (word_of place.link) ≡ x → IsMapIn w image (shard_of key) (with_key map key value)
   new_map = old_key t u seat grown_u kinds_u only_t key next value n makes.held makes.new makes.room short small makes.written next_leads
-      w only_u taken.table taken.before (place.node ∷ []) taken.come found.come (word_of place.link) x (pointer_to place.node) taken.at_is found.link may points own_t table_t taken.next_is first_word_own root_is kinds_w
+      w still.only taken.table taken.before (place.node ∷ []) taken.come found.come (word_of place.link) x (pointer_to place.node) taken.at_is found.link may points own_t table_t taken.next_is first_word_own still.kind_is kinds_w
       place.node refl taken.key_is key_word_own
 
   left_here : MayChange (shard_of key) (λ map. with_key map key value) u w
   left_here = put_left t u seat grown_u kinds_u only_t key next value n makes.held makes.new makes.room short small makes.written next_leads
-      w only_u taken.table taken.before (place.node ∷ []) taken.come found.come (word_of place.link) x (pointer_to place.node) taken.at_is found.link may points own_t table_t taken.next_is first_word_own root_is kinds_w new_map
+      w still.only taken.table taken.before (place.node ∷ []) taken.come found.come (word_of place.link) x (pointer_to place.node) taken.at_is found.link may points own_t table_t taken.next_is first_word_own still.kind_is kinds_w new_map
 
   pub over_left : MayChange (shard_of key) (λ map. with_key map key value) v w
   over_left = change_after (shard_of key) (λ map. with_key map key value) v u w grown_all kinds_all seat shard.only left_here
@@ -121,13 +115,13 @@ module _ (v t u w : View) (seat_t : IsSeat t) (seat : IsSeat u) (key next x : �
   module _ (seat_w : IsSeat w) (settled : IsDurableAt w (word_of place.link) x) where
     done_here : Changes (shard_of key) (λ map. with_key map key value) u w
     done_here = put_done t u seat grown_u kinds_u only_t key next value n makes.held makes.new makes.room short small makes.written next_leads
-        w only_u taken.table taken.before (place.node ∷ []) taken.come found.come (word_of place.link) x (pointer_to place.node) taken.at_is found.link may points own_t table_t taken.next_is first_word_own root_is kinds_w new_map settled
+        w still.only taken.table taken.before (place.node ∷ []) taken.come found.come (word_of place.link) x (pointer_to place.node) taken.at_is found.link may points own_t table_t taken.next_is first_word_own still.kind_is kinds_w new_map settled
 
     kept : (word y : ℕ) → IsOwn u.held u.roots word → word ≢ word_of place.link → IsDurableAt u word y → IsDurableAt w word y
     kept word y own differs was = settled_stays u w word y (may.others word own differs) was
 
     path : IsPath (but taken.table (LeadsTo (Contains u.held))) (now_image u) (shard_of key) (bucket_of key) (taken.table.first_word + bucket_of key) taken.before
-    path = begins_chain u seat key (shard_below key) taken.table taken.before found.come shard.map gives_u
+    path = begins_chain u seat key (shard_below key) taken.table taken.before found.come still.map still.gives
 
     come_w : HasCome IsDurableAt w (shard_of key) key taken.table (taken.before ++ (n ∷ []))
     come_w = record {
@@ -160,26 +154,26 @@ module _ (v t u w : View) (seat_t : IsSeat t) (seat : IsSeat u) (key next x : �
     unreached : (root kind : ℕ) → MayReach w root place.node kind → ⊥
     unreached root kind reached = elim (cases_eq (shard_of key) root) as (λ _. ⊥) [
       | inl same ↦
-          replaced w seat_w (shard_of key) (with_key shard.map key value) (done_here.gives shard.map gives_u) taken.table come_w.owned come_w.held_table come_w.size come_w.root
-          place.node n key kind taken.before (last_not_table u seat key (shard_below key) shard.map gives_u taken.table place.node taken.before taken.come)
+          replaced w seat_w (shard_of key) (with_key still.map key value) (done_here.gives still.map still.gives) taken.table come_w.owned come_w.held_table come_w.size come_w.root
+          place.node n key kind taken.before (last_not_table u seat key (shard_below key) still.map still.gives taken.table place.node taken.before taken.come)
           (λ e. makes.new (subst (Contains t.held) e node_t))
-          (kept (place.node.first_word + 1) key key_word_own (outside u seat key place next taken shard.map gives_u root_is (place.node.first_word + 1) (key_in_node u seat key place next taken shard.map gives_u root_is)) taken.key_is)
+          (kept (place.node.first_word + 1) key key_word_own (outside u seat key place next taken still.map still.gives still.kind_is (place.node.first_word + 1) (key_in_node u seat key place next taken still.map still.gives still.kind_is)) taken.key_is)
           (own_same u w (place.node.first_word + 1) may.held may.roots key_word_own)
           (kept (n.first_word + 1) key n_key_own (n_outside (n.first_word + 1) n_key) makes.written.key_is) (own_same u w (n.first_word + 1) may.held may.roots n_key_own)
           come_w (subst (λ r. MayReach w r place.node kind) (sym same) reached)
       | inr differs ↦
-          let at = link_kind u seat key place next taken shard.map gives_u root_is in
+          let at = link_kind u seat key place next taken still.map still.gives still.kind_is in
           let may_publish = publish t u seat grown_u kinds_u only_t key next value n makes.held makes.new makes.room short small makes.written next_leads
-          w only_u taken.table taken.before (place.node ∷ []) taken.come found.come (word_of place.link) x (pointer_to place.node) taken.at_is found.link may points own_t table_t taken.next_is first_word_own root_is kinds_w in
-          elim (reached_after u w (shard_of key) (word_of place.link) x node_kind seat (shard_below key) may kinds_w only_u at may_publish root place.node kind reached) as (λ _. ⊥) [
-            | inl before ↦ only_u.alone (shard_of key) root place.node node_kind kind (shard_below key) differs found.reached before
+          w still.only taken.table taken.before (place.node ∷ []) taken.come found.come (word_of place.link) x (pointer_to place.node) taken.at_is found.link may points own_t table_t taken.next_is first_word_own still.kind_is kinds_w in
+          elim (reached_after u w (shard_of key) (word_of place.link) x node_kind seat (shard_below key) may kinds_w still.only at may_publish root place.node kind reached) as (λ _. ⊥) [
+            | inl before ↦ still.only.alone (shard_of key) root place.node node_kind kind (shard_below key) differs found.reached before
             | inr fresh ↦ differs (sym fresh.0)
           ]
     ]
 
     pub over_freed : (y : View) → MayHaveFreed place.node w y → y.kinds ≡ w.kinds → Changes (shard_of key) (λ map. with_key map key value) v y × MayChange (shard_of key) (λ map. with_key map key value) v y
     over_freed y freeing kinds_y =
-        let both = freed (shard_of key) (λ map. with_key map key value) u w y place.node node_kind (shard_below key) (kind_kept u w (shard_of key) kinds_w ∙ root_is) seat_w come_w.owned old_still done_here left_here.only left_here.table left_here.others
+        let both = freed (shard_of key) (λ map. with_key map key value) u w y place.node node_kind (shard_below key) (kind_kept u w (shard_of key) kinds_w ∙ still.kind_is) seat_w come_w.owned old_still done_here left_here.only left_here.table left_here.others
         found.reached unreached freeing kinds_y in
         (changes_after (shard_of key) (λ map. with_key map key value) v u y grown_all both.0, change_after (shard_of key) (λ map. with_key map key value) v u y grown_all kinds_all seat shard.only both.1)
 
@@ -189,7 +183,7 @@ module _ (v t u w : View) (seat_t : IsSeat t) (seat : IsSeat u) (key next x : �
       n_reached : Reaches w (shard_of key) n node_kind
       n_reached = target_sees w (shard_of key) (word_of place.link) x n
           (subst (λ q. SeesLink w (shard_of key) q) (sym taken.at_is)
-          (come_sees w key taken.table taken.before seat_w (come_kept u w key (word_of place.link) x taken.table taken.before shard.map seat gives_u found.come taken.at_is may) (kind_kept u w (shard_of key) kinds_w ∙ root_is)))
+          (come_sees w key taken.table taken.before seat_w (come_kept u w key (word_of place.link) x taken.table taken.before still.map seat still.gives found.come taken.at_is may) (kind_kept u w (shard_of key) kinds_w ∙ still.kind_is)))
           settled.seen (subst (λ q. LeadsTo (Contains w.held) q n) (sym points) (leads_held w n seat_w (subst (λ (bs : List Block). Contains bs n) (sym may.held) makes.held)))
 
       n_next : w.volatile n.first_word ≡ Some next
@@ -201,16 +195,16 @@ module _ (v t u w : View) (seat_t : IsSeat t) (seat : IsSeat u) (key next x : �
           (kept (n.first_word + 0) next (in_block n (n.first_word + 0) makes.held inside) (n_outside (n.first_word + 0) inside) makes.written.next_is).seen
 
       past : (root : ℕ) (c : Block) (k : ℕ) → Reaches u root c k → Reaches w root c k ⊎ (c ≡ place.node)
-      past = sees_after u w seat (shard_of key) (word_of place.link) x (pointer_to place.node) (shard_below key) may kinds_w only_u (link_kind u seat key place next taken shard.map gives_u root_is)
+      past = sees_after u w seat (shard_of key) (word_of place.link) x (pointer_to place.node) (shard_below key) may kinds_w still.only (link_kind u seat key place next taken still.map still.gives still.kind_is)
           (publish t u seat grown_u kinds_u only_t key next value n makes.held makes.new makes.room short small makes.written next_leads
-          w only_u taken.table taken.before (place.node ∷ []) taken.come found.come (word_of place.link) x (pointer_to place.node) taken.at_is found.link may points own_t table_t taken.next_is first_word_own root_is kinds_w)
-          found.link (not_root u w seat seat_w key place next taken shard.map gives_u only_u root_is kinds_w) (λ d. d ≡ place.node)
-          (λ d leads. inl (leads_to_node u w seat seat_w key place next taken shard.map gives_u only_u root_is kinds_w d leads))
+          w still.only taken.table taken.before (place.node ∷ []) taken.come found.come (word_of place.link) x (pointer_to place.node) taken.at_is found.link may points own_t table_t taken.next_is first_word_own still.kind_is kinds_w)
+          found.link (not_root u w seat seat_w key place next taken still.map still.gives still.only still.kind_is kinds_w) (λ d. d ≡ place.node)
+          (λ d leads. inl (leads_to_node u w seat seat_w key place next taken still.map still.gives still.only still.kind_is kinds_w d leads))
           (λ a d read same seen leads.
           inr (target_sees w (shard_of key) n.first_word next d (node_link w (shard_of key) n seat_w n_reached) n_next
-          (subst (λ q. LeadsTo (Contains w.held) q d) (next_value u w seat seat_w key place next taken shard.map gives_u only_u root_is kinds_w a read same seen)
+          (subst (λ q. LeadsTo (Contains w.held) q d) (next_value u w seat seat_w key place next taken still.map still.gives still.only still.kind_is kinds_w a read same seen)
           (subst (λ (bs : List Block). Contains bs d) (sym may.held) leads.0, leads.1))))
-          (one_kind u w seat seat_w key place next taken shard.map gives_u only_u root_is kinds_w)
+          (one_kind u w seat seat_w key place next taken still.map still.gives still.only still.kind_is kinds_w)
 
       reached : (c : Block) → Contains y.held c → (root : ℕ) × (kind : ℕ) × Reaches y root c kind
       reached c h = elim (makes.only c (subst (λ (bs : List Block). Contains bs c) may.held (freeing.only c h))) as (λ _. (root : ℕ) × (kind : ℕ) × Reaches y root c kind) [

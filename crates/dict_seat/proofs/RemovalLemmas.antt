@@ -4,25 +4,23 @@ use Rattle.std.proofs.lemmas.List.Elements.{Contains-append_right}
 use Rattle.heap_model.proofs.MemberLemmas.{in_head}
 use Rattle.heap_seat.specs.declared.spot.Spot.{Spot}
 use Rattle.heap_seat.specs.declared.spot.Spot.TheVariants.{InBlock, Root}
-use Rattle.heap_seat.specs.View.{View, kind_of, word_of}
+use Rattle.heap_seat.specs.View.{View, word_of}
 use Rattle.heap_seat.specs.Words.{IsOwn, IsOwnSpot, in_block, KeepsOwn, MayHaveStored}
 use Rattle.heap_seat.specs.Calls.{WritesBack}
 use Rattle.heap_seat.specs.Rows.{Settles}
 use Rattle.heap_seat.specs.Free.{MayHaveFreed}
 use Rattle.heap_seat.specs.Sound.{IsSeat}
 use Rattle.heap_seat.proofs.CallerLemmas.{own_same, spot_written, keeps_own_then}
-use Rattle.dict_model.specs.Links.{table_kind, node_kind}
+use Rattle.dict_model.specs.Links.{node_kind}
 use Rattle.dict_model.specs.Nodes.{shard_of, bucket_of}
 use Rattle.dict_model.specs.Requests.{without_key}
 use Rattle.dict_seat.specs.declared.walk.Place.{Place}
-use Rattle.dict_seat.specs.Maps.{GivesMap}
-use Rattle.dict_seat.specs.Reached.{ReachesOnlyHeld}
 use Rattle.dict_seat.specs.Trails.{IsDurableAt, IsSettling}
 use Rattle.dict_seat.specs.Quiet.{GoesPending, FollowsLink}
 use Rattle.dict_seat.specs.Walks.{IsFoundPlace}
 use Rattle.dict_seat.specs.Changes.{MayChange, Changes, IsReadPlace}
 use Rattle.dict_seat.specs.Removal.{IsShard, Takes}
-use Rattle.dict_seat.proofs.GrownLemmas.{Grown, stays_held, kind_kept, grown_keeps, gives_grown, only_grown}
+use Rattle.dict_seat.proofs.GrownLemmas.{Grown, stays_held, kind_kept, grown_keeps, shard_grown}
 use Rattle.dict_seat.proofs.TrailLemmas.{come_stays, settles}
 use Rattle.dict_seat.proofs.MapPublishLemmas.{trail_held}
 use Rattle.dict_seat.proofs.QuietLemmas.{goes_then, still_settling}
@@ -92,32 +90,26 @@ taken_settled u w key next place seat keeps settled taken =
 
 -- what the parts of a removal leave: before its link is stored to, by that store, and by freeing the node
 module _ (v u : View) (key : ℕ) (place : Place) (next : ℕ) (seat : IsSeat u) (shard : IsShard v (shard_of key)) (grown : Grown v u) (kinds : u.kinds ≡ v.kinds) (taken : IsReadPlace IsDurableAt u key place next) where
-  gives : GivesMap u (shard_of key) shard.map
-  gives = gives_grown v u grown (shard_of key) shard.map shard.gives
-
-  only : ReachesOnlyHeld u
-  only = only_grown v u grown kinds seat shard.only
-
-  root_is : kind_of u (shard_of key) ≡ table_kind
-  root_is = kind_kept v u (shard_of key) kinds ∙ shard.kind_is
+  still : IsShard u (shard_of key)
+  still = shard_grown v u (shard_of key) seat grown kinds shard
 
   module _ (w : View) (may : MayHaveStored (word_of place.link) next u w) (kinds_w : w.kinds ≡ u.kinds) where
     left_here : MayChange (shard_of key) (λ map. without_key map key) u w
-    left_here = unlink_left u seat key place next taken shard.map gives root_is w may kinds_w only
+    left_here = unlink_left u seat key place next taken still.map still.gives still.kind_is w may kinds_w still.only
 
     pub left_stored : MayChange (shard_of key) (λ map. without_key map key) v w
     left_stored = change_after (shard_of key) (λ map. without_key map key) v u w grown kinds seat shard.only left_here
 
     pub node_still : Contains w.held place.node
-    node_still = stays_held u w may.held place.node (node_held u seat key place next taken shard.map gives root_is)
+    node_still = stays_held u w may.held place.node (node_held u seat key place next taken still.map still.gives still.kind_is)
 
     pub left_freed : (x : View) → IsSeat w → IsDurableAt w (word_of place.link) next → MayHaveFreed place.node w x → x.kinds ≡ w.kinds
         → Changes (shard_of key) (λ map. without_key map key) v x × MayChange (shard_of key) (λ map. without_key map key) v x
     left_freed x seat_w settled freeing kinds_x =
-        let both = freed (shard_of key) (λ map. without_key map key) u w x place.node node_kind (shard_below key) (kind_kept u w (shard_of key) kinds_w ∙ root_is) seat_w
+        let both = freed (shard_of key) (λ map. without_key map key) u w x place.node node_kind (shard_below key) (kind_kept u w (shard_of key) kinds_w ∙ still.kind_is) seat_w
         (subst (λ (rs : List ℕ). Contains rs (shard_of key)) (sym (may.roots ∙ grown.roots)) shard.owned) node_still
-        (record { gives = unlinked u seat key place next taken shard.map gives root_is w may kinds_w settled }) left_here.only left_here.table left_here.others
-        (node_reached u seat key place next taken shard.map gives root_is) (unreached u seat key place next taken shard.map gives root_is w may kinds_w seat_w only settled) freeing kinds_x in (
+        (record { gives = unlinked u seat key place next taken still.map still.gives still.kind_is w may kinds_w settled }) left_here.only left_here.table left_here.others
+        (node_reached u seat key place next taken still.map still.gives still.kind_is) (unreached u seat key place next taken still.map still.gives still.kind_is w may kinds_w seat_w still.only settled) freeing kinds_x in (
           changes_after (shard_of key) (λ map. without_key map key) v u x grown both.0,
           change_after (shard_of key) (λ map. without_key map key) v u x grown kinds seat shard.only both.1,
         )

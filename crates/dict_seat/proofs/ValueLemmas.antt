@@ -3,6 +3,7 @@ use Rattle.std.proofs.Common.{◌≡◌, ℕ, zero, suc, ◌+◌, ◌-◌, ◌*�
 use Rattle.std.proofs.lemmas.Bool.{cases_lt}
 use Rattle.std.proofs.lemmas.List.{get_or-drop, get_or_append_left, get_or-append_right, get_or_past, length-replicate}
 use Rattle.std.proofs.Math.Seq.{take-append_seam}
+use Rattle.bit_marks.proofs.MarkLemmas.{zero_at}
 use Rattle.heap_model.specs.Image.{Image, words_from, image_of_bytes, bytes_of_words}
 use Rattle.heap_model.proofs.ImageLemmas.{length-words_from}
 use Rattle.byteorder.specs.Endian.{little_from}
@@ -16,16 +17,11 @@ word_from image from (suc count) zero below = let e : from ≡ from + 0 = omega 
 word_from image from (suc count) (suc i) below =
     let e : from + 1 + i ≡ from + suc i = omega arith in word_from image (from + 1) count i (omega arith) ∙ ap image e
 
-zeros_at : (n i : ℕ) → ◌≡◌ {A = ℕ} (get_or (replicate n 0) i 0) 0
-zeros_at zero i = refl
-zeros_at (suc n) zero = refl
-zeros_at (suc n) (suc i) = zeros_at n i
-
 -- zeros behind a list are what it reads as there
 padded_at : (xs : List ℕ) (n i : ℕ) → get_or (xs ++ replicate n 0) i 0 ≡ get_or xs i 0
 padded_at xs n i = elim (cases_lt i (length xs)) as (λ _. get_or (xs ++ replicate n 0) i 0 ≡ get_or xs i 0) [
   | inl below ↦ get_or_append_left xs (replicate n 0) 0 i below
-  | inr past ↦ get_or-append_right xs (replicate n 0) (length xs) i 0 refl past ∙ zeros_at n (i - length xs) ∙ sym (get_or_past xs i 0 past)
+  | inr past ↦ get_or-append_right xs (replicate n 0) (length xs) i 0 refl past ∙ zero_at n (i - length xs) ∙ sym (get_or_past xs i 0 past)
 ]
 
 -- a number of bytes depends on the bytes alone
