@@ -1,16 +1,18 @@
 //! The tool's input, as a source.
-ghost use Rattle.std.specs.Prelude.{◌≡◌, None};
+ghost use Rattle.std.specs.Prelude.{◌≡◌, None, true};
 ghost use Rattle.std.specs.Io.{ReadsAtMost};
 ghost use Rattle.std.specs.Io.KnownBytes.{ReadConsumes};
 
 use std::io::{ErrorKind, Read};
 use tool_ports::{Failed, FaultCount, Source};
 
-/// A source over a reader, as standard input is. It tells nothing of what it has left.
+/// A source over a reader, as standard input is. It tells nothing of what it has left. A reader that
+/// has once given nothing isn't read again, since it might give more then, as a terminal does.
 #[derive(Drop)]
 pub struct InputSource<R: Read> {
     reader: R,
     faults: FaultCount,
+    ended: bool,
 }
 
 impl<R: Read> InputSource<R> {
@@ -22,6 +24,7 @@ impl<R: Read> InputSource<R> {
         InputSource {
             reader,
             faults: FaultCount::new(),
+            ended: false,
         }
     }
 }
@@ -35,10 +38,16 @@ impl<R: Read> Source for InputSource<R> {
 
     ghost faults_fit = { λ s. s.faults.fits };
 
+    ghost has_ended = { λ s. s.ended ≡ true };
+
     fn read(&mut self, buf: &mut [u8]) -> Result<usize, Failed> {
+        if self.ended {
+            return Ok(0);
+        }
         let result = read_retrying(&mut self.reader, buf);
-        if result.is_err() {
-            self.faults.rise();
+        match &result {
+            Ok(count) => self.ended = *count == 0,
+            Err(_) => self.faults.rise(),
         }
         result
     }

@@ -71,6 +71,7 @@ fn must_be_long(
 fn must_fit(rt: &(impl Abort + AllocGlobal), by_call: usize) -> Result<(), Fail> {
     let mut source = source_of(rt.alloc(), &[], by_call, "abcde")?;
     must_read(rt, &mut source, 5, "abcde");
+    must_read(rt, &mut source, 5, "");
     must_hold(rt, source.rest().is_empty(), "at most 5");
     Ok(())
 }

@@ -77,3 +77,32 @@ fn bytes_come_in_order(rt: HostRuntime) -> Result<(), Fail> {
     must_be(&rt, read, b"abc", "what is read");
     Ok(())
 }
+
+// Gives a byte at each call but the second, as a terminal whose reader goes on behind its end.
+#[derive(Drop)]
+struct Resumed {
+    calls: u64,
+}
+
+impl Read for Resumed {
+    fn read(&mut self, buf: &mut [u8]) -> io::Result<usize> {
+        self.calls = self.calls.wrapping_add(1);
+        match buf.first_mut() {
+            Some(byte) if self.calls != 2 => {
+                *byte = 7;
+                Ok(1)
+            }
+            _ => Ok(0),
+        }
+    }
+}
+
+#[test]
+fn behind_its_end_a_reader_is_read_no_more(rt: HostRuntime) -> Result<(), Fail> {
+    let mut source = InputSource::new(Resumed { calls: 0 });
+    let read = read_all(rt.alloc(), &mut source, 9).ok();
+    must_be(&rt, read, &[7], "what is read");
+    let later = read_all(rt.alloc(), &mut source, 9).ok();
+    must_be(&rt, later, b"", "what is read behind the end");
+    Ok(())
+}

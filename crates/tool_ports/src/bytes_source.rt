@@ -49,7 +49,7 @@ impl BytesSource {
 }
 
 impl Source for BytesSource {
-    ghost use Rattle.std.specs.Prelude.{◌≡◌, ◌↔◌, ◌<◌, ◌≤◌, Some, length, min, take, drop, IfOk, OnErr, IsErr};
+    ghost use Rattle.std.specs.Prelude.{◌≡◌, ◌↔◌, ◌<◌, ◌≤◌, [], Some, length, min, take, drop, IfOk, OnErr, IsErr};
     ghost use Rattle.tool_ports.specs.BytesSource.{bytes_left, fault_count, most_of, IsToFail, IsOneCallOn};
     ghost use Rattle.tool_ports.specs.Causes.{HasCause};
     ghost use Rattle.tool_ports.specs.Left.{left_before, IsAtEnd};
@@ -60,6 +60,8 @@ impl Source for BytesSource {
 
     ghost faults_fit = { λ s. s.faults.fits };
 
+    ghost has_ended = { λ s. bytes_left s ≡ [] };
+
     fn read(&mut self, buf: &mut [u8]) -> Result<usize, Failed>
         requires { 0 < length buf.old }
 
@@ -68,6 +70,9 @@ impl Source for BytesSource {
         ensures ok { IfOk result (λ n. Some (bytes_left self.old)
             ≡ left_before (take n buf.new) (Some (bytes_left self.new))) }
         ensures end { IfOk result (λ n. n ≡ 0 → IsAtEnd (Some (bytes_left self.old))) }
+        ensures ended { IfOk result (λ n. n ≡ 0 → bytes_left self.new ≡ []) }
+        ensures nothing_more { bytes_left self.old ≡ [] → IfOk result (λ n. n ≡ 0) }
+        ensures stays_ended { bytes_left self.old ≡ [] → bytes_left self.new ≡ [] }
         ensures err { OnErr result (bytes_left self.new ≡ bytes_left self.old) }
         ensures cause { HasCause (fault_count self.old) (fault_count self.new) (IsErr result) }
 

@@ -38,8 +38,8 @@ impl From<Failed> for ReadAllFault {
     }
 }
 
-/// All the bytes that a source has left, which are to be at most `most`. Where it has more, it is
-/// read one byte further, and then left alone.
+/// All the bytes that a source has left, which are to be at most `most`, up to its end. Where it has
+/// more, it is read one byte further, and then left alone.
 pub fn read_all<S: Source>(
     alloc: Global,
     source: &mut S,
@@ -48,6 +48,7 @@ pub fn read_all<S: Source>(
     ensures ok { IfOk result (λ v.
         S.left source.old ≡ left_before v.items (S.left source.new)) }
     ensures end { OnOk result (IsAtEnd (S.left source.new)) }
+    ensures ended { OnOk result (S.has_ended source.new) }
     ensures short { IfOk result (λ v. length v.items ≤ most) }
     ensures too_long { IsErrOf result ReadAllFault.TooLong →
         Gives (most + 1) (S.left source.old) (S.left source.new) }
@@ -78,6 +79,7 @@ fn read_pieces<S: Source>(
     ensures ok { IfOk result (λ v.
         S.left source.old ≡ left_before v.items (S.left source.new)) }
     ensures end { OnOk result (IsAtEnd (S.left source.new)) }
+    ensures ended { OnOk result (S.has_ended source.new) }
     ensures short { IfOk result (λ v. length v.items ≤ most) }
     ensures too_long { IsErrOf result ReadAllFault.TooLong →
         Gives (most + 1) (S.left source.old) (S.left source.new) }
@@ -103,6 +105,7 @@ fn read_piece<S: Source>(
     ensures short { OnOk result (length bytes.new.items ≤ most) }
     ensures more { result ≡ Ok true → length bytes.old.items < length bytes.new.items }
     ensures end { result ≡ Ok false → IsAtEnd (S.left source.new) }
+    ensures ended { result ≡ Ok false → S.has_ended source.new }
     ensures too_long { IsErrOf result ReadAllFault.TooLong →
         Gives (most + 1 - length bytes.old.items) (S.left source.old) (S.left source.new) }
     ensures at_most { OnErr result (GivesAtMost (most + 1 - length bytes.old.items)

@@ -13,14 +13,21 @@ pub trait Source {
     /// How many of its calls have failed by the outside; it stops at 2^64 - 1.
     ghost faults: { Self → ℕ };
 
+    /// It has come to its end: no read gives anything more.
+    ghost has_ended: { Self → Type 0 };
+
     /// Puts the next bytes into the front of the buffer, and says how many; none are the end of the
-    /// input. What stands behind them, or in the buffer after a failure, may be anything.
+    /// input, and from then on no read gives any. What stands behind them, or in the buffer after a
+    /// failure, may be anything.
     fn read(&mut self, buf: &mut [u8]) -> Result<usize, Failed>
         requires { 0 < length buf.old }
         ensures bound { IfOk result (λ n. n ≤ length buf.new) }
         ensures ok { IfOk result (λ n.
             left self.old ≡ left_before (take n buf.new) (left self.new)) }
         ensures end { IfOk result (λ n. n ≡ 0 → IsAtEnd (left self.old)) }
+        ensures ended { IfOk result (λ n. n ≡ 0 → has_ended self.new) }
+        ensures nothing_more { has_ended self.old → IfOk result (λ n. n ≡ 0) }
+        ensures stays_ended { has_ended self.old → has_ended self.new }
         ensures err { OnErr result (left self.new ≡ left self.old) }
         ensures cause { HasCause (faults self.old) (faults self.new) (IsErr result) };
 
