@@ -31,3 +31,18 @@ words_of chances = chances.words
 -- the generator of one worker's chance
 abbrev pub generator_of : SeededChance → Lcg
 generator_of chance = chance.generator
+
+-- the chances begin by this seed: it is theirs, and the words are those of its stream 0, from the first on
+pub record BeginsBy (seed : ℕ) (new : SeededChances) : Type 0 where
+  pub seed_is : seed_of new ≡ seed
+  pub words : words_of new ≡ begun seed 0
+
+-- a worker is given the numbers of its stream, from the first on, and the chances stay
+pub record GivesChance (old : SeededChances) (worker : ℕ) (chance : SeededChance) (new : SeededChances) : Type 0 where
+  pub numbers : generator_of chance ≡ begun (seed_of old) (stream_of_worker worker)
+  pub unchanged : new ≡ old
+
+-- the word is the next one, and the seed stays
+pub record GivesWord (old : SeededChances) (word : ℕ) (new : SeededChances) : Type 0 where
+  pub next : GivesNext (words_of old) word (words_of new)
+  pub seed_stays : seed_of new ≡ seed_of old

@@ -1,6 +1,6 @@
 //! Chances by a generator with a seed, so that a run can be had again.
 ghost use Rattle.std.specs.Prelude.{◌≡◌};
-ghost use Rattle.tool_ports.specs.Seeded.{begun, stream_of_worker, seed_of, words_of, generator_of, GivesNext};
+ghost use Rattle.tool_ports.specs.Seeded.{begun, seed_of, words_of, generator_of, GivesNext, BeginsBy, GivesChance, GivesWord};
 
 use crate::chances::Chances;
 use line_memory::Chance;
@@ -37,28 +37,25 @@ impl SeededChances {
 impl Chances for SeededChances {
     type One = SeededChance;
 
-    fn seed(&mut self, seed: u64)
-        ensures seed { seed_of self.new ≡ seed }
-        ensures words { words_of self.new ≡ begun seed 0 }
-    {
+    ghost seed_gives = { λ _ seed new. BeginsBy seed new };
+
+    ghost chance_gives = { GivesChance };
+
+    ghost word_gives = { GivesWord };
+
+    fn seed(&mut self, seed: u64) {
         self.seed = seed;
         self.words = Lcg64Xsh32::new(seed, 0);
     }
 
-    fn chance(&mut self, worker: usize) -> SeededChance
-        ensures begun { generator_of result ≡ begun (seed_of self.old) (stream_of_worker worker) }
-        ensures unchanged { self.new ≡ self.old }
-    {
+    fn chance(&mut self, worker: usize) -> SeededChance {
         let stream = (worker as u64).saturating_add(1);
         SeededChance {
             generator: Lcg64Xsh32::new(self.seed, stream),
         }
     }
 
-    fn word(&mut self) -> u64
-        ensures next { GivesNext (words_of self.old) result (words_of self.new) }
-        ensures seed { seed_of self.new ≡ seed_of self.old }
-    {
+    fn word(&mut self) -> u64 {
         self.words.next_u64()
     }
 }
