@@ -1,9 +1,9 @@
 //! Where the blocks of the dictionary hold pointers.
 
 ghost use Rattle.std.specs.Prelude.{◌≡◌, ◌<◌, ℕ, All, length, slice_get, slice_index};
-ghost use Rattle.dict_model.specs.Links.{all_to_nodes, first_to_node, dict_links, root_kind};
+ghost use Rattle.dict_model.specs.Links.{all_to_nodes, first_to_node, dict_links, kind_count, root_kind};
 
-use dict_model::SHARDS;
+use dict_model::{NEXT_INDEX, SHARDS};
 use filter_trace::Filter;
 use super_block::ROOTS;
 
@@ -21,7 +21,7 @@ pub const NODE: u32 = 2;
 /// first eight lead to tables, and the others to blocks without links.
 pub fn root_kinds() -> [u32; ROOTS as usize]
     ensures kinds { (i : ℕ) → slice_index result i ≡ root_kind i }
-    ensures few { All (λ kind. kind < 3) result }
+    ensures few { All (λ kind. kind < kind_count) result }
 {
     let mut kinds = [OTHER; ROOTS as usize];
     for i in 0..SHARDS as usize {
@@ -35,12 +35,12 @@ pub fn root_kinds() -> [u32; ROOTS as usize]
 pub struct DictFilter;
 
 impl Filter for DictFilter {
-    ghost use Rattle.dict_model.specs.Links.{dict_links};
+    ghost use Rattle.dict_model.specs.Links.{dict_links, kind_count};
     ghost use Rattle.dictionary.specs.Laws.{are_inside, are_few};
 
     const KINDS: u32 = 3;
 
-    ghost KINDS = { 3 };
+    ghost KINDS = { kind_count };
 
     ghost links_of = { λ _. dict_links };
 
@@ -72,5 +72,5 @@ fn bucket(block: &[u64], at: usize) -> Option<(usize, u32)>
 fn next(block: &[u64], at: usize) -> Option<(usize, u32)>
     ensures { result ≡ slice_get (first_to_node block.now) at }
 {
-    (at == 0 && !block.is_empty()).then_some((0, NODE))
+    (at == 0 && !block.is_empty()).then_some((NEXT_INDEX as usize, NODE))
 }

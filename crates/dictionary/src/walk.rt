@@ -6,12 +6,13 @@ ghost use Rattle.heap_model.specs.declared.block.Block.{Block};
 ghost use Rattle.heap_model.specs.Geometry.{kind_word};
 ghost use Rattle.heap_model.specs.Header.{capacity_of};
 ghost use Rattle.heap_model.specs.Blocks.{layout_of, IsBlock};
+ghost use Rattle.dict_model.specs.Layout.{value_index};
 ghost use Rattle.dict_model.specs.Nodes.{buckets, value_words, key_in, length_in, value_in, IsNode};
 ghost use Rattle.dict_model.specs.Shards.{LeadsAlone, but};
 ghost use Rattle.dictionary.specs.Reading.{IsRead, IsLead, AddsNode};
 
 use crate::fault::MapFault;
-use dict_model::{BUCKETS, LARGEST_VALUE, SHARDS};
+use dict_model::{BUCKETS, KEY_INDEX, LARGEST_VALUE, LENGTH_INDEX, SHARDS, VALUE_INDEX};
 use filter_trace::{Scan, Target};
 use heap_model::Block;
 use region_header::{Bytes, words_to_bytes};
@@ -19,9 +20,6 @@ use root_reach::Origins;
 use std::alloc::{AllocError, Global};
 use std::collections::BTreeMap;
 use super_block::{CAPACITY_WORD, Geometry};
-
-/// The words of a node before its value: next, key and length.
-const NODE_WORDS: u64 = 3;
 
 /// Where a root or a link of a shard leads.
 #[derive(Clone, Copy)]
@@ -104,17 +102,17 @@ impl Walk<'_> {
         ensures no { result ≡ false
             → IsNode (slice_index self.now.scan.words.now) self.now.shard bucket block → ⊥ }
     {
-        if block.words < NODE_WORDS {
+        if block.words < VALUE_INDEX {
             return false;
         }
-        let key = self.word(block, 1);
-        let length = self.word(block, 2);
+        let key = self.word(block, KEY_INDEX);
+        let length = self.word(block, LENGTH_INDEX);
         if length > LARGEST_VALUE {
             return false;
         }
         key % SHARDS == self.shard as u64
             && key / SHARDS % BUCKETS == bucket
-            && NODE_WORDS + (length + 7) / 8 <= block.words
+            && VALUE_INDEX + (length + 7) / 8 <= block.words
     }
 
     /// The table of the shard, where the root leads.
@@ -161,13 +159,13 @@ impl Walk<'_> {
         requires read { IsRead self.now.scan.words.now self.now.scan.directory.now
             self.now.origins.now }
         requires block { IsBlock (layout_of (slice_index self.now.scan.words.now)) block }
-        requires fits { 3 + value_words (length_in (slice_index self.now.scan.words.now) block)
+        requires fits { value_index + value_words (length_in (slice_index self.now.scan.words.now) block)
             ≤ block.words }
         ensures ok { IfOk result (λ value.
             value ≡ value_in (slice_index self.now.scan.words.now) block) }
     {
-        let length = self.word(block, 2);
-        let from = (block.first_word + NODE_WORDS) as usize;
+        let length = self.word(block, LENGTH_INDEX);
+        let from = (block.first_word + VALUE_INDEX) as usize;
         let words = &self.scan.words[from..from + ((length + 7) / 8) as usize];
         let mut bytes = words_to_bytes(alloc, words)?.into_vec();
         bytes.truncate(length as usize);
@@ -184,7 +182,7 @@ impl Walk<'_> {
         requires read { IsRead self.now.scan.words.now self.now.scan.directory.now
             self.now.origins.now }
         requires block { IsBlock (layout_of (slice_index self.now.scan.words.now)) block }
-        requires fits { 3 + value_words (length_in (slice_index self.now.scan.words.now) block)
+        requires fits { value_index + value_words (length_in (slice_index self.now.scan.words.now) block)
             ≤ block.words }
         ensures new { IfOk result (λ new. IsTrue new
             → AddsNode (slice_index self.now.scan.words.now) block map.old map.new) }
@@ -192,7 +190,7 @@ impl Walk<'_> {
         ensures known { IfOk result (λ new. new ≡ false
             → IsSome (get nat_cmp map.old (key_in (slice_index self.now.scan.words.now) block))) }
     {
-        let key = self.word(block, 1);
+        let key = self.word(block, KEY_INDEX);
         let keys = map.len();
         map.insert(key, self.value(alloc, block)?)?;
         Ok(map.len() > keys)
