@@ -1,2 +1,3 @@
+pub mod ChanceLemmas
 mod LeftLemmas
 pub mod Written

@@ -1,6 +1,7 @@
 pub mod BytesSource
 pub mod Calls
 pub mod Causes
+pub mod Chances
 pub mod Contents
 pub mod Images
 pub mod Left

@@ -6,7 +6,7 @@ use Rattle.heap_model.specs.declared.block.Block.{Block}
 use Rattle.heap_model.specs.Image.{Image}
 use Rattle.heap_model.specs.Header.{HasKindsBelow, kinds_of}
 use Rattle.heap_model.specs.Pointers.{Leads, LeadsOutside}
-use Rattle.heap_model.specs.Reach.{AnyRoot, ReachIn, by_start, by_link, IsTraced, TracesAlike, is_root, is_linked, IsReachedIn, words_in}
+use Rattle.heap_model.specs.Reach.{AnyRoot, ReachIn, by_start, by_link, IsTraced, is_root, is_linked, IsReachedIn, words_in}
 use Rattle.heap_model.specs.Recovered.{AreAscending}
 use Rattle.heap_model.proofs.ReachLemmas.{reach_kept, nothing_more, reach_by_kinds}
 use Rattle.dict_model.specs.Links.{shards, kind_count, dict_links}
@@ -15,16 +15,13 @@ use Rattle.dictionary.proofs.SameLemmas.{traced_alike, none_outside, kinds_kept}
 use Rattle.run_model.specs.Opened.{IsDictionary}
 
 module _ (old new : Image) (to : RecoversTo old new) where
-  alike : TracesAlike old new AnyRoot (kinds_of old) dict_links
-  alike = traced_alike old new to
-
   -- the new image reaches the same with the kinds that it stores, which are those of the old one
   to_new : (b : Block) (kind : ℕ) → ReachIn old dict_links b kind → ReachIn new dict_links b kind
   to_new b kind reach = reach_by_kinds new (kinds_of old) (kinds_of new) dict_links (λ root below. sym (kinds_kept old new to root below)) b kind
-      (reach_kept old new AnyRoot (kinds_of old) dict_links alike b kind reach)
+      (reach_kept old new AnyRoot (kinds_of old) dict_links (traced_alike old new to) b kind reach)
 
   to_old : (b : Block) (kind : ℕ) → ReachIn new dict_links b kind → ReachIn old dict_links b kind
-  to_old b kind reach = nothing_more old new AnyRoot (kinds_of old) dict_links alike (none_outside old new to) b kind
+  to_old b kind reach = nothing_more old new AnyRoot (kinds_of old) dict_links (traced_alike old new to) (none_outside old new to) b kind
       (reach_by_kinds new (kinds_of new) (kinds_of old) dict_links (kinds_kept old new to) b kind reach)
 
   pub same_reach : (b : Block) → IsReachedIn old dict_links b ↔ IsReachedIn new dict_links b
@@ -33,7 +30,7 @@ module _ (old new : Image) (to : RecoversTo old new) where
   -- a word that a trace of the old image looks at leads outside in the new one no more than there
   not_there : (at : ℕ) → IsTraced old (kinds_of old) dict_links at → ((b : Block) → Leads old (old at) b → IsReachedIn old dict_links b) → LeadsOutside new (new at) → ⊥
   not_there at traced reaches out =
-      let same = alike.same_words at traced in
+      let same = (traced_alike old new to).same_words at traced in
       none_outside old new to at traced (record {
         not_null = λ e. out.not_null (same ∙ e);
         nowhere = λ b leads. out.nowhere b (record {
@@ -51,7 +48,7 @@ module _ (old new : Image) (to : RecoversTo old new) where
   outside_at _ (is_linked a from position kind at reached listed same) out =
       let before = to_old a from reached in
       let there : Contains (dict_links from (words_in old a)) (position, kind) =
-      subst (λ (ls : List (ℕ × ℕ)). Contains ls (position, kind)) (alike.same_links a from before) listed in
+      subst (λ (ls : List (ℕ × ℕ)). Contains ls (position, kind)) ((traced_alike old new to).same_links a from before) listed in
       not_there at (is_linked a from position kind at before there same) (λ b leads. record {
         kind = kind;
         reach = by_link a b from kind before (record { position = position; listed = there; leads = subst (λ x. Leads old (old x) b) same leads });

@@ -3,6 +3,7 @@ ghost use Rattle.std.specs.Prelude.{◌≡◌, ◌≤◌, length, slice_index};
 ghost use Rattle.heap_model.specs.Geometry.{largest_capacity, image_words};
 ghost use Rattle.heap_model.specs.Header.{capacity_of};
 ghost use Rattle.heap_model.specs.Durability.{IsCrashImage, IsClosedImage};
+ghost use Rattle.tool_ports.specs.Chances.{ComesFrom};
 ghost use Rattle.worker_run.specs.Left.{AreWholeImage, ScramblesOnly};
 
 use super_block::{CLEAN, DIRTY, Geometry, HEAD_WORD, LISTS, STATE_WORD};
@@ -21,7 +22,8 @@ pub fn closed_image(mut words: Vec<u64>) -> Vec<u64>
 /// Puts any words into the list heads, in the order of word index.
 fn scramble_heads<C: Chances>(mut words: Vec<u64>, chances: &mut C) -> Vec<u64>
     requires { AreWholeImage words.items }
-    ensures { ScramblesOnly words.items result.items }
+    ensures only { ScramblesOnly words.items result.items }
+    ensures chances { ComesFrom C.chance_gives C.word_gives chances.old chances.new }
 {
     for list in 0..LISTS {
         words[(HEAD_WORD + list) as usize] = chances.word();
@@ -37,7 +39,8 @@ fn scramble_descriptors<C: Chances>(
 ) -> Vec<u64>
     requires whole { AreWholeImage words.items }
     requires layout { geometry.capacity ≡ capacity_of (slice_index words.items) }
-    ensures { ScramblesOnly words.items result.items }
+    ensures only { ScramblesOnly words.items result.items }
+    ensures chances { ComesFrom C.chance_gives C.word_gives chances.old chances.new }
 {
     for d in 0..geometry.capacity() {
         words[geometry.anchor(d) as usize] = chances.word();
@@ -52,6 +55,7 @@ pub fn crash_image<C: Chances>(words: Vec<u64>, geometry: Geometry, chances: &mu
     requires layout { geometry.capacity ≡ capacity_of (slice_index words.items) }
     ensures image { IsCrashImage (slice_index words.items) (slice_index result.items) }
     ensures long { length result.items ≡ length words.items }
+    ensures chances { ComesFrom C.chance_gives C.word_gives chances.old chances.new }
 {
     let headless = scramble_heads(words, chances);
     let mut scrambled = scramble_descriptors(headless, geometry, chances);
