@@ -4,6 +4,7 @@ ghost use Rattle.heap_model.specs.Geometry.{version, version_word};
 ghost use Rattle.heap_model.specs.Header.{header_fault};
 ghost use Rattle.heap_recover.specs.InPlace.{IsRecoveryOf};
 ghost use Rattle.dict_model.specs.Links.{dict_links, kind_count};
+ghost use Rattle.tool_ports.specs.Chances.{ComesFrom, ComesFromSeed};
 ghost use Rattle.image_run.specs.Reporting.{PointsOutside, TellsHeap};
 ghost use Rattle.image_rebuild.specs.Rebuilding.{IsRebuilt, Rebuilds, rebuilt_line};
 
@@ -46,6 +47,8 @@ pub fn rebuild_image<C: Chances>(
     requires { IsRecoveryOf (Some kind_count) words.now dict_links heap.now.words heap.now.held }
     ensures ok { IfOk result (λ product. Rebuilds (slice_index words.now) (length words.now)
         budget product.image product.text) }
+    ensures seeded { ComesFromSeed C.seed_gives C.chance_gives C.word_gives
+        chances.old seed chances.new }
 {
     chances.seed(seed);
     let rebuilt = rebuild_words(alloc, words, heap, budget, chances)?;
@@ -64,8 +67,9 @@ fn rebuild_words<C: Chances>(
     chances: &mut C,
 ) -> Result<Rebuilt, AllocError>
     requires { IsRecoveryOf (Some kind_count) words.now dict_links heap.now.words heap.now.held }
-    ensures { IfOk result (λ rebuilt. IsRebuilt (slice_index words.now) (length words.now)
+    ensures ok { IfOk result (λ rebuilt. IsRebuilt (slice_index words.now) (length words.now)
         budget rebuilt.stopped rebuilt.words.items) }
+    ensures chances { ComesFrom C.chance_gives C.word_gives chances.old chances.new }
 {
     let copy = Vec::from_slice(alloc, words)?;
     let geometry = heap.geometry();
