@@ -6,5 +6,5 @@ use std::process::ExitCode;
 use tool_program::run_program;
 
 fn main(rt: HostRuntime) -> ExitCode {
-    run_program(&rt)
+    run_program(&rt, &rt.stderr())
 }

@@ -2,53 +2,38 @@
 //! command line, and ends with the status.
 #![tactic(auto)]
 
+mod ending;
 mod usage;
+mod words;
 
+ghost use Rattle.std.specs.Prelude.{Contains};
+ghost use Rattle.std.specs.Process.{exit_status};
+ghost use Rattle.tool_run.specs.Status.{statuses};
+
+pub use ending::run_line;
 use file_ports::{FileStore, InputSource, OutputSink};
-use std::alloc::Alloc;
-use std::io::ErrorKind;
+use std::io::Print;
 use std::process::ExitCode;
-use std::rt::{Env, Runtime};
+use std::rt::Runtime;
 use std::thread::Threads;
 use std::{env, io};
 use tool_ports::{OpenGate, SeededChances};
-use tool_run::{run_tool, tell_out_of_memory};
-use usage::USAGE;
+pub use usage::USAGE;
 
-/// Does what the words behind the program's name ask for. At status 2 it writes help to standard
-/// error too.
-pub fn run_program<R: Runtime + AllocGlobal + Threads + Sync>(rt: &R) -> ExitCode {
-    let alloc = rt.alloc();
-    let mut out = OutputSink::new(io::writer(rt));
-    let words = match words_of(rt) {
-        Ok(words) => words,
-        Err(e) if e.kind() == ErrorKind::OutOfMemory => {
-            return ExitCode::from(tell_out_of_memory(&mut out).code());
-        }
-        // Words that can't be had ask for nothing.
-        Err(_) => Vec::new(alloc),
-    };
-    let mut images = FileStore::new(rt);
-    let mut trace = InputSource::new(rt.reader());
-    let mut chances = SeededChances::new();
-    let status = run_tool(
+/// Does what the words of the process ask for: `run_line` over files, standard input and output.
+/// `err` is the standard error.
+pub fn run_program<R: Runtime + AllocGlobal + Threads + Sync, E: Print>(rt: &R, err: &E) -> ExitCode
+    ensures { Contains statuses (exit_status result) }
+{
+    run_line(
         rt,
-        alloc,
-        &words,
-        &mut images,
-        &mut trace,
-        &mut out,
+        rt.alloc(),
+        env::args(rt),
+        &mut FileStore::new(rt),
+        &mut InputSource::new(rt.reader()),
+        &mut OutputSink::new(io::writer(rt)),
+        &mut OutputSink::new(io::writer(err)),
         &OpenGate,
-        &mut chances,
-    );
-    if status.code() == 2 {
-        // Help that standard error refuses is lost; the status stays.
-        let _ = eprint!(rt; "{USAGE}");
-    }
-    ExitCode::from(status.code())
-}
-
-// The words behind the program's name.
-fn words_of<R: Env + Alloc>(rt: &R) -> io::Result<Vec<String<R::A>, R::A>> {
-    Ok(env::args(rt)?.skip(1).collect(rt.alloc())?)
+        &mut SeededChances::new(),
+    )
 }

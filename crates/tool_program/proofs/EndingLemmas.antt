@@ -1,0 +1,33 @@
+-- The status of a call of the tool, by equal words, and where memory ran out before there were words.
+use Rattle.std.proofs.Common.{◌≡◌, ℕ, List, inr, lit<, refl, sym, subst, arith}
+use Rattle.tool_run.specs.Lines.{memory_line}
+use Rattle.tool_run.specs.Status.{out_of_memory}
+use Rattle.tool_program.specs.Ending.{Seen, IsTold, IsStatusOf}
+
+-- it was told, and nothing was put
+pub told_memory : (words : List (List ℕ)) (old new : Seen) (status : ℕ) → status ≡ out_of_memory → new.contents ≡ old.contents → IsTold old new memory_line
+    → IsStatusOf words old new status
+told_memory words old new status is same told = subst (λ (s : ℕ). IsStatusOf words old new s) (sym is) (record {
+  known = (2, lit< tt, refl);
+  ok = λ e. absurd (omega (arith, e));
+  no_command = λ e. absurd (omega (arith, e));
+  failed_read = λ e. absurd (omega (arith, e));
+  failed_write = λ e. absurd (omega (arith, e));
+  absent = λ e. absurd (omega (arith, e));
+  cause = λ e. absurd (omega (arith, e));
+  points_outside = λ e. absurd (omega (arith, e));
+  no_map = λ e. absurd (omega (arith, e));
+  bad_line = λ e. absurd (omega (arith, e));
+  line = told;
+  unchanged = λ leaves. same;
+  always_usage = λ asks. inr refl;
+  complete = λ command asks can store source sink. inr refl;
+})
+
+-- the words are those that the arguments tell
+pub by_words : (words words' : List (List ℕ)) (old new : Seen) (status : ℕ) → words ≡ words' → IsStatusOf words old new status → IsStatusOf words' old new status
+by_words words words' old new status same is = subst (λ (ws : List (List ℕ)). IsStatusOf ws old new status) same is
+
+-- and the status is the same number
+pub same_status : (words : List (List ℕ)) (old new : Seen) (status status' : ℕ) → status' ≡ status → IsStatusOf words old new status → IsStatusOf words old new status'
+same_status words old new status status' same is = subst (λ (s : ℕ). IsStatusOf words old new s) (sym same) is
