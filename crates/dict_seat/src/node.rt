@@ -58,7 +58,12 @@ fn write_value<H: HeapSeat>(seat: &mut H, node: Block, value: &[u8]) -> Result<(
     ensures kept { H.keeps seat.old seat.new }
 {
     for index in 0..value.len().div_ceil(8) {
-        write_word(seat, node, VALUE_INDEX + index as u64, value_word(value, index))?;
+        write_word(
+            seat,
+            node,
+            VALUE_INDEX + index as u64,
+            value_word(value, index),
+        )?;
     }
     Ok(())
 }
