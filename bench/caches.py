@@ -21,7 +21,7 @@ from scratch import build
 from suite import programs
 
 CRATES = (
-    "cache_scenes thread_cache seat_rows heap_rule seat_notes dictionary heap_recover heap_seat line_memory"
+    "cache_scenes thread_cache seat_rows heap_rule seat_notes core_model dictionary heap_recover heap_seat line_memory"
     " region_header size_table super_block heap_model"
 )
 THREADS = (1, 2, 4)
