@@ -1,6 +1,7 @@
 -- A shard of an image in which a trace finds what it finds in another has the map, or the bad place, that it has there.
 use Rattle.std.proofs.Common.{◌≡◌, ◌≢◌, ℕ, zero, suc, ◌+◌, ◌*◌, ◌<◌, ◌≤◌, List, [], ◌∷◌, None, Some, cond, length, take, refl, sym, subst, ◌∙◌, ap, arith, inl, inr}
 use Rattle.std.specs.Prelude.{nat_eq, Contains, ◌/◌, ◌-◌}
+use Rattle.std.specs.BTreeMap.{BTreeMap}
 use Rattle.std.proofs.Math.Nat.{mod-lt}
 use Rattle.heap_model.specs.declared.block.Block.{Block}
 use Rattle.heap_model.specs.Geometry.{roots, root_word, kind_word, capacity_word}
@@ -15,7 +16,9 @@ use Rattle.heap_model.proofs.ReachLemmas.{one_block, not_null, more_roots, reach
 use Rattle.heap_model.specs.Recovery.{IsRecovered, in_header}
 use Rattle.heap_recover.proofs.UnchangedLemmas.{words_unchanged, roots_unchanged, kinds_unchanged}
 use Rattle.dictionary.specs.Laws.{are_inside}
-use Rattle.dictionary.specs.Reading.{RecoversTo}
+use Rattle.dictionary.specs.Reading.{AreMaps, RecoversTo, TellsLowest}
+use Rattle.dictionary.specs.declared.fault.MapFault.{MapFault}
+use Rattle.dictionary.specs.declared.fault.MapFault.TheVariants.{BadShard as NoMap, Memory}
 use Rattle.dict_model.specs.Links.{all_to_nodes, dict_links, table_kind, shards}
 use Rattle.dict_model.specs.Nodes.{largest_value, buckets, shard_of, bucket_of, key_in, length_in, value_in, value_words, IsNode, find}
 use Rattle.dict_model.specs.Shards.{Map, link_behind, IsPath, IsBucketChain, HasTable, HasChains, but, IsMap, is_empty, has_table, IsBadAt, at_root, at_link, LeadsAlone, MapOf, BadShard, at_kind, in_table}
@@ -292,3 +295,19 @@ module _ (old new : Image) (to : RecoversTo old new) where
   bad_kept shard at below (in_table _ is bad) =
       let kind = kind_before shard table_kind below is in
       in_table at kind (bad_old old new traced_alike none_outside reached_words kinds_kept shard below kind at bad)
+
+  -- maps that were read of what recovery leaves are those of the image
+  pub maps_of_image : (maps : List (BTreeMap ℕ (List ℕ))) → AreMaps new shards maps → AreMaps old shards maps
+  maps_of_image maps are = record {
+    long = are.long;
+    each = λ i below. let each = are.each i below in (each.0, each.1, map_kept i _ below each.2, each.3);
+  }
+
+  -- and so is the lowest shard that has none
+  pub lowest_of_image : (fault : MapFault) → TellsLowest new fault → TellsLowest old fault
+  lowest_of_image (NoMap shard at) tells = (
+    tells.0,
+    bad_kept shard at tells.0 tells.1,
+    λ i less. let below : i < shards = omega (arith, less, tells.0) in let m = tells.2 i less in (m.0, map_kept i m.0 below m.1),
+  )
+  lowest_of_image Memory tells = tt

@@ -1,6 +1,7 @@
 //! Where the blocks of the dictionary hold pointers.
 
 ghost use Rattle.std.specs.Prelude.{◌≡◌, ◌<◌, ℕ, All, length, slice_get, slice_index};
+ghost use Rattle.heap_model.specs.Header.{first_kinds};
 ghost use Rattle.dict_model.specs.Links.{all_to_nodes, first_to_node, dict_links, kind_count, root_kind};
 
 use dict_model::{NEXT_INDEX, SHARDS};
@@ -20,6 +21,7 @@ pub const NODE: u32 = 2;
 /// The kinds that `recover` gives the roots of an image of the old version, which stores none: the
 /// first eight lead to tables, and the others to blocks without links.
 pub fn root_kinds() -> [u32; ROOTS as usize]
+    ensures list { result ≡ first_kinds }
     ensures kinds { (i : ℕ) → slice_index result i ≡ root_kind i }
     ensures few { All (λ kind. kind < kind_count) result }
 {

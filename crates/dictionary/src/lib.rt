@@ -4,6 +4,7 @@
 mod fault;
 mod filter;
 mod laws;
+mod mapped;
 mod read;
 mod together;
 mod walk;
@@ -12,4 +13,5 @@ pub use dict_seat::{PutFault, Shard};
 pub use fault::MapFault;
 pub use filter::{DictFilter, NODE, OTHER, TABLE, root_kinds};
 pub use laws::recovery_keeps_each_shard;
+pub use mapped::MappedHeap;
 pub use read::{maps_of, origins_of, read_map, read_maps};

@@ -68,11 +68,32 @@ pub fn read_maps(
     maps_of(alloc, &recovered.heap)
 }
 
+/// The maps of all eight shards, in order, and which roots reach each block.
+#[derive(Drop)]
+pub struct TracedMaps {
+    pub maps: Vec<BTreeMap<u64, Bytes>>,
+    pub origins: Origins,
+}
+
 /// The maps of all eight shards of a heap at rest, in order, from one trace. Where shards have none
 /// the lowest of them is told.
 pub fn maps_of(alloc: Global, heap: &Ready) -> Result<Vec<BTreeMap<u64, Bytes>>, MapFault>
     requires { HasKindsBelow (Some kind_count) (slice_index heap.now.words) }
     ensures ok { IfOk result (λ maps. AreMaps (slice_index heap.now.words) shards maps.items) }
+    ensures err { IfErr result (TellsLowest (slice_index heap.now.words)) }
+    ensures ready { IsReady heap.now.words heap.now.held }
+{
+    let traced = trace_maps(alloc, heap)?;
+    Ok(traced.maps)
+}
+
+/// The same with what the trace told, by which it is known which blocks a shard has to itself.
+pub fn trace_maps(alloc: Global, heap: &Ready) -> Result<TracedMaps, MapFault>
+    requires { HasKindsBelow (Some kind_count) (slice_index heap.now.words) }
+    ensures ok { IfOk result (λ traced.
+        AreMaps (slice_index heap.now.words) shards traced.maps.items) }
+    ensures origins { IfOk result (λ traced. AreOrigins (slice_index heap.now.words)
+        (kinds_of (slice_index heap.now.words)) dict_links traced.origins) }
     ensures err { IfErr result (TellsLowest (slice_index heap.now.words)) }
     ensures ready { IsReady heap.now.words heap.now.held }
 {
@@ -90,7 +111,7 @@ pub fn maps_of(alloc: Global, heap: &Ready) -> Result<Vec<BTreeMap<u64, Bytes>>,
             Err(_) => return Err(MapFault::Memory),
         }
     }
-    Ok(maps)
+    Ok(TracedMaps { maps, origins })
 }
 
 /// Which roots reach each block of an image, by the kinds that it stores for them.

@@ -4,7 +4,7 @@ use Rattle.heap_model.specs.Header.{IsWellFormed}
 use Rattle.dict_model.specs.Links.{shards}
 use Rattle.dictionary.specs.Reading.{AreMaps}
 use Rattle.dictionary.proofs.WalkLemmas.{maps_begin, maps_push, tells_lowest}
-use Rattle.dictionary.proofs.read.maps_of.Goals as goal
+use Rattle.dictionary.proofs.read.trace_maps.Goals as goal
 
 pub loop-shard-init : goal.loop-shard-init
 loop-shard-init c = rw (c.in_ok-maps.ensures.items) (maps_begin (slice_index c.words-words.result.now))
