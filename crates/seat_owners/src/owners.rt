@@ -1,4 +1,4 @@
-//! The worker of each held block and of each root, by one trace of what the roots reach.
+//! The worker of each held block and of each root, by what is known of the roots that reach blocks.
 
 ghost use Rattle.std.specs.Prelude.{◌≡◌, ◌<◌, ◌≤◌, ◌+◌, ◌*◌, ℕ, length, slice_index, Contains, IfOk};
 ghost use Rattle.heap_model.specs.Geometry.{roots};
@@ -12,7 +12,7 @@ ghost use Rattle.run_model.specs.Workers.{root_owner};
 ghost use Rattle.seat_owners.specs.Owning.{AreOwnedUpTo, AreOwnersByRoot, IsOwnedBy};
 
 use dict_model::SHARDS;
-use dictionary::origins_of;
+use dictionary::{MappedHeap, origins_of};
 use filter_trace::Scan;
 use heap_model::Block;
 use root_reach::Origins;
@@ -36,7 +36,40 @@ pub fn owners_of(alloc: Global, heap: &Ready, workers: usize) -> Result<Owners, 
         directory: &directory,
     };
     let origins = origins_of(alloc, &scan)?;
-    let held = block_owners(alloc, heap, &origins, workers as u32)?;
+    owners_by(alloc, heap, &origins, workers)
+}
+
+/// The same of a heap whose maps were read, by what their trace told.
+pub fn owners_by_trace(
+    alloc: Global,
+    mapped: &MappedHeap,
+    workers: usize,
+) -> Result<Owners, AllocError>
+    requires some { 1 ≤ workers }
+    requires few { workers ≤ 8 }
+    requires dictionary { IsDictionary (slice_index mapped.now.words) (Contains mapped.now.held) }
+    ensures { IfOk result (λ o. AreOwnersByRoot (slice_index mapped.now.words) mapped.now.held
+        workers o.held o.roots) }
+{
+    owners_by(alloc, mapped.heap(), mapped.origins(), workers)
+}
+
+/// The owners, by which roots reach each block.
+fn owners_by(
+    alloc: Global,
+    heap: &Ready,
+    origins: &Origins,
+    workers: usize,
+) -> Result<Owners, AllocError>
+    requires some { 1 ≤ workers }
+    requires few { workers ≤ 8 }
+    requires maps { HasMaps (slice_index heap.now.words) }
+    requires origins { AreOrigins (slice_index heap.now.words)
+        (kinds_of (slice_index heap.now.words)) dict_links origins.now }
+    ensures { IfOk result (λ o. AreOwnersByRoot (slice_index heap.now.words) heap.now.held workers
+        o.held o.roots) }
+{
+    let held = block_owners(alloc, heap, origins, workers as u32)?;
     let roots = root_owners(alloc, workers as u32)?;
     Ok(Owners::new(held, roots))
 }

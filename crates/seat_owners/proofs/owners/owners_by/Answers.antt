@@ -1,6 +1,6 @@
 use Rattle.std.proofs.Common.{slice_index}
 use Rattle.seat_owners.proofs.OwnerLemmas.{owned_by_root}
-use Rattle.seat_owners.proofs.owners.owners_of.Goals as goal
+use Rattle.seat_owners.proofs.owners.owners_by.Goals as goal
 
 pub returns : goal.returns
 returns c =
