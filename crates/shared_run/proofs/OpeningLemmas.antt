@@ -1,4 +1,4 @@
--- The seats of a heap that was opened for workers are those of the workers; and no shard of a dictionary is bad.
+-- The seats of a heap that was opened for workers are those of the workers.
 use Rattle.std.proofs.Common.{◌≡◌, ◌<◌, ◌↔◌, ℕ, List, length, get_or, slice_index, Contains, refl, subst, sym, ap, ◌∙◌, arith}
 use Rattle.std.proofs.lemmas.List.{get_or_default}
 use Rattle.heap_model.specs.declared.block.Block.{Block}
@@ -6,16 +6,13 @@ use Rattle.heap_model.specs.Image.{Image}
 use Rattle.heap_model.specs.Rest.{IsReady}
 use Rattle.core_model.specs.Opening.{HasDoneNothing, opened_view, setup_of}
 use Rattle.core_model.specs.View.{View}
-use Rattle.dict_model.specs.Links.{shards}
-use Rattle.dict_model.specs.Shards.{BadShard}
-use Rattle.dict_model.proofs.ShardLemmas.{no_bad_shard}
 use Rattle.heap_table.specs.AtTable.{SharedView}
 use Rattle.heap_table.specs.Rule.{Opening, opened_view_of, opening_of}
 use Rattle.heap_rule.specs.Seated.{SeatView}
 use Rattle.heap_rule.specs.Seats.{AreOpenedSeats}
 use Rattle.seat_rows.proofs.IdleLemmas.{opened_seats}
 use Rattle.seat_view.specs.CacheState.{heap_view}
-use Rattle.run_model.specs.Opened.{HasMaps, IsDictionary, IsOpenedOver}
+use Rattle.run_model.specs.Opened.{IsDictionary, IsOpenedOver}
 use Rattle.run_model.specs.Workers.{root_owner}
 use Rattle.seat_owners.specs.Owning.{AreOwnersByRoot}
 use Rattle.seat_owners.proofs.OpenedLemmas.{has_root, opened_over, root_of}
@@ -61,7 +58,3 @@ module _ (words : List ℕ) (held : List Block) (workers budget : ℕ) (block_ow
           },
         );
   }
-
--- where each shard has a map none is told to be bad
-pub none_bad : (image : Image) (shard at : ℕ) → HasMaps image → shard < shards → BadShard image shard at → ⊥
-none_bad image shard at have small bad = let first = have.each shard small in no_bad_shard image shard at first.0 first.1 bad

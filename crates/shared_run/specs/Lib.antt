@@ -1,5 +1,6 @@
 pub mod Closed
 pub mod Dealing
+pub mod Following
 pub mod Jobs
 pub mod Parts
 pub mod Settling

@@ -2,6 +2,7 @@
 #![tactic(auto)]
 
 mod deal;
+mod follow;
 mod gather;
 mod job;
 mod run;

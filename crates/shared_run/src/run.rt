@@ -1,31 +1,37 @@
 //! A whole run of a trace by several workers: from a recovered heap to the replies and the image
 //! that is left.
 
-ghost use Rattle.std.specs.Prelude.{◌≡◌, ◌^◌, ◌<◌, ◌≤◌, ℕ, All, List, Contains, IfOk, length, slice_index};
+ghost use Rattle.std.specs.Prelude.{◌≡◌, ◌^◌, ◌<◌, ◌≤◌, ◌↔◌, ℕ, All, List, Contains, false, IfOk, IfSome, IsSome, length, slice_index};
 ghost use Rattle.heap_model.specs.Header.{capacity_of};
 ghost use Rattle.heap_model.specs.Rest.{IsReady};
+ghost use Rattle.dict_model.specs.Links.{shards};
 ghost use Rattle.seat_notes.specs.OwnerLists.{OwnerLists};
+ghost use Rattle.dictionary.specs.Reading.{AreMaps};
 ghost use Rattle.run_model.specs.Opened.{IsDictionary};
-ghost use Rattle.run_model.specs.Runs.{AnswerInOrder, IsFullRightly, LeavesHeader, LeavesMaps, LeavesOthers, LeavesState, LeavesUsed, RepliesRightly, StopsRightly};
+ghost use Rattle.run_model.specs.Runs.{AnswerInOrder, IsFullRightly, answered, LeavesHeader, LeavesMaps, LeavesOthers, LeavesState, LeavesUsed, RepliesRightly, StopsRightly};
 ghost use Rattle.worker_run.specs.Left.{AreWholeImage};
 ghost use Rattle.worker_run.specs.Said.{requests_of, replies_of, ValuesAreShort};
 ghost use Rattle.shared_run.specs.Closed.{LeavesOrderly};
 ghost use Rattle.shared_run.specs.Dealing.{AreInTurn};
+ghost use Rattle.shared_run.specs.Following.{AreAfter, FollowMapsOf};
 ghost use Rattle.shared_run.specs.Jobs.{IsJobOf, IsWorkedOf};
 ghost use Rattle.seat_owners.specs.Owning.{AreOwnersByRoot};
 ghost use Rattle.shared_run.specs.Together.{HaveWorked, IsLeftOf, opening_for};
 
 use crate::deal::{Reading, deal};
+use crate::follow::follow;
 use crate::gather::{Gathered, gather, put_in_order};
 use crate::job::{Job, Worked, work};
-use dictionary::{MapFault, maps_of};
+use dictionary::MappedHeap;
 use heap_rule::{Shared, close_shared, open_shared};
 use line_memory::{Chance, Closed};
-use seat_owners::owners_of;
+use region_header::Bytes;
+use seat_owners::owners_by_trace;
 use std::alloc::{AllocError, Global};
+use std::collections::BTreeMap;
 use std::thread;
 use std::thread::Threads;
-use super_block::{Geometry, Ready};
+use super_block::Geometry;
 use tool_ports::{Chances, Gate};
 use trace_text::{Reply, Request};
 use worker_run::{closed_image, crash_image, longest_puts};
@@ -40,6 +46,9 @@ pub struct Outcome {
     /// The words of the image that is left: that of a close or, where a worker was stopped, of a
     /// crash.
     pub image: Vec<u64>,
+    /// The maps of that image's shards; none where a worker was stopped, since whether the request
+    /// under way changed its shard stands in the image alone.
+    pub maps: Option<Vec<BTreeMap<u64, Bytes>>>,
 }
 
 /// The image that is left of a heap: that of a close or, where it was stopped, of a crash.
@@ -64,43 +73,75 @@ fn image_left<C: Chances>(
     }
 }
 
-/// A heap that is shared by so many workers, and a job for each of them, the last one first.
+/// What a run works with: the heap that its workers share, a job for each of them, the last one
+/// first, and the maps of the shards.
+#[derive(Drop)]
+struct Opened<C> {
+    shared: Shared,
+    jobs: Vec<Job<C>>,
+    maps: Vec<BTreeMap<u64, Bytes>>,
+}
+
+/// The heap is opened for so many workers.
 fn open<C: Chances>(
     alloc: Global,
-    heap: Ready,
+    mapped: MappedHeap,
     requests: &[Request],
     workers: usize,
     budget: u64,
     chances: &mut C,
-) -> Result<(Shared, Vec<Job<C::One>>), AllocError>
+) -> Result<Opened<C::One>, AllocError>
     requires some { 1 ≤ workers }
     requires few { workers ≤ 8 }
     requires budget { budget < 2 ^ 40 }
-    requires dictionary { IsDictionary (slice_index heap.words) (Contains heap.held) }
+    requires dictionary { IsDictionary (slice_index mapped.words)
+        (Contains mapped.held) }
     requires short { ValuesAreShort (requests_of requests.now) }
-    ensures ready { IsReady heap.words heap.held }
+    ensures ready { IsReady mapped.words mapped.held }
     ensures opening { IfOk result (λ r. (owners : OwnerLists)
-        × AreOwnersByRoot (slice_index heap.words) heap.held workers owners.held owners.roots
-        × (r.0.opening ≡ opening_for heap.words heap.held owners workers budget)) }
-    ensures seats { IfOk result (λ r. r.0.opening.seats ≡ workers) }
-    ensures jobs { IfOk result (λ r. All (IsJobOf r.0 (requests_of requests.now)) r.1.items) }
-    ensures turns { IfOk result (λ r. AreInTurn (λ job. job.worker) workers r.1.items) }
-    ensures count { IfOk result (λ r. length r.1.items ≡ workers) }
+        × AreOwnersByRoot (slice_index mapped.words) mapped.held workers owners.held
+        owners.roots
+        × (r.shared.opening
+        ≡ opening_for mapped.words mapped.held owners workers budget)) }
+    ensures seats { IfOk result (λ r. r.shared.opening.seats ≡ workers) }
+    ensures jobs { IfOk result (λ r.
+        All (IsJobOf r.shared (requests_of requests.now)) r.jobs.items) }
+    ensures turns { IfOk result (λ r. AreInTurn (λ job. job.worker) workers r.jobs.items) }
+    ensures count { IfOk result (λ r. length r.jobs.items ≡ workers) }
+    ensures maps { IfOk result (λ r.
+        AreMaps (slice_index mapped.words) shards r.maps.items) }
 {
-    let maps = match maps_of(alloc, &heap) {
-        Ok(maps) => maps,
-        Err(MapFault::BadShard { .. }) => unreachable!(),
-        Err(MapFault::Memory) => return Err(AllocError),
-    };
     let longest = longest_puts(alloc, requests)?;
-    let owners = owners_of(alloc, &heap, workers)?;
+    let owners = owners_by_trace(alloc, &mapped, workers)?;
+    let (heap, maps) = mapped.into_parts();
     let (shared, seats) = open_shared(alloc, heap, &owners, workers, budget)?;
     let reading = Reading {
         maps: &maps,
         longest: &longest,
     };
     let jobs = deal(alloc, &shared, seats, requests, &reading, chances)?;
-    Ok((shared, jobs))
+    Ok(Opened { shared, jobs, maps })
+}
+
+/// The maps of the shards after a run, unless it was stopped.
+fn maps_after(
+    alloc: Global,
+    mut maps: Vec<BTreeMap<u64, Bytes>>,
+    stopped: bool,
+    requests: &[Request],
+    replies: &[Reply],
+) -> Result<Option<Vec<BTreeMap<u64, Bytes>>>, AllocError>
+    requires shards { length maps.items ≡ shards }
+    requires long { length replies.now ≡ length requests.now }
+    ensures after { IfOk result (λ found. IfSome found (λ new. AreAfter
+        (answered (requests_of requests.now) (replies_of replies.now)) maps.items new.items)) }
+    ensures known { IfOk result (λ found. IsSome found ↔ (stopped ≡ false)) }
+{
+    if !stopped {
+        follow(alloc, &mut maps, requests, replies)?;
+        return Ok(Some(maps));
+    }
+    Ok(None)
 }
 
 /// Each worker does its work, in a thread of its own where one can be made.
@@ -137,7 +178,7 @@ fn work_together<R: Threads + Sync, G: Gate + Sync, C: Chance + Send>(
 fn run_workers<R: Threads + Sync, G: Gate + Sync, C: Chances>(
     rt: &R,
     alloc: Global,
-    heap: Ready,
+    mapped: MappedHeap,
     requests: &[Request],
     workers: usize,
     budget: u64,
@@ -147,15 +188,20 @@ fn run_workers<R: Threads + Sync, G: Gate + Sync, C: Chances>(
     requires some { 1 ≤ workers }
     requires few { workers ≤ 8 }
     requires budget { budget < 2 ^ 40 }
-    requires dictionary { IsDictionary (slice_index heap.words) (Contains heap.held) }
+    requires dictionary { IsDictionary (slice_index mapped.words)
+        (Contains mapped.held) }
     requires short { ValuesAreShort (requests_of requests.now) }
-    ensures { IfOk result (λ o. (now kept : List ℕ) × HaveWorked heap.words heap.held workers
-        budget (requests_of requests.now) (replies_of o.replies.items) o.stopped now kept
-        o.image.items) }
+    ensures worked { IfOk result (λ o. (now kept : List ℕ) × HaveWorked mapped.words
+        mapped.held workers budget (requests_of requests.now) (replies_of o.replies.items)
+        o.stopped now kept o.image.items) }
+    ensures after { IfOk result (λ o. IfSome o.maps (λ new. FollowMapsOf
+        (slice_index mapped.words)
+        (answered (requests_of requests.now) (replies_of o.replies.items)) new.items)) }
+    ensures known { IfOk result (λ o. IsSome o.maps ↔ (o.stopped ≡ false)) }
 {
-    let geometry = heap.geometry();
+    let geometry = mapped.heap().geometry();
     let mut replies = Vec::with_capacity(alloc, requests.len())?;
-    let (shared, jobs) = open(alloc, heap, requests, workers, budget, chances)?;
+    let Opened { shared, jobs, maps } = open(alloc, mapped, requests, workers, budget, chances)?;
     let worked = work_together(rt, &shared, jobs, requests, gate)?;
     let Gathered {
         seats,
@@ -165,10 +211,12 @@ fn run_workers<R: Threads + Sync, G: Gate + Sync, C: Chances>(
     put_in_order(requests, told, &mut replies);
     let closed = close_shared(alloc, shared, seats)?;
     let image = image_left(closed, stopped, geometry, chances);
+    let maps = maps_after(alloc, maps, stopped, requests, &replies)?;
     Ok(Outcome {
         replies,
         stopped,
         image,
+        maps,
     })
 }
 
@@ -180,7 +228,7 @@ fn run_workers<R: Threads + Sync, G: Gate + Sync, C: Chances>(
 pub fn run_trace<R: Threads + Sync, G: Gate + Sync, C: Chances>(
     rt: &R,
     alloc: Global,
-    heap: Ready,
+    mapped: MappedHeap,
     requests: &[Request],
     workers: usize,
     budget: u64,
@@ -190,38 +238,41 @@ pub fn run_trace<R: Threads + Sync, G: Gate + Sync, C: Chances>(
     requires some { 1 ≤ workers }
     requires few { workers ≤ 8 }
     requires budget { budget < 2 ^ 40 }
-    requires dictionary { IsDictionary (slice_index heap.words) (Contains heap.held) }
+    requires dictionary { IsDictionary (slice_index mapped.words) (Contains mapped.held) }
     requires short { ValuesAreShort (requests_of requests.now) }
 
     // The states that the workers' seats went through, and the heap that they left.
-    ensures worked { IfOk result (λ o. (now kept : List ℕ) × HaveWorked heap.words heap.held workers
+    ensures worked { IfOk result (λ o. (now kept : List ℕ) × HaveWorked mapped.words mapped.held workers
         budget (requests_of requests.now) (replies_of o.replies.items) o.stopped now kept
         o.image.items) }
 
     // Which requests are answered, and with which replies.
     ensures answers { IfOk result (λ o. AnswerInOrder workers (requests_of requests.now)
         (replies_of o.replies.items)) }
-    ensures stops { IfOk result (λ o. StopsRightly (slice_index heap.words) workers
+    ensures stops { IfOk result (λ o. StopsRightly (slice_index mapped.words) workers
         (requests_of requests.now) budget (replies_of o.replies.items) o.stopped) }
-    ensures replies { IfOk result (λ o. RepliesRightly (slice_index heap.words)
+    ensures replies { IfOk result (λ o. RepliesRightly (slice_index mapped.words)
         (requests_of requests.now) (replies_of o.replies.items)) }
-    ensures full { IfOk result (λ o. IsFullRightly (slice_index heap.words) workers
+    ensures full { IfOk result (λ o. IsFullRightly (slice_index mapped.words) workers
         (requests_of requests.now) (replies_of o.replies.items)) }
 
     // What image is left.
-    ensures maps { IfOk result (λ o. LeavesMaps (slice_index heap.words) workers
+    ensures maps { IfOk result (λ o. LeavesMaps (slice_index mapped.words) workers
         (requests_of requests.now) (replies_of o.replies.items) o.stopped
         (slice_index o.image.items)) }
-    ensures header { IfOk result (λ o. LeavesHeader (slice_index heap.words)
+    ensures header { IfOk result (λ o. LeavesHeader (slice_index mapped.words)
         (length o.image.items) (slice_index o.image.items)) }
-    ensures others { IfOk result (λ o. LeavesOthers (slice_index heap.words)
+    ensures others { IfOk result (λ o. LeavesOthers (slice_index mapped.words)
         (slice_index o.image.items)) }
-    ensures used { IfOk result (λ o. LeavesUsed (slice_index heap.words) workers
+    ensures used { IfOk result (λ o. LeavesUsed (slice_index mapped.words) workers
         (requests_of requests.now) (replies_of o.replies.items) (slice_index o.image.items)) }
     ensures state { IfOk result (λ o. LeavesState o.stopped (slice_index o.image.items)) }
+    ensures shards { IfOk result (λ o. IfSome o.maps (λ maps.
+        AreMaps (slice_index o.image.items) shards maps.items)) }
+    ensures known { IfOk result (λ o. IsSome o.maps ↔ (o.stopped ≡ false)) }
     ensures orderly { IfOk result (λ o. LeavesOrderly o.stopped (length o.image.items)
         (slice_index o.image.items)) }
 {
-    let outcome = run_workers(rt, alloc, heap, requests, workers, budget, gate, chances)?;
+    let outcome = run_workers(rt, alloc, mapped, requests, workers, budget, gate, chances)?;
     Ok(outcome)
 }

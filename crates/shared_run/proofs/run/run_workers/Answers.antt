@@ -1,11 +1,16 @@
-use Rattle.std.proofs.Common.{◌≡◌, ◌<◌, length, ap, sym, subst, ◌∙◌, arith}
+use Rattle.std.proofs.Common.{◌≡◌, ◌<◌, List, length, slice_index, ap, sym, subst, ◌∙◌, arith}
 use Rattle.std.proofs.lemmas.List.{length-map}
+use Rattle.std.proofs.lemmas.Option.{IfSome_then}
+use Rattle.heap_model.specs.Header.{capacity_of}
+use Rattle.super_block.specs.Contents.{Contents}
 use Rattle.core_model.specs.View.{Setup}
 use Rattle.heap_table.specs.AtTable.{IsClosedSound}
 use Rattle.heap_table.specs.Rule.{setup_for}
 use Rattle.heap_rule.specs.Seats.{views_of}
-use Rattle.worker_run.specs.Said.{request_of, requests_of, reply_of, replies_of}
+use Rattle.worker_run.specs.Said.{Told, request_of, requests_of, reply_of, replies_of}
+use Rattle.run_model.specs.Runs.{answered}
 use Rattle.shared_run.specs.Dealing.{AreParts}
+use Rattle.shared_run.specs.Following.{AreAfter}
 use Rattle.shared_run.proofs.ClosedLemmas.{both_long, first_of, kept_capacity, kept_whole, now_capacity, now_long, now_whole, parts_back}
 use Rattle.shared_run.proofs.RunLemmas.{have_worked}
 use Rattle.shared_run.proofs.run.run_workers.Goals as goal
@@ -20,28 +25,28 @@ close_shared-requires g c =
     let same = parts.count in
     let some = c.requires.some in
     let opened = c.in_ok-shared.ensures.seats in
-    parts_back c.in_ok-shared.shared (requests_of c.args.requests.now) (length c.in_ok-worked.worked.items) got.seats.items got.told.items got.stopped parts (omega arith) (omega arith)
+    parts_back c.in_ok-shared.field-0.shared (requests_of c.args.requests.now) (length c.in_ok-worked.worked.items) got.seats.items got.told.items got.stopped parts (omega arith) (omega arith)
 
 pub image_left-image-requires-clause-whole : goal.image_left-image-requires-clause-whole
-image_left-image-requires-clause-whole g c κs within = now_whole c.args.heap.words c.args.heap.held c.args.workers c.args.budget c.in_ok-closed.closed.now c.in_ok-closed.closed.kept (views_of c.in_ok-seats.field-0.seats.items) c.open.ensures.ready
+image_left-image-requires-clause-whole g c κs within = now_whole c.args.mapped.words c.args.mapped.held c.args.workers c.args.budget c.in_ok-closed.closed.now c.in_ok-closed.closed.kept (views_of c.in_ok-seats.field-0.seats.items) c.open.ensures.ready
     (subst (λ (k : Setup). IsClosedSound k c.in_ok-closed.closed.now c.in_ok-closed.closed.kept (views_of c.in_ok-seats.field-0.seats.items)) (ap setup_for c.in_ok-shared.ensures.opening.2) c.in_ok-closed.ensures.sound)
 
 pub image_left-image-requires-clause-kept : goal.image_left-image-requires-clause-kept
-image_left-image-requires-clause-kept g c κs within = kept_whole c.args.heap.words c.args.heap.held c.args.workers c.args.budget c.in_ok-closed.closed.now c.in_ok-closed.closed.kept (views_of c.in_ok-seats.field-0.seats.items) c.open.ensures.ready
+image_left-image-requires-clause-kept g c κs within = kept_whole c.args.mapped.words c.args.mapped.held c.args.workers c.args.budget c.in_ok-closed.closed.now c.in_ok-closed.closed.kept (views_of c.in_ok-seats.field-0.seats.items) c.open.ensures.ready
     (subst (λ (k : Setup). IsClosedSound k c.in_ok-closed.closed.now c.in_ok-closed.closed.kept (views_of c.in_ok-seats.field-0.seats.items)) (ap setup_for c.in_ok-shared.ensures.opening.2) c.in_ok-closed.ensures.sound)
 
 pub image_left-image-requires-clause-layout : goal.image_left-image-requires-clause-layout
-image_left-image-requires-clause-layout g c κs within = c.geometry-geometry.ensures ∙ sym (now_capacity c.args.heap.words c.args.heap.held c.args.workers c.args.budget c.in_ok-closed.closed.now c.in_ok-closed.closed.kept (views_of c.in_ok-seats.field-0.seats.items) c.open.ensures.ready
+image_left-image-requires-clause-layout g c κs within = c.geometry-geometry.ensures ∙ ap (λ (heap : Contents). capacity_of (slice_index heap.words)) c.heap.ensures ∙ sym (now_capacity c.args.mapped.words c.args.mapped.held c.args.workers c.args.budget c.in_ok-closed.closed.now c.in_ok-closed.closed.kept (views_of c.in_ok-seats.field-0.seats.items) c.open.ensures.ready
     (subst (λ (k : Setup). IsClosedSound k c.in_ok-closed.closed.now c.in_ok-closed.closed.kept (views_of c.in_ok-seats.field-0.seats.items)) (ap setup_for c.in_ok-shared.ensures.opening.2) c.in_ok-closed.ensures.sound))
 
 pub image_left-image-requires-clause-same : goal.image_left-image-requires-clause-same
-image_left-image-requires-clause-same g c κs within = c.geometry-geometry.ensures ∙ sym (kept_capacity c.args.heap.words c.args.heap.held c.args.workers c.args.budget c.in_ok-closed.closed.now c.in_ok-closed.closed.kept (views_of c.in_ok-seats.field-0.seats.items) c.open.ensures.ready
+image_left-image-requires-clause-same g c κs within = c.geometry-geometry.ensures ∙ ap (λ (heap : Contents). capacity_of (slice_index heap.words)) c.heap.ensures ∙ sym (kept_capacity c.args.mapped.words c.args.mapped.held c.args.workers c.args.budget c.in_ok-closed.closed.now c.in_ok-closed.closed.kept (views_of c.in_ok-seats.field-0.seats.items) c.open.ensures.ready
     (subst (λ (k : Setup). IsClosedSound k c.in_ok-closed.closed.now c.in_ok-closed.closed.kept (views_of c.in_ok-seats.field-0.seats.items)) (ap setup_for c.in_ok-shared.ensures.opening.2) c.in_ok-closed.ensures.sound))
 
-pub returns : goal.returns
-returns g c =
-    let words = c.args.heap.words in
-    let held = c.args.heap.held in
+pub returns-clause-worked : goal.returns-clause-worked
+returns-clause-worked g c =
+    let words = c.args.mapped.words in
+    let held = c.args.mapped.held in
     let lines = c.args.requests.now in
     let got = c.in_ok-seats.field-0 in
     let closed = c.in_ok-closed.closed in
@@ -52,7 +57,7 @@ returns g c =
     let workers : length c.in_ok-worked.worked.items ≡ c.args.workers = omega arith in
     let count : length got.seats.items ≡ c.args.workers = omega arith in
     let some : 0 < length got.seats.items = omega arith in
-    let parts = subst (λ n. AreParts c.in_ok-shared.shared (requests_of lines) n got.seats.items got.told.items got.stopped) workers c.in_ok-seats.ensures.parts in
+    let parts = subst (λ n. AreParts c.in_ok-shared.field-0.shared (requests_of lines) n got.seats.items got.told.items got.stopped) workers c.in_ok-seats.ensures.parts in
     let same = parts.count in
     let sound = subst (λ (k : Setup). IsClosedSound k closed.now closed.kept (views_of got.seats.items)) (ap setup_for c.in_ok-shared.ensures.opening.2) c.in_ok-closed.ensures.sound in
     let long = c.put_in_order.ensures.long in
@@ -62,8 +67,15 @@ returns g c =
     let both = both_long words held c.args.workers c.args.budget closed.now closed.kept (views_of got.seats.items) ready sound in (
       closed.now,
       closed.kept,
-      have_worked c.in_ok-shared.shared (requests_of lines) c.args.workers got.seats.items got.told.items got.stopped parts (first_of got.seats.items some) (first_of got.told.items (omega arith)) some
+      have_worked c.in_ok-shared.field-0.shared (requests_of lines) c.args.workers got.seats.items got.told.items got.stopped parts (first_of got.seats.items some) (first_of got.told.items (omega arith)) some
           words held c.args.budget ready c.requires.dictionary c.requires.few c.in_ok-shared.ensures.opening.0 c.in_ok-shared.ensures.opening.1 c.in_ok-shared.ensures.opening.2 count
           (replies_of c.put_in_order.new.replies.items) closed.now closed.kept c.image_left-image.result.items c.in_ok-closed.ensures.sound c.in_ok-closed.ensures.reached (omega arith) c.put_in_order.ensures.each
           (c.image_left-image.ensures.long both ∙ now_long words held c.args.workers c.args.budget closed.now closed.kept (views_of got.seats.items) ready sound) c.image_left-image.ensures.left,
     )
+
+pub returns-clause-after : goal.returns-clause-after
+returns-clause-after g c = IfSome_then c.in_ok-maps.maps c.in_ok-maps.ensures.after (λ new after. record {
+  old = c.in_ok-shared.field-0.maps.items;
+  were = c.in_ok-shared.ensures.maps;
+  after = subst (λ (rs : List Told). AreAfter (answered (requests_of c.args.requests.now) (replies_of rs)) c.in_ok-shared.field-0.maps.items new.items) c.deref.ensures.value after;
+})
