@@ -1,11 +1,10 @@
 -- Maps that follow requests and their replies one by one are those after all of them; where these are the answered requests of a run that wasn't stopped, they are the maps of the image that is left.
-use Rattle.std.proofs.Common.{◌≡◌, ℕ, zero, suc, ◌+◌, ◌<◌, take, inl, inr, Bool, true, false, List, [], ◌∷◌, ◌++◌, length, get_or, cond, set, Option, None, Some, refl, subst, sym, ap, ◌∙◌, arith}
+use Rattle.std.proofs.Common.{◌≡◌, ℕ, zero, suc, ◌+◌, ◌<◌, take, inl, inr, Bool, true, false, List, [], ◌∷◌, ◌++◌, length, get_or, cond, Option, None, Some, refl, subst, sym, ap, ◌∙◌, arith}
 use Rattle.std.specs.Prelude.{◌↔◌, nat_eq, IfSome, IsSome}
 use Rattle.std.specs.BTreeMap.{BTreeMap, get, IsOrdered}
 use Rattle.std.specs.Ordering.{nat_cmp}
-use Rattle.std.proofs.lemmas.Bool.{cases_eq, cond-true, cond-false, ne_eqb, eq-eqb}
 use Rattle.std.proofs.Math.Seq.{take-suc}
-use Rattle.std.proofs.lemmas.List.{get_or-set_other, get_or-set_same, length-map, length-set, map-append}
+use Rattle.std.proofs.lemmas.List.{length-map, map-append}
 use Rattle.std.proofs.lemmas.List.Elements.{filter-append}
 use Rattle.std.proofs.lemmas.Option.{get_or_from_slice_get, slice_get-get_or}
 use Rattle.heap_model.specs.Image.{Image}
@@ -15,7 +14,7 @@ use Rattle.dict_model.specs.Shards.{Map, Leading, IsMap, is_empty, has_table, Ma
 use Rattle.dictionary.specs.Reading.{AreMaps}
 use Rattle.run_model.specs.Needs.{is_to}
 use Rattle.run_model.specs.Runs.{answered, of_shard, LeavesMaps}
-use Rattle.run_model.specs.Workers.{Replies, shard_asked}
+use Rattle.run_model.specs.Workers.{Replies}
 use Rattle.worker_run.specs.Said.{Line, Told, request_of, requests_of, reply_of, replies_of}
 use Rattle.worker_run.proofs.RoomLemmas.{requests_next}
 use Rattle.shared_run.specs.Following.{AreAfter}
@@ -67,44 +66,6 @@ answered_more [] (s ∷ rs) q r long = absurd (omega (arith, long))
 answered_more (p ∷ qs) [] q r long = absurd (omega (arith, long))
 answered_more (p ∷ qs) (None ∷ rs) q r long = answered_more qs rs q r (omega (arith, long))
 answered_more (p ∷ qs) (Some s ∷ rs) q r long = ap (λ xs. (p, s) ∷ xs) (answered_more qs rs q r (omega (arith, long)))
-
--- a request that changed the map of its shard, and no other
-module _ (request : Request) (maps : List (BTreeMap ℕ (List ℕ))) (k : ℕ) (new : BTreeMap ℕ (List ℕ)) (k_is : k ≡ shard_asked request) (inside : k < length maps) (ordered : IsOrdered nat_cmp new)
-    (has : (key : ℕ) (any : BTreeMap ℕ (List ℕ)) → get nat_cmp new key ≡ after_one (get nat_cmp (get_or maps k any)) request done key) where
-  pub after_done : AreAfter ((request, done) ∷ []) maps (set maps k new)
-  after_done = record {
-    long = length-set maps k new;
-    each = λ shard key any below. elim (cases_eq k shard) as (λ _. get nat_cmp (get_or (set maps k new) shard any) key ≡ after (get nat_cmp (get_or maps shard any)) (of_shard shard ((request, done) ∷ [])) key) [
-      | inl same ↦
-          let own : of_shard shard ((request, done) ∷ []) ≡ (request, done) ∷ [] = cond-true (is_to shard request) ((request, done) ∷ []) [] (eq-eqb (shard_asked request) shard (sym k_is ∙ same)) in
-          subst (λ rs. get nat_cmp (get_or (set maps k new) shard any) key ≡ after (get nat_cmp (get_or maps shard any)) rs key) (sym own)
-          (subst (λ s. get nat_cmp (get_or (set maps k new) s any) key ≡ after_one (get nat_cmp (get_or maps s any)) request done key) same
-          (ap (λ (m : BTreeMap ℕ (List ℕ)). get nat_cmp m key) (get_or-set_same maps k new any inside) ∙ has key any))
-      | inr other ↦
-          let none_of : of_shard shard ((request, done) ∷ []) ≡ [] = cond-false (is_to shard request) ((request, done) ∷ []) [] (ne_eqb (shard_asked request) shard (λ e. other (k_is ∙ e))) in
-          subst (λ rs. get nat_cmp (get_or (set maps k new) shard any) key ≡ after (get nat_cmp (get_or maps shard any)) rs key) (sym none_of)
-          (ap (λ (m : BTreeMap ℕ (List ℕ)). get nat_cmp m key) (get_or-set_other maps k shard new any (λ e. other (sym e))))
-    ];
-    ordered = λ shard any below is. elim (cases_eq k shard) as (λ _. IsOrdered nat_cmp (get_or (set maps k new) shard any)) [
-      | inl same ↦ subst (λ s. IsOrdered nat_cmp (get_or (set maps k new) s any)) same (subst (λ (m : BTreeMap ℕ (List ℕ)). IsOrdered nat_cmp m) (sym (get_or-set_same maps k new any inside)) ordered)
-      | inr other ↦ subst (λ (m : BTreeMap ℕ (List ℕ)). IsOrdered nat_cmp m) (sym (get_or-set_other maps k shard new any (λ e. other (sym e)))) is
-    ];
-  }
-
--- a request that was not done, or only read, changed none
-pub after_still : (rs : List (Request × Reply)) (maps : List (BTreeMap ℕ (List ℕ))) → ((f : Map) (shard key : ℕ) → after f (of_shard shard rs) key ≡ f key) → AreAfter rs maps maps
-after_still rs maps still = record { long = refl; each = λ shard key any below. sym (still (get nat_cmp (get_or maps shard any)) shard key); ordered = λ shard any below is. is }
-
-one_still : (shard : ℕ) (request : Request) (reply : Reply) → ((f : Map) (key : ℕ) → after_one f request reply key ≡ f key) → (f : Map) (key : ℕ) → after f (of_shard shard ((request, reply) ∷ [])) key ≡ f key
-one_still shard request reply still f key = by_case (is_to shard request) where
-  by_case : (b : Bool) → after f (cond b ((request, reply) ∷ []) []) key ≡ f key
-  by_case true = still f key
-  by_case false = refl
-
-pub still_answered : (request : Request) (reply : Option Reply) → ((r : Reply) → reply ≡ Some r → (f : Map) (key : ℕ) → after_one f request r key ≡ f key)
-    → (maps : List (BTreeMap ℕ (List ℕ))) → AreAfter (answered (request ∷ []) (reply ∷ [])) maps maps
-still_answered request None still maps = after_none maps
-still_answered request (Some r) still maps = after_still ((request, r) ∷ []) maps (λ f shard key. one_still shard request r (still r refl) f key)
 
 -- a shard is a map that is the same at each key
 map_same : (leads : Leading) (image : Image) (shard : ℕ) (a b : Map) → ((key : ℕ) → b key ≡ a key) → IsMap leads image shard a → IsMap leads image shard b

@@ -1,4 +1,4 @@
-use Rattle.std.proofs.Common.{◌≡◌, ◌∙◌, ℕ, List, slice_index, ap, sym, subst}
+use Rattle.std.proofs.Common.{◌∙◌, ℕ, List, slice_index, ap, sym, subst}
 use Rattle.std.specs.BTreeMap.{BTreeMap}
 use Rattle.super_block.specs.Contents.{Contents}
 use Rattle.core_model.specs.Opening.{AreOwners, opened_view, setup_of}
