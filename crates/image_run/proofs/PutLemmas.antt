@@ -1,12 +1,11 @@
 -- Bytes that stand for words, and that what a run puts can be run again.
 use Rattle.std.proofs.Common.{◌≡◌, ◌*◌, ◌/◌, ℕ, List, Some, None, length, slice_index, sym, subst, ap, ◌∙◌, arith}
 use Rattle.std.proofs.lemmas.Grind.{same_number_lists}
-use Rattle.heap_model.specs.Geometry.{roots, version, version_word}
+use Rattle.heap_model.specs.Geometry.{version, version_word}
 use Rattle.heap_model.specs.Image.{Image, image_of_bytes}
 use Rattle.heap_model.specs.Header.{header_fault, first_kinds}
-use Rattle.heap_model.proofs.EmptyLemmas.{first_kind, length-first_kinds}
 use Rattle.heap_model.proofs.ImageLemmas.{length-words_from, get_or-words_from}
-use Rattle.dict_model.specs.Links.{kind_count, root_kind}
+use Rattle.dict_model.specs.Links.{kind_count}
 use Rattle.dict_model.specs.Requests.{Request}
 use Rattle.run_model.specs.Opened.{HasMaps, CanBeRun}
 use Rattle.worker_run.specs.Said.{replies_of}
@@ -39,10 +38,6 @@ words_are_in words bytes are =
 pub image_in_words : (words bytes : List ℕ) → AreWordsOf words bytes → slice_index words version_word ≡ version → image_in bytes ≡ slice_index words
 image_in_words words bytes are is_new =
     ap (λ (ws : List ℕ). slice_index (current_words ws first_kinds)) (words_are_in words bytes are) ∙ ap slice_index (current_of_new words first_kinds is_new)
-
--- the kinds of the dictionary's roots are those that `format` gives
-pub first_are : (kinds : List ℕ) → length kinds ≡ roots → ((i : ℕ) → slice_index kinds i ≡ root_kind i) → kinds ≡ first_kinds
-first_are kinds long are = same_number_lists kinds first_kinds (long ∙ sym length-first_kinds) (λ i below. are i ∙ sym (first_kind i))
 
 module _ (image : Image) (requests : List Request) (options : Options) (put text : List ℕ) (have : HasMaps image) (runs : RunsRequests image requests options put text) where
   left_again : CanBeRun (length runs.left) (slice_index runs.left)

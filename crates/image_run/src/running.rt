@@ -1,5 +1,7 @@
 //! Runs a trace over a recovered heap, and makes what is put and printed.
-ghost use Rattle.std.specs.Prelude.{◌≡◌, length, IfOk, Contains, slice_index};
+ghost use Rattle.std.specs.Prelude.{◌≡◌, length, IfOk, IfSome, Contains, slice_index};
+ghost use Rattle.dict_model.specs.Links.{shards};
+ghost use Rattle.dictionary.specs.Reading.{AreMaps};
 ghost use Rattle.run_model.specs.Opened.{IsDictionary, CanBeRun};
 ghost use Rattle.worker_run.specs.Said.{requests_of, ValuesAreShort};
 ghost use Rattle.image_run.specs.Reporting.{Reports, IsRecoveredHeap};
@@ -7,13 +9,13 @@ ghost use Rattle.image_run.specs.Running.{RunsRequests, options_of};
 
 use crate::options::RunOptions;
 use crate::reporting::recovered_text;
-use dictionary::{DictFilter, MapFault, read_maps, root_kinds};
+use dictionary::{DictFilter, MapFault, MappedHeap, read_maps, root_kinds};
 use heap_recover::{RecoverFault, Recovered, recover_owned};
 use region_header::{Bytes, words_to_bytes};
 use shared_run::run_trace;
 use std::alloc::{AllocError, Global};
+use std::collections::BTreeMap;
 use std::thread::Threads;
-use super_block::Ready;
 use tool_ports::{Chances, Gate};
 use trace_text::{Request, reply_text};
 
@@ -27,28 +29,30 @@ pub struct RunProduct {
 }
 
 /// Runs the requests over a recovered heap in which nothing is outside and each shard has a map,
-/// and makes all that is to be put and printed. The chances begin anew by the options' seed.
+/// and makes all that is to be put and printed. The chances begin anew by the options' seed. The
+/// shards of the image that is left are read only where a worker was stopped.
 pub fn run_image<R: Threads + Sync, G: Gate + Sync, C: Chances>(
     rt: &R,
     alloc: Global,
-    heap: Ready,
+    mapped: MappedHeap,
     requests: &[Request],
     options: RunOptions,
     gate: &G,
     chances: &mut C,
 ) -> Result<RunProduct, AllocError>
-    requires dictionary { IsDictionary (slice_index heap.words) (Contains heap.held) }
+    requires dictionary { IsDictionary (slice_index mapped.words)
+        (Contains mapped.held) }
     requires short { ValuesAreShort (requests_of requests.now) }
-    ensures ok { IfOk result (λ product. RunsRequests (slice_index heap.words)
+    ensures ok { IfOk result (λ product. RunsRequests (slice_index mapped.words)
         (requests_of requests.now) (options_of options) product.image product.text) }
 {
     chances.seed(options.seed);
     let workers = options.workers as usize;
     let budget = options.budget;
-    let outcome = run_trace(rt, alloc, heap, requests, workers, budget, gate, chances)?;
+    let outcome = run_trace(rt, alloc, mapped, requests, workers, budget, gate, chances)?;
     let replies = reply_text(alloc, &outcome.replies, outcome.stopped, options.with_sum)?;
     let image = words_to_bytes(alloc, &outcome.image)?;
-    let report = left_text(alloc, outcome.image, options)?;
+    let report = left_text(alloc, outcome.image, outcome.maps, options)?;
     let mut text = replies.into_vec();
     text.extend_from_slice(report.as_slice())?;
     Ok(RunProduct {
@@ -57,12 +61,22 @@ pub fn run_image<R: Threads + Sync, G: Gate + Sync, C: Chances>(
     })
 }
 
-// The text on an image that a run left, once it is recovered.
-fn left_text(alloc: Global, words: Vec<u64>, options: RunOptions) -> Result<Bytes, AllocError>
-    requires { CanBeRun (length words.items) (slice_index words.items) }
+// The text on an image that a run left, once it is recovered. Its maps are read where they aren't
+// known.
+fn left_text(
+    alloc: Global,
+    words: Vec<u64>,
+    known: Option<Vec<BTreeMap<u64, Bytes>>>,
+    options: RunOptions,
+) -> Result<Bytes, AllocError>
+    requires run { CanBeRun (length words.items) (slice_index words.items) }
+    requires maps { IfSome known (λ maps. AreMaps (slice_index words.items) shards maps.items) }
     ensures { IfOk result (Reports (slice_index words.items) options.with_sum options.with_map) }
 {
     let recovered = recover_left(alloc, words)?;
+    if let Some(maps) = known {
+        return recovered_text(alloc, &recovered, &maps, options.with_sum, options.with_map);
+    }
     let maps = match read_maps(alloc, &recovered) {
         Ok(maps) => maps,
         Err(MapFault::Memory) => return Err(AllocError),

@@ -7,9 +7,9 @@ use Rattle.worker_run.proofs.AgainLemmas.{can_be_run}
 use Rattle.image_run.specs.Running.{as_they_are}
 use Rattle.image_run.proofs.running.run_image.Goals as goal
 
-pub left_text-requires : goal.left_text-requires
-left_text-requires g c =
-    can_be_run (slice_index c.args.heap.words) (slice_index c.in_ok-outcome.outcome.image.items) _ _ _ _ _ c.requires.dictionary.maps c.in_ok-outcome.ensures.maps
+pub left_text-requires-clause-run : goal.left_text-requires-clause-run
+left_text-requires-clause-run g c =
+    can_be_run (slice_index c.args.mapped.words) (slice_index c.in_ok-outcome.outcome.image.items) _ _ _ _ _ c.requires.dictionary.maps c.in_ok-outcome.ensures.maps
     c.in_ok-outcome.ensures.header c.in_ok-outcome.ensures.others
 
 pub returns : goal.returns
@@ -28,9 +28,9 @@ returns g c =
         left = outcome.image.items;
         leaves = record {
           worked = record {
-            words = c.args.heap.words;
+            words = c.args.mapped.words;
             opened = as_they_are;
-            held = c.args.heap.held;
+            held = c.args.mapped.held;
             now = c.in_ok-outcome.ensures.worked.0;
             kept = c.in_ok-outcome.ensures.worked.1;
             worked = c.in_ok-outcome.ensures.worked.2;
