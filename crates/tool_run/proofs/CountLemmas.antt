@@ -1,8 +1,7 @@
 -- What opening an image's words says of its bytes, and of the command that asked for it.
-use Rattle.std.proofs.Common.{◌≡◌, ◌∙◌, ℕ, Bool, List, length, Option, Some, Result, IfErr, sym, subst}
+use Rattle.std.proofs.Common.{◌≡◌, ◌∙◌, ℕ, Bool, List, length, Option, Some, Result, IfErr, refl, sym, subst}
 use Rattle.heap_model.specs.Image.{image_of_bytes}
 use Rattle.heap_model.specs.Header.{HasGoodHeader, first_kinds}
-use Rattle.heap_model.proofs.EmptyLemmas.{length-first_kinds, first_kind}
 use Rattle.dict_model.specs.Links.{dict_links, kind_count}
 use Rattle.heap_recover.specs.Fault.{TellsFault}
 use Rattle.heap_recover.specs.declared.fault.RecoverFault.{RecoverFault}
@@ -20,7 +19,7 @@ use Rattle.tool_run.proofs.RecoveryLemmas.{recovery_fault}
 -- why bytes with a good header are not opened
 pub opening_fault : {T : Type 0} (words bytes : List ℕ) → AreWordsOf words bytes → (result : Result T RecoverFault) → HasGoodHeader (Some kind_count) (length bytes) (image_of_bytes bytes)
     → IfErr result (TellsFault (Some kind_count) words (current_words words first_kinds) dict_links) → IfErr result (IsRecoveryFault (image_in bytes))
-opening_fault words bytes of result good why = recovery_fault words first_kinds bytes length-first_kinds first_kind of result good why
+opening_fault words bytes of result good why = recovery_fault words first_kinds bytes refl of result good why
 
 -- what the tool tells of an image that was not opened: a word outside only where its anchors don't tell what it holds
 pub not_opened : (contents : Contents) (name got : List ℕ) (get_failed : Type 0) (with_map : Bool) (cause : RecoverFault) (fault : Fault)

@@ -29,7 +29,8 @@ use Rattle.std.specs.BTreeMap.{BTreeMap}
 use Rattle.heap_model.specs.Rest.{IsReady}
 use Rattle.dict_model.specs.Links.{shards, kind_count}
 use Rattle.dictionary.specs.Reading.{AreMaps}
-use Rattle.image_run.proofs.RecoveredLemmas.{recovers_to, maps_of_image}
+use Rattle.dictionary.proofs.SameLemmas.{maps_of_image}
+use Rattle.image_run.proofs.RecoveredLemmas.{recovers_to}
 use Rattle.image_run.proofs.TextLemmas.{reports}
 
 -- as many first bytes under another name

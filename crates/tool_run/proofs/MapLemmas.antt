@@ -8,9 +8,9 @@ use Rattle.dict_model.specs.Links.{shards}
 use Rattle.dictionary.specs.declared.fault.MapFault.{MapFault}
 use Rattle.dictionary.specs.declared.fault.MapFault.TheVariants.{BadShard as NoMap, Memory as MapMemory}
 use Rattle.dictionary.specs.Reading.{AreMaps, TellsLowest, RecoversTo}
-use Rattle.dictionary.proofs.SameLemmas.{map_kept, bad_kept}
+use Rattle.dictionary.proofs.SameLemmas.{map_kept, bad_kept, maps_of_image}
 use Rattle.heap_recover.specs.declared.answer.Recovered.{Recovered}
-use Rattle.image_run.proofs.RecoveredLemmas.{recovers_to, maps_of_image}
+use Rattle.image_run.proofs.RecoveredLemmas.{recovers_to}
 use Rattle.worker_run.proofs.RecoveredLemmas.{recovered_dictionary}
 use Rattle.tool_ports.specs.Contents.{Contents}
 use Rattle.tool_run.specs.declared.fault.Fault.{Fault}

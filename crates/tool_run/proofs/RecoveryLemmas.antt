@@ -7,8 +7,9 @@ use Rattle.heap_model.specs.Header.{HasGoodHeader, HasKindsBelow, IsWellFormed, 
 use Rattle.heap_model.specs.Blocks.{layout_of}
 use Rattle.heap_model.specs.Recovered.{IsFreeSuperblock, AreAscending}
 use Rattle.heap_model.specs.Recovery.{IsRecovered}
+use Rattle.heap_model.proofs.EmptyLemmas.{length-first_kinds}
 use Rattle.heap_model.proofs.HeaderLemmas.{no_fault}
-use Rattle.dict_model.specs.Links.{dict_links, kind_count, root_kind}
+use Rattle.dict_model.specs.Links.{dict_links, kind_count}
 use Rattle.region_header.specs.Words.{AreWordsOf}
 use Rattle.region_header.specs.Migration.{current_words}
 use Rattle.region_header.proofs.MigrationLemmas.{current_formed, current_below}
@@ -18,7 +19,7 @@ use Rattle.heap_recover.specs.declared.answer.Was.TheVariants.{Clean}
 use Rattle.heap_recover.specs.declared.fault.RecoverFault.{RecoverFault}
 use Rattle.heap_recover.specs.declared.fault.RecoverFault.TheVariants.{Header, Outside, Memory}
 use Rattle.image_run.proofs.LeftLemmas.{told_outside, none_outside}
-use Rattle.image_run.proofs.PutLemmas.{image_of_words, words_are_in, first_are}
+use Rattle.image_run.proofs.PutLemmas.{image_of_words, words_are_in}
 use Rattle.tool_run.specs.Making.{IsKept, PointsOutside, image_in}
 use Rattle.tool_run.specs.Recovering.{HoldsImage, IsRecoveredHeap, IsRecoveryFault, words_in_bytes}
 
@@ -39,10 +40,13 @@ pub good_in_words : (limit : Option ℕ) (words bytes : List ℕ) → AreWordsOf
 good_in_words limit words bytes of good = subst (λ n. HasGoodHeader limit n (slice_index words)) (sym of.count)
     (subst (λ (image : Image). HasGoodHeader limit (length bytes) image) (sym (image_of_words words bytes of)) good)
 
-module _ (words kinds bytes : List ℕ) (count : length kinds ≡ roots) (kinds_are : (i : ℕ) → slice_index kinds i ≡ root_kind i) (of : AreWordsOf words bytes) where
+module _ (words kinds bytes : List ℕ) (are : kinds ≡ first_kinds) (of : AreWordsOf words bytes) where
+  count : length kinds ≡ roots
+  count = ap length are ∙ length-first_kinds
+
   -- the words in the new version are those in the bytes
   pub current_in : current_words words kinds ≡ current_words (words_in_bytes bytes) first_kinds
-  current_in = ap (λ ws. current_words ws kinds) (sym (words_are_in words bytes of)) ∙ ap (λ ks. current_words (words_in_bytes bytes) ks) (first_are kinds count kinds_are)
+  current_in = ap (λ ws. current_words ws kinds) (sym (words_are_in words bytes of)) ∙ ap (λ ks. current_words (words_in_bytes bytes) ks) are
 
   pub image_is : slice_index (current_words words kinds) ≡ image_in bytes
   image_is = ap (λ (ws : List ℕ). slice_index ws) current_in

@@ -14,12 +14,10 @@ ghost use Rattle.tool_run.specs.Recovering.{IsMapped};
 use crate::fault::Fault;
 use crate::making::Product;
 use crate::recovering::recover_image;
-use dictionary::read_maps;
-use heap_recover::Recovered;
+use dictionary::MappedHeap;
 use image_run::{RunOptions, run_image};
 use std::alloc::Global;
 use std::thread::Threads;
-use super_block::Ready;
 use tool_ports::{Chances, Gate, ImageStore, Source, read_all};
 use trace_text::{Request, parse_trace};
 
@@ -54,9 +52,9 @@ pub fn work_named<R: Threads + Sync, I: ImageStore, T: Source, G: Gate + Sync, C
     ensures later { I.faults images.old ≤ I.faults images.new }
     ensures calls { I.calls images.new ≡ with_get get_limit (I.calls images.old) }
 {
-    let heap = mapped_heap(alloc, name, images)?;
+    let mapped = mapped_heap(alloc, name, images)?;
     let requests = read_trace(alloc, trace)?;
-    let product = run_image(rt, alloc, heap, &requests, options, gate, chances)?;
+    let product = run_image(rt, alloc, mapped, &requests, options, gate, chances)?;
     Ok(Product {
         image: Some(product.image),
         text: product.text,
@@ -64,9 +62,13 @@ pub fn work_named<R: Threads + Sync, I: ImageStore, T: Source, G: Gate + Sync, C
 }
 
 // The image of this name, recovered: each shard of it has a map.
-fn mapped_heap<I: ImageStore>(alloc: Global, name: &str, images: &mut I) -> Result<Ready, Fault>
-    ensures ok { IfOk result (λ heap.
-        IsMapped (I.contents images.old) name.now heap.words heap.held) }
+fn mapped_heap<I: ImageStore>(
+    alloc: Global,
+    name: &str,
+    images: &mut I,
+) -> Result<MappedHeap, Fault>
+    ensures ok { IfOk result (λ mapped.
+        IsMapped (I.contents images.old) name.now mapped.words mapped.held) }
     ensures err { IfErr result (λ fault. (command : Command) → Reads command
         → image_name command ≡ name.now → Refuses command (I.contents images.old)
         (Rose (I.faults images.old) (I.faults images.new)) fault) }
@@ -75,13 +77,8 @@ fn mapped_heap<I: ImageStore>(alloc: Global, name: &str, images: &mut I) -> Resu
     ensures calls { I.calls images.new ≡ with_get get_limit (I.calls images.old) }
 {
     let recovered = recover_image(alloc, name, images)?;
-    let _maps = read_maps(alloc, &recovered)?;
-    let Recovered {
-        heap,
-        was: _,
-        free: _,
-    } = recovered;
-    Ok(heap)
+    let mapped = MappedHeap::read(alloc, recovered.heap)?;
+    Ok(mapped)
 }
 
 // The requests of the trace that the source has left.

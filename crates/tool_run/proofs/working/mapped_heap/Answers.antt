@@ -1,11 +1,16 @@
+use Rattle.std.proofs.Common.{sym, subst}
+use Rattle.super_block.specs.Contents.{Contents}
+use Rattle.tool_run.specs.Recovering.{IsMapped}
 use Rattle.tool_run.proofs.DeliveryLemmas.{at_cause}
 use Rattle.tool_run.proofs.MapLemmas.{is_mapped, refuses_maps}
 use Rattle.tool_run.proofs.working.mapped_heap.Goals as goal
 
-pub returns-in_err-_maps-clause-err : goal.returns-in_err-_maps-clause-err
-returns-in_err-_maps-clause-err g c =
-    at_cause _ c.from_residual-in_err-_maps.result c.from_residual-in_err-_maps.ensures
-    (λ fault is command reads named. refuses_maps _ _ _ c.in_ok-recovered.ensures.ok c.read_maps.ensures.ready command _ _ fault is c.in_err-_maps.ensures.err reads named)
+pub returns-in_err-mapped-clause-err : goal.returns-in_err-mapped-clause-err
+returns-in_err-mapped-clause-err g c =
+    at_cause _ c.from_residual-in_err-mapped.result c.from_residual-in_err-mapped.ensures
+    (λ fault is command reads named. refuses_maps _ _ _ c.in_ok-recovered.ensures.ok c.read-mapped.ensures.ready command _ _ fault is c.in_err-mapped.ensures.err reads named)
 
 pub returns-clause-ok : goal.returns-clause-ok
-returns-clause-ok g c = is_mapped _ _ _ c.in_ok-recovered.ensures.ok c.read_maps.ensures.ready _ c.in_ok-_maps.ensures.ok
+returns-clause-ok g c =
+    subst (λ (heap : Contents). IsMapped (g.I.ImageStore.contents c.args.images.now) c.args.name.now heap.words heap.held) (sym c.in_ok-mapped.ensures.heap)
+    (is_mapped _ _ _ c.in_ok-recovered.ensures.ok c.read-mapped.ensures.ready c.in_ok-mapped.ensures.ok.maps c.in_ok-mapped.ensures.ok.are)
