@@ -1,49 +1,27 @@
 -- What recovery leaves of an image is a dictionary where each shard was read as a map; and why there is none.
-use Rattle.std.proofs.Common.{◌≡◌, ℕ, ◌*◌, ◌<◌, List, Some, length, slice_index, sym, subst, ◌∙◌, arith}
-use Rattle.std.proofs.lemmas.Grind.{same_number_lists}
-use Rattle.std.specs.BTreeMap.{BTreeMap, get}
-use Rattle.std.specs.Ordering.{nat_cmp}
+use Rattle.std.proofs.Common.{◌≡◌, ℕ, ◌*◌, List, Some, length, slice_index, subst}
 use Rattle.heap_model.specs.declared.block.Block.{Block}
-use Rattle.heap_model.specs.Geometry.{roots}
 use Rattle.heap_model.specs.Header.{HasGoodHeader, HasKindsBelow, first_kinds}
 use Rattle.heap_model.specs.Image.{Image}
 use Rattle.heap_model.specs.Reach.{IsReachedIn, IsOutsideIn}
 use Rattle.heap_model.specs.Recovered.{AreAscending}
 use Rattle.heap_model.specs.Recovery.{IsRecovered}
 use Rattle.heap_model.specs.Rest.{IsReady}
-use Rattle.heap_model.proofs.EmptyLemmas.{first_kind, length-first_kinds}
 use Rattle.heap_model.proofs.HeaderLemmas.{no_fault}
 use Rattle.region_header.specs.Migration.{current_words}
 use Rattle.heap_recover.specs.Fault.{TellsFault as TellsRecovery}
 use Rattle.heap_recover.specs.declared.fault.RecoverFault.{RecoverFault}
 use Rattle.heap_recover.specs.declared.fault.RecoverFault.TheVariants.{Header, Outside, Memory}
-use Rattle.dict_model.specs.Links.{shards, dict_links, kind_count, root_kind}
+use Rattle.dict_model.specs.Links.{shards, dict_links, kind_count}
 use Rattle.dictionary.specs.Reading.{AreMaps, RecoversTo, TellsLowest}
 use Rattle.dictionary.specs.declared.fault.MapFault.{MapFault}
 use Rattle.dictionary.specs.declared.fault.MapFault.TheVariants.{BadShard, Memory as NoMemory}
-use Rattle.dictionary.proofs.SameLemmas.{recovers_to, map_kept, bad_kept}
+use Rattle.dictionary.proofs.SameLemmas.{recovers_to, maps_of_image, lowest_of_image}
 use Rattle.worker_run.proofs.RecoveredLemmas.{recovered_dictionary}
 use Rattle.dictionary_heap.specs.Images.{current_image, CanBeRecovered}
 use Rattle.dictionary_heap.specs.Opened.{IsDictionaryOf}
 use Rattle.dictionary_heap.specs.Faults.{of_recovery, of_maps, TellsFault}
 use Rattle.dictionary_heap.specs.declared.recovering.RecoveredDictionary.{RecoveredDictionary}
-
-module _ (old new : Image) (to : RecoversTo old new) where
-  -- maps that were read of what recovery leaves are those of the image
-  maps_of_image : (maps : List (BTreeMap ℕ (List ℕ))) → AreMaps new shards maps → AreMaps old shards maps
-  maps_of_image maps are = record {
-    long = are.long;
-    each = λ i below. let m = are.each i below in (m.0, m.1, map_kept old new to i (get nat_cmp m.0) below m.2, m.3);
-  }
-
-  -- and so is the lowest shard that has none
-  lowest_of_image : (fault : MapFault) → TellsLowest new fault → TellsLowest old fault
-  lowest_of_image (BadShard shard at) tells = (
-    tells.0,
-    bad_kept old new to shard at tells.0 tells.1,
-    λ i less. let below : i < shards = omega (arith, less, tells.0) in let m = tells.2 i less in (m.0, map_kept old new to i m.0 below m.1),
-  )
-  lowest_of_image NoMemory tells = tt
 
 -- the dictionary that was recovered, with its maps
 found_in : (image : Image) (found : RecoveredDictionary) → IsReady found.heap.words found.heap.held
@@ -61,14 +39,7 @@ found_in image found ready ascending left none kinds are =
       maps_are = maps_of_image image new to found.maps.items are;
     }
 
--- the kinds of the dictionary's roots are those that `format` gives
-first_are : (kinds : List ℕ) → length kinds ≡ roots → ((i : ℕ) → slice_index kinds i ≡ root_kind i) → kinds ≡ first_kinds
-first_are kinds long are = same_number_lists kinds first_kinds (long ∙ sym length-first_kinds) (λ i below. are i ∙ sym (first_kind i))
-
-module _ (words kinds : List ℕ) (long : length kinds ≡ roots) (kinds_are : (i : ℕ) → slice_index kinds i ≡ root_kind i) where
-  first : kinds ≡ first_kinds
-  first = first_are kinds long kinds_are
-
+module _ (words kinds : List ℕ) (first : kinds ≡ first_kinds) where
   abbrev image : Image
   image = slice_index (current_words words kinds)
 
