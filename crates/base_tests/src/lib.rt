@@ -1,6 +1,6 @@
-//! Tests of the crates that all others stand on: tables and packed words, where things stand in an
-//! image, its header, what roots reach, and the memory of lines. The crate is nothing but these, so
-//! that each of those crates is proved once, and not again with its tests.
+//! Tests of the crates that all others stand on: tables, packed words and marks, where things stand
+//! in an image, its header, what roots reach, and the memory of lines. The crate is nothing but
+//! these, so that each of those crates is proved once, and not again with its tests.
 #![tactic(auto)]
 
 #[cfg(test)]
@@ -11,6 +11,8 @@ mod asserts;
 mod headers;
 #[cfg(test)]
 mod images;
+#[cfg(test)]
+mod marks;
 #[cfg(test)]
 mod migrations;
 #[cfg(test)]
