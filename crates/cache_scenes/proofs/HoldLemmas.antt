@@ -1,18 +1,21 @@
 -- What the seats of the tests are at first, and what each call leaves of what they hold.
-use Rattle.std.proofs.Common.{◌≡◌, ◌<◌, ◌≤◌, ℕ, zero, suc, List, [], ◌∷◌, ◌++◌, Contains, length, get_or, replicate, inl, inr, ap, sym, subst, ◌∙◌, arith}
+use Rattle.std.proofs.Common.{◌≡◌, ◌<◌, ◌%◌, ◌+◌, ℕ, zero, suc, List, [], ◌∷◌, ◌++◌, Contains, length, get_or, ap, sym, subst, ◌∙◌, arith}
 use Rattle.std.specs.List.{swap_remove}
 use Rattle.std.specs.List.Sorted.{IsPermutation}
-use Rattle.std.proofs.lemmas.List.Elements.{Contains-append_left, Contains-append_right}
+use Rattle.std.proofs.lemmas.List.Elements.{All-contains, Contains-append_left, Contains-append_right}
 use Rattle.std.proofs.lemmas.List.Sorted.{Contains-permutation, IsPermutation-swap_remove, IsPermutation-sym}
 use Rattle.heap_model.specs.declared.block.Block.{Block}
-use Rattle.heap_model.proofs.MemberLemmas.{in_head, in_none, in_rest, head_or_rest}
+use Rattle.heap_model.proofs.MemberLemmas.{in_head, in_rest}
 use Rattle.heap_seat.specs.View.{View}
 use Rattle.heap_seat.specs.Free.{MayHaveFreed}
 use Rattle.heap_rule.specs.Seated.{IsSeatOf, SeatView}
 use Rattle.heap_rule.specs.Seats.{AreSeatsOf}
 use Rattle.heap_table.specs.AtTable.{SharedView}
-use Rattle.cache_scenes.specs.Holding.{Holds, IsNoneOf}
-use Rattle.std.proofs.lemmas.List.{get_or-replicate, length-append}
+use Rattle.seat_view.specs.CacheState.{CacheState}
+use Rattle.thread_cache.specs.Keeps.{KeepsHeap}
+use Rattle.cache_scenes.specs.Holding.{AreRootsOf, HasRootsOf, HaveRoots, Holds, IsNoneOf, OwnsRoots}
+use Rattle.std.proofs.lemmas.List.{get_or_append_left, length-append}
+use Rattle.std.proofs.Math.Seq.{get_or-append_seam}
 use Rattle.heap_model.specs.Counting.{times}
 use Rattle.heap_model.specs.Geometry.{roots}
 use Rattle.heap_model.proofs.CountingLemmas.{times_some}
@@ -28,14 +31,6 @@ holds_less given left b i v w frees none less at is holds = record {
 } where
   moves : IsPermutation given (b ∷ left)
   moves = subst (λ l. IsPermutation given (b ∷ l)) (sym is) (IsPermutation-swap_remove given i b less at)
-
--- the owners of all are the first seat, of so many
-pub all_first : (owner n seats : ℕ) → 1 ≤ seats → Contains (replicate n 0) owner → owner < seats
-all_first owner zero seats some has = absurd (in_none owner has)
-all_first owner (suc n) seats some has = elim (head_or_rest 0 owner (replicate n 0) has) [
-  | inl same ↦ omega (arith, same, some)
-  | inr later ↦ all_first owner n seats some later
-]
 
 -- the last of all seats, and the last but one
 pub last_in : (all rest : List SeatView) (last : SeatView) → all ≡ rest ++ last ∷ [] → Contains all last
@@ -62,7 +57,26 @@ first_at all rest (x ∷ fewer) last other split again two =
     let longer = ap length again in
     absurd (omega (arith, two, long, outer, longer, inner))
 
--- the first seat has each root
-pub first_owns : (setup : Setup) (held : List Block) (block_owners root_owners : List ℕ) (v : CoreView) (root : ℕ) → v ≡ opened_view setup held block_owners root_owners 0 → root_owners ≡ replicate roots 0 → root < roots → Contains v.roots root
-first_owns setup held block_owners root_owners v root is owners inside = times_some root v.roots
-    (subst (λ (w : CoreView). 0 < times root w.roots) (sym is) ((owns_root 0 roots root_owners root).1 (inside, ap (λ l. get_or l root 1) owners ∙ get_or-replicate roots root 0 1 inside)))
+-- a seat of an opened heap has the roots that are its own
+pub has_roots : (setup : Setup) (held : List Block) (block_owners root_owners : List ℕ) (i : ℕ) (v : CoreView) (root : ℕ) → v ≡ opened_view setup held block_owners root_owners i → root < roots → get_or root_owners root (i + 1) ≡ i → Contains v.roots root
+has_roots setup held block_owners root_owners i v root is inside owner = times_some root v.roots
+    (subst (λ (w : CoreView). 0 < times root w.roots) (sym is) ((owns_root i roots root_owners root).1 (inside, owner)))
+
+-- of the seats but the last, and of the last
+module _ (count : ℕ) (all rest : List SeatView) (last : SeatView) (split : all ≡ rest ++ last ∷ []) (have : HaveRoots count all) where
+  long : length all ≡ length rest + 1
+  long = ap length split ∙ length-append rest (last ∷ [])
+
+  pub rest_roots : HaveRoots count rest
+  rest_roots = λ i seat less at. have i seat (let l = long in omega (arith, l, less)) (ap (λ l. get_or l i seat) split ∙ get_or_append_left rest (last ∷ []) seat i less ∙ at)
+
+  pub last_roots : HasRootsOf (length rest) count last
+  last_roots = have (length rest) last (let l = long in omega (arith, l)) (ap (λ l. get_or l (length rest) last) split ∙ get_or-append_seam rest last [] last)
+
+-- roots of a seat are its own
+pub owns : (number count : ℕ) (owned : List ℕ) (seat : SeatView) → AreRootsOf number count owned → HasRootsOf number count seat → OwnsRoots owned seat.view.roots
+owns number count owned seat are has = record { each = λ root in_owned. let r = All-contains (λ root. (root < roots) × (root % count ≡ number)) owned root are in_owned in has root r.0 r.1 }
+
+-- so are they behind each call
+pub still_owns : (owned : List ℕ) (s t : CacheState) → KeepsHeap s t → OwnsRoots owned s.view.roots → OwnsRoots owned t.view.roots
+still_owns owned s t kept own = subst (OwnsRoots owned) (sym kept.1.roots) own

@@ -1,6 +1,7 @@
 -- What the seats of the tests are at first, and what they hold.
-use Rattle.std.specs.Prelude.{◌≡◌, ◌≢◌, None, List, Contains}
+use Rattle.std.specs.Prelude.{◌≡◌, ◌≢◌, ◌<◌, ◌≤◌, ◌%◌, ℕ, All, None, List, Contains, get_or, length}
 use Rattle.heap_model.specs.declared.block.Block.{Block}
+use Rattle.heap_model.specs.Geometry.{roots}
 use Rattle.core_model.specs.View.{View}
 use Rattle.heap_table.specs.AtTable.{SharedView}
 use Rattle.heap_rule.specs.Seated.{IsSeatOf, SeatView}
@@ -22,3 +23,23 @@ pub record Holds (held given : List Block) : Type 0 where
 -- the block is none of these
 abbrev pub IsNoneOf : Block → List Block → Type 0
 IsNoneOf b given = (a : Block) → Contains given a → a ≢ b
+
+-- of so many seats, this one has the roots that are its own in turn
+abbrev pub HasRootsOf : ℕ → ℕ → SeatView → Type 0
+HasRootsOf number count seat = (root : ℕ) → root < roots → root % count ≡ number → Contains seat.view.roots root
+
+abbrev pub HaveRoots : ℕ → List SeatView → Type 0
+HaveRoots count seats = (i : ℕ) (seat : SeatView) → i < length seats → get_or seats i seat ≡ seat → HasRootsOf i count seat
+
+-- these are roots of that seat
+abbrev pub AreRootsOf : ℕ → ℕ → List ℕ → Type 0
+AreRootsOf number count owned = All (λ root. (root < roots) × (root % count ≡ number)) owned
+
+-- each of these roots is among those of the seat
+pub record OwnsRoots (owned all : List ℕ) : Type 0 where
+  pub each : (root : ℕ) → Contains owned root → Contains all root
+
+-- what a thread begins with: a seat of this heap that was opened just now, and roots of its own
+pub record IsJobOf (shared : SharedView) (owned : List ℕ) (seat : SeatView) : Type 0 where
+  pub fresh : IsFreshSeatOf shared seat
+  pub owns : OwnsRoots owned seat.view.roots

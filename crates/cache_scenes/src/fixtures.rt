@@ -1,8 +1,9 @@
-//! Heaps over recovered images, each shared by two seats.
+//! Heaps over recovered images, shared by seats.
 
-ghost use Rattle.std.specs.Prelude.{◌≡◌, ◌<◌, ◌≤◌, IfOk, Contains};
+ghost use Rattle.std.specs.Prelude.{◌≡◌, ◌<◌, ◌≤◌, ◌%◌, ℕ, All, IfOk, Contains, get_or, length};
+ghost use Rattle.core_model.specs.Opening.{AreOwners};
 ghost use Rattle.heap_rule.specs.Seated.{IsSeatOf};
-ghost use Rattle.cache_scenes.specs.Holding.{IsFresh};
+ghost use Rattle.cache_scenes.specs.Holding.{HasRootsOf, HaveRoots, IsFresh, IsFreshSeatOf};
 
 use dictionary::{DictFilter, root_kinds};
 use heap_recover::{RecoverFault, Recovered, recover};
@@ -24,14 +25,66 @@ pub fn recovery(alloc: Global, image: &[u64]) -> Result<Recovered, RecoverFault>
     recover(alloc, image, &root_kinds(), &DictFilter)
 }
 
-/// What recovery makes of an empty image of so many superblocks.
+/// What recovery makes of an empty image of so many superblocks with these changes.
 #[tactic(auto, unfolding(heap_model::specs::Geometry::largest_capacity))]
-pub fn recovered(alloc: Global, capacity: u64) -> Result<Ready, Fail>
+pub fn recovered(alloc: Global, capacity: u64, words: &str) -> Result<Ready, Fail>
     requires some { 1 ≤ capacity }
     requires small { capacity ≤ 32 }
 {
-    let image = image_of(alloc, capacity, "")?;
+    let image = image_of(alloc, capacity, words)?;
     Ok(recovery(alloc, &image)?.heap)
+}
+
+/// So many numbers of seats, in turn.
+fn in_turn(alloc: Global, count: usize, seats: usize) -> Result<Vec<u32>, AllocError>
+    requires some { 1 ≤ seats }
+    requires few { seats ≤ 8 }
+    ensures count { IfOk result (λ owners. length owners.items ≡ count) }
+    ensures below { IfOk result (λ owners. (owner : ℕ) → Contains owners.items owner
+        → owner < seats) }
+    ensures each { IfOk result (λ owners. (i d : ℕ) → i < count
+        → get_or owners.items i d ≡ i % seats) }
+{
+    let mut owners = Vec::new(alloc);
+    for i in 0..count {
+        owners.push((i % seats) as u32)?;
+    }
+    Ok(owners)
+}
+
+/// Whose the held blocks of a heap and the roots are: the seats' in turn.
+pub fn owners_in_turn(alloc: Global, heap: &Ready, seats: usize) -> Result<Owners, AllocError>
+    requires some { 1 ≤ seats }
+    requires few { seats ≤ 8 }
+    ensures owners { IfOk result (λ owners.
+        AreOwners heap.now.held seats owners.held owners.roots) }
+    ensures each { IfOk result (λ owners. (root d : ℕ) → root < 1024
+        → get_or owners.roots root d ≡ root % seats) }
+{
+    let held = in_turn(alloc, heap.held().len(), seats)?;
+    let roots = in_turn(alloc, ROOTS as usize, seats)?;
+    Ok(Owners::new(held, roots))
+}
+
+/// The heap, shared by so many seats, each of which has the roots that are its own in turn.
+pub fn open(
+    alloc: Global,
+    heap: Ready,
+    seats: usize,
+    budget: u64,
+) -> Result<(Shared, Vec<Seat>), AllocError>
+    requires some { 1 ≤ seats }
+    requires few { seats ≤ 8 }
+    requires budget { budget < 1099511627776 }
+    ensures seats { IfOk result (λ r. All (IsFreshSeatOf r.0) r.1.items) }
+    ensures roots { IfOk result (λ r. HaveRoots seats r.1.items) }
+    ensures count { IfOk result (λ r. length r.1.items ≡ r.0.opening.seats) }
+    ensures opened { IfOk result (λ r. r.0.opening.seats ≡ seats) }
+{
+    let owners = owners_in_turn(alloc, &heap, seats)?;
+    let opened = open_shared(alloc, heap, &owners, seats, budget)?;
+    an_opened_seat_is_idle();
+    Ok(opened)
 }
 
 /// An empty heap of so many superblocks, and its two seats.
@@ -43,14 +96,11 @@ pub fn pair(alloc: Global, capacity: u64, budget: u64) -> Result<(Shared, Seat, 
     ensures first { IfOk result (λ r. IsSeatOf r.0 r.1) }
     ensures second { IfOk result (λ r. IsSeatOf r.0 r.2) }
     ensures first_fresh { IfOk result (λ r. IsFresh r.1.view) }
-    ensures first_roots { IfOk result (λ r. Contains r.1.view.roots 8) }
+    ensures first_roots { IfOk result (λ r. HasRootsOf 0 2 r.1) }
     ensures second_fresh { IfOk result (λ r. IsFresh r.2.view) }
 {
-    let heap = recovered(alloc, capacity)?;
-    let held = vec![in alloc; 0; heap.held().len()]?;
-    let roots = vec![in alloc; 0; ROOTS as usize]?;
-    let (shared, mut seats) = open_shared(alloc, heap, &Owners::new(held, roots), 2, budget)?;
-    an_opened_seat_is_idle();
+    let heap = recovered(alloc, capacity, "")?;
+    let (shared, mut seats) = open(alloc, heap, 2, budget)?;
     let Some(second) = seats.pop() else {
         unreachable!();
     };

@@ -15,11 +15,15 @@ pub enum Halt {
     Refused(AllocFault),
     /// It has stopped.
     Stopped(Stopped),
-    /// It has no such block.
+    /// It has no such block, or root.
     NoBlock,
+    /// There was room, or another want of it than told.
+    Room,
+    /// It is told something of no such name, or no number.
+    NoSuchAct,
     /// It was given a block twice.
     Twice,
-    /// A word of its block has another value than it stored there.
+    /// A word of its own has another value than it stored there.
     Overwritten,
     /// Memory ran out.
     NoMemory,

@@ -3,22 +3,34 @@
 #![tactic(auto)]
 
 #[cfg(test)]
+mod beside_core;
+#[cfg(test)]
 mod classes;
 #[cfg(test)]
 mod dice;
 #[cfg(test)]
 mod fixtures;
 #[cfg(test)]
+mod flushing;
+#[cfg(test)]
 mod holders;
+#[cfg(test)]
+mod meeting;
 #[cfg(test)]
 mod neighbours;
 #[cfg(test)]
+mod order;
+#[cfg(test)]
 mod publishing;
+#[cfg(test)]
+mod rooted;
 #[cfg(test)]
 mod scripts;
 #[cfg(test)]
 mod stopping;
 #[cfg(test)]
 mod threading;
+#[cfg(test)]
+mod together;
 #[cfg(test)]
 mod walking;

@@ -15,7 +15,7 @@ fn scene(alloc: Global, capacity: u64, lines: &str) -> Result<(), Fail>
     let (shared, first, second) = pair(alloc, capacity, MANY)?;
     let mut a = holder_of(alloc, &shared, first, 1);
     let mut b = holder_of(alloc, &shared, second, 0);
-    play(&mut a, &mut b, lines)
+    Ok(play(&mut a, &mut b, lines)?)
 }
 
 /// One seat fills both superblocks, with four blocks in each. What it frees of a whole superblock

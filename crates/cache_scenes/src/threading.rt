@@ -1,52 +1,35 @@
-//! Threads that share a heap, each with a seat that allocates by caches.
+//! Threads with random acts, each on a seat of its own of one heap.
 
-ghost use Rattle.std.specs.Prelude.{◌≡◌, ◌≤◌, All, Contains, IfOk, OnOk, length};
-ghost use Rattle.heap_rule.specs.Seated.{IsSeatOf};
+ghost use Rattle.std.specs.Prelude.{◌≡◌, ◌≤◌, Contains, OnOk};
 ghost use Rattle.seat_view.specs.CacheState.{heap_view};
 ghost use Rattle.thread_cache.specs.Keeps.{KeepsHeap};
-ghost use Rattle.cache_scenes.specs.Holding.{Holds, IsFreshSeatOf};
+ghost use Rattle.cache_scenes.specs.Holding.{Holds, OwnsRoots};
 
 use crate::dice::Dice;
-use crate::fixtures::{MANY, recovered, recovery};
+use crate::fixtures::{MANY, open, recovered};
 use crate::holders::{Halt, give_back, take};
-use crate::walking::is_apart;
-use heap_rule::{Seat, Shared, close_shared, open_shared};
+use crate::rooted::{held_in, put};
+use crate::together::{Left, Plan, work_together};
+use crate::walking::are_all_apart;
+use dictionary::{DictFilter, root_kinds};
+use heap_recover::RecoverFault;
 use heap_seat::{HeapSeat, Spot};
-use line_memory::{Closed, ConstantChance};
-use seat_notes::Owners;
-use seat_rows::an_opened_seat_is_idle;
-use std::alloc::{AllocError, Global};
+use line_memory::ConstantChance;
+use quick_recover::{Path, Quick, quick_open};
+use std::alloc::Global;
 use std::test::Fail;
-use std::thread;
 use std::thread::Threads;
-use super_block::{Block, ROOTS};
+use super_block::{Block, CLEAN, STATE_WORD};
 use thread_cache::CacheSeat;
 
 /// How many times a thread frees a block, asks for one, or empties its caches.
 const TURNS: u64 = 2_000;
 
-/// The most blocks that a thread holds.
+/// The most blocks that a thread holds: it has as many roots.
 const MOST: u64 = 8;
 
 /// How many superblocks the heap has: fewer than the threads could fill.
 const CAPACITY: u64 = 6;
-
-/// What a thread begins with.
-#[derive(Drop)]
-struct Job {
-    seat: Seat,
-    alloc: Global,
-    /// Its number: its blocks are marked by it, and its random choices follow from it.
-    number: u64,
-}
-
-/// What it ends with: its seat, and the blocks that it holds.
-#[derive(Drop)]
-struct Worked {
-    seat: Seat,
-    given: Vec<Block>,
-    told: Result<(), Halt>,
-}
 
 /// Stores the thread's number to the first word of its block.
 fn mark<H: HeapSeat>(seat: &mut H, b: Block, number: u64) -> Result<(), Halt>
@@ -133,120 +116,88 @@ fn take_turns(
     Ok(())
 }
 
-/// The work of one thread.
-fn work(job: Job, shared: &Shared) -> Worked
-    requires { IsFreshSeatOf shared.now job.seat }
-    ensures { IsSeatOf shared.now result.seat }
+/// Lets a root lead to each block of the thread.
+#[tactic(auto, using(crate::proofs::HoldLemmas::still_owns))]
+fn publish(
+    seat: &mut CacheSeat<'_, ConstantChance>,
+    given: &[Block],
+    owned: &[u64],
+) -> Result<(), Halt>
+    requires { OwnsRoots owned.now seat.old.view.roots }
+    ensures { KeepsHeap seat.old seat.new }
 {
-    let Job {
-        seat,
-        alloc,
-        number,
-    } = job;
-    let mut given = Vec::new(alloc);
-    let mut seat = CacheSeat::new(shared, seat, ConstantChance(number));
-    let told = take_turns(&mut seat, &mut given, number);
-    Worked {
-        seat: seat.into_seat(),
-        given,
-        told,
+    for (index, b) in given.iter().enumerate() {
+        put(seat, owned, index as u64, Some(b))?;
     }
+    Ok(())
 }
 
-/// An empty heap that is open for so many seats.
-fn open(alloc: Global, seats: usize) -> Result<(Shared, Vec<Seat>), Fail>
-    requires some { 1 ≤ seats }
-    requires few { seats ≤ 8 }
-    ensures seats { IfOk result (λ r. All (IsFreshSeatOf r.0) r.1.items) }
-    ensures count { IfOk result (λ r. length r.1.items ≡ r.0.opening.seats) }
+/// So many turns. Then all blocks that the thread has are published, and no other is kept back.
+#[tactic(auto, using(crate::proofs::HoldLemmas::still_owns))]
+pub fn act_and_publish(
+    seat: &mut CacheSeat<'_, ConstantChance>,
+    given: &mut Vec<Block>,
+    owned: &[u64],
+    number: u64,
+) -> Result<(), Halt>
+    requires holds { Holds (heap_view seat.old).held given.old.items }
+    requires owns { OwnsRoots owned.now seat.old.view.roots }
+    ensures { KeepsHeap seat.old seat.new }
 {
-    let heap = recovered(alloc, CAPACITY)?;
-    let held = vec![in alloc; 0; heap.held().len()]?;
-    let roots = vec![in alloc; 0; ROOTS as usize]?;
-    let opened = open_shared(alloc, heap, &Owners::new(held, roots), seats, MANY)?;
-    an_opened_seat_is_idle();
-    Ok(opened)
+    take_turns(seat, given, number)?;
+    publish(seat, given, owned)?;
+    Ok(seat.quiet()?)
 }
 
-/// A job for each seat.
-fn deal(alloc: Global, shared: &Shared, mut seats: Vec<Seat>) -> Result<Vec<Job>, AllocError>
-    requires { All (IsFreshSeatOf shared.now) seats.items }
-    ensures jobs { IfOk result (λ jobs. All (λ job. IsFreshSeatOf shared.now job.seat) jobs.items) }
-    ensures count { IfOk result (λ jobs. length jobs.items ≡ length seats.items) }
-{
-    let _seats = shared;
-    let mut jobs = Vec::new(alloc);
-    while let Some(seat) = seats.pop() {
-        let number = seats.len() as u64;
-        jobs.push(Job {
-            seat,
-            alloc,
-            number,
-        })?;
-    }
-    Ok(jobs)
-}
-
-/// The seats, and the blocks that the threads hold, which are apart.
-fn gather(
-    alloc: Global,
-    shared: &Shared,
-    mut worked: Vec<Worked>,
-) -> Result<(Vec<Seat>, Vec<Block>), Fail>
-    requires { All (λ one. IsSeatOf shared.now one.seat) worked.items }
-    ensures seats { IfOk result (λ r. All (IsSeatOf shared.now) r.0.items) }
-    ensures count { IfOk result (λ r. length r.0.items ≡ length worked.items) }
-{
-    let _seats = shared;
-    let mut seats = Vec::new(alloc);
-    let mut held = Vec::new(alloc);
-    while let Some(one) = worked.pop() {
-        let Worked { seat, given, told } = one;
-        told?;
-        for b in &given {
-            if !is_apart(*b, &held) {
-                return Err("two threads hold one word".into());
-            }
-            held.push(*b)?;
-        }
-        seats.push(seat)?;
-    }
-    Ok((seats, held))
-}
-
-/// What is left of a heap on which so many threads have worked.
-fn work_together<R: Threads + Sync>(rt: &R, alloc: Global, threads: usize) -> Result<Closed, Fail>
+/// What so many threads leave of an empty heap.
+fn worked<R: Threads + Sync>(rt: &R, alloc: Global, threads: usize) -> Result<Left, Fail>
     requires some { 1 ≤ threads }
     requires few { threads ≤ 8 }
 {
-    let (shared, seats) = open(alloc, threads)?;
-    let jobs = deal(alloc, &shared, seats)?;
-    let worked = thread::map_vec(
-        rt,
-        jobs,
-        &|job: Job| -> Worked
-            requires { IsFreshSeatOf shared job.seat }
-            ensures { IsSeatOf shared result.seat }
-        { work(job, &shared) },
-    )?;
-    let (seats, _held) = gather(alloc, &shared, worked)?;
-    Ok(close_shared(alloc, shared, seats)?)
+    let heap = recovered(alloc, CAPACITY, "")?;
+    let (shared, seats) = open(alloc, heap, threads, MANY)?;
+    Ok(work_together(rt, alloc, shared, seats, Plan::Act)?)
 }
 
-/// Recovery finds nothing that is held: no root leads to a block.
-fn must_recover(alloc: Global, image: &[u64]) -> Result<(), Fail> {
-    if !recovery(alloc, image)?.heap.held().is_empty() {
-        return Err("a block is held that no root leads to".into());
+/// Recovery of an image holds exactly these blocks.
+fn must_recover(alloc: Global, image: &[u64], blocks: &[Block]) -> Result<(), Fail> {
+    let held = held_in(alloc, image)?;
+    if !held.iter().eq(blocks.iter().map(|b| &b.first_word)) {
+        return Err("other blocks are held than the threads have".into());
+    }
+    Ok(())
+}
+
+/// What an image tells, without what is ensured of that.
+fn opened(alloc: Global, image: &[u64]) -> Result<Quick, RecoverFault> {
+    quick_open(alloc, image, &root_kinds(), &DictFilter)
+}
+
+/// Once they are closed, the words tell by their own lists and anchors that exactly these blocks are
+/// held.
+fn must_tell(alloc: Global, words: &[u64], blocks: &[Block]) -> Result<(), Fail> {
+    let mut closed = Vec::from_slice(alloc, words)?;
+    if let Some(state) = closed.get_mut(STATE_WORD as usize) {
+        *state = CLEAN;
+    }
+    let found = opened(alloc, &closed)?;
+    if !matches!(found.path, Path::Quick) || found.recovered.heap.held() != blocks {
+        return Err("lists and anchors tell something else".into());
     }
     Ok(())
 }
 
 #[test]
-fn threads_share_no_block(rt: HostRuntime) -> Result<(), Fail> {
+fn recovery_holds_what_threads_have(rt: HostRuntime) -> Result<(), Fail> {
     for threads in [1, 2, 4, 8] {
-        let left = work_together(&rt, rt.alloc(), threads)?;
-        must_recover(rt.alloc(), &left.now)?;
-        must_recover(rt.alloc(), &left.kept)?;
+        let left = worked(&rt, rt.alloc(), threads)?;
+        left.told?;
+        if !are_all_apart(&left.given) {
+            return Err("two threads hold one word".into());
+        }
+        must_tell(rt.alloc(), &left.closed.now, &left.given)?;
+        must_recover(rt.alloc(), &left.closed.now, &left.given)?;
+        must_recover(rt.alloc(), &left.closed.kept, &left.given)?;
     }
     Ok(())
 }

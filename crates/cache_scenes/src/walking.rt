@@ -37,6 +37,16 @@ pub fn is_apart(b: Block, others: &[Block]) -> bool {
     true
 }
 
+/// Whether no two of the blocks have a word in common.
+pub fn are_all_apart(blocks: &[Block]) -> bool {
+    for (index, b) in blocks.iter().enumerate() {
+        if !is_apart(*b, blocks.get(..index).unwrap_or(&[])) {
+            return false;
+        }
+    }
+    true
+}
+
 /// Whether the last block is apart from the other ones, and from those of the other seat.
 fn last_is_apart(given: &[Block], others: &[Block]) -> bool {
     match given.split_last() {
@@ -143,7 +153,7 @@ fn walk_and_end(alloc: Global, seed: u64) -> Result<(), Fail> {
     walk(&mut a, &mut b, &mut Dice::new(seed))?;
     end(&mut a)?;
     end(&mut b)?;
-    play(&mut a, &mut b, AFTER)
+    Ok(play(&mut a, &mut b, AFTER)?)
 }
 
 #[test]

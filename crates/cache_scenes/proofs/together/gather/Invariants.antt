@@ -1,6 +1,6 @@
 use Rattle.std.proofs.Common.{◌≡◌, ◌+◌, length, All}
 use Rattle.heap_rule.specs.Seated.{IsSeatOf}
-use Rattle.cache_scenes.proofs.threading.gather.Given as goal
+use Rattle.cache_scenes.proofs.together.gather.Given as goal
 
 abbrev pub invariant-loop-one : goal.invariant-loop-one
 invariant-loop-one l = record {

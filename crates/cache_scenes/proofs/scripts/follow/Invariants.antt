@@ -1,0 +1,10 @@
+use Rattle.seat_view.specs.CacheState.{heap_view}
+use Rattle.thread_cache.specs.Keeps.{KeepsHeap}
+use Rattle.cache_scenes.specs.Holding.{Holds}
+use Rattle.cache_scenes.proofs.scripts.follow.Given as goal
+
+abbrev pub invariant-loop-told : goal.invariant-loop-told
+invariant-loop-told g l = record {
+  holds : Holds (heap_view l.seat).held l.given.items;
+  kept : KeepsHeap l.fn.seat l.seat;
+}

@@ -1,0 +1,21 @@
+use Rattle.std.proofs.Common.{◌≡◌, ◌∷◌, [], length, length-append, Some, ap, subst, ◌∙◌, arith}
+use Rattle.std.proofs.lemmas.List.Elements.{All-pop, All-push, All-same}
+use Rattle.cache_scenes.specs.Holding.{AreRootsOf, IsFreshSeatOf, IsJobOf}
+use Rattle.cache_scenes.proofs.HoldLemmas.{last_roots, owns, rest_roots}
+use Rattle.cache_scenes.proofs.together.deal.Goals as goal
+
+pub loop-seat-preserved : goal.loop-seat-preserved
+loop-seat-preserved c =
+    let all = c.loop-seat.seats.items in let rest = c.pop.new.self.items in let seat = c.in-Some.seat in let split = c.in-Some.ensures.items in
+    let count = length c.args.seats.items in
+    let popped = All-pop (IsFreshSeatOf c.args.shared.now) all rest (Some seat) split c.loop-seat.invariant.seats in
+    let number : c.len-number.result ≡ length rest = omega arith in
+    let roots = subst (λ n. AreRootsOf n count c.in_ok-roots.roots.items) number c.in_ok-roots.ensures in
+    let job = record { fresh = popped.1; owns = owns (length rest) count c.in_ok-roots.roots.items seat roots (last_roots count all rest seat split c.loop-seat.invariant.roots) } in record {
+      seats = popped.0;
+      roots = rest_roots count all rest seat split c.loop-seat.invariant.roots;
+      jobs = All-same (λ job. IsJobOf c.args.shared.now job.roots.items job.seat) c.push.new.self.items _ c.in_ok-push.ensures.items
+          (All-push (λ job. IsJobOf c.args.shared.now job.roots.items job.seat) c.loop-seat.jobs.items _ c.loop-seat.invariant.jobs job);
+      count = (let count = c.loop-seat.invariant.count in let more = ap length c.in_ok-push.ensures.items ∙ length-append c.loop-seat.jobs.items _ in
+          let fewer = ap length split ∙ length-append rest (seat ∷ []) in omega arith);
+    }
