@@ -1,3 +1,0 @@
-pub mod SeatListLemmas
-pub mod SceneLemmas
-pub mod HoldLemmas
