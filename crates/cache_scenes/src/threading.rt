@@ -117,7 +117,6 @@ fn take_turns(
 }
 
 /// Lets a root lead to each block of the thread.
-#[tactic(auto, using(crate::proofs::HoldLemmas::still_owns))]
 fn publish(
     seat: &mut CacheSeat<'_, ConstantChance>,
     given: &[Block],
