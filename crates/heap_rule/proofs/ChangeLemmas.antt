@@ -40,9 +40,6 @@ use Rattle.heap_rule.proofs.ViewLemmas.{below_capacity, block_cut, block_once}
 as_is : (o o' : Owned) (p : OwnedParts) → o' ≡ o → HasOwned o p → HasOwned o' p
 as_is o o' p same own = subst (λ x. HasOwned x p) (sym same) own
 
-pub none_change : (v : View) → FitsChange change.Nothing v None
-none_change v o own = (tt, λ s found o' same. subst (λ x. HasOwned x (parts_of v)) (sym same) own)
-
 pub alloc_change : (v : View) (class : ℕ) → MayAlloc v class → FitsChange (change.Allocated class) v (Some (Alloc class))
 alloc_change v class may o own = (
   (has_stack o.stacks.items v.caches class own.stacks may.is_class).below,
@@ -143,6 +140,10 @@ split_change v has block d n may d_is n_is o own = (
 ) where
   some : 1 ≤ n
   some = let h = subst (λ e. 1 ≤ span_count e v.large) (sym d_is) may.held in omega (arith, h, n_is)
+
+-- after a draw with no shift
+pub alone_owned : (o : Owned) (v w : View) (found : ℕ) (event : IsEvent (Tick None) v found w) → HasOwned o (parts_of v) → found < v.setup.budget → HasOwned o (parts_of w)
+alone_owned o v w found event own less = quiet o v w (ap parts_of (drawn v w None found event less)) own
 
 -- after a draw with the shift, and one that stops
 module _ (o : Owned) (v w : View) (shift : Option Shift) (found : ℕ) (event : IsEvent (Tick shift) v found w) (own : HasOwned o (parts_of v)) where

@@ -17,6 +17,14 @@ goes_on : (m : Memory) (v : View) (shift : Option Shift) (found : ℕ) → (shif
 goes_on m v None found = refl
 goes_on m v (Some shift) found = going_on m v shift found
 
+-- with no shift, all else that is kept stays
+pub alone_fits : (notes : SeatNotes) (v : View) → IsKeptOf notes v → FitsShift notes v None
+alone_fits notes v kept = λ s found. record {
+  notes_are = record { ticket = refl; stopped = kept.notes_are.stopped; seen_used = kept.notes_are.seen_used; seen_head = kept.notes_are.seen_head; seen_link = kept.notes_are.seen_link; seen_anchor = kept.notes_are.seen_anchor };
+  caches = kept.caches;
+  batch = kept.batch;
+}
+
 module _ (v w : View) (shift : Option Shift) (found : ℕ) (event : IsEvent (Tick shift) v found w) where
   pub drawn : found < v.setup.budget → w ≡ shifted (memory_of v.setup.capacity event.before.words) (drew v found) shift
   drawn less = event.after ∙ pick (nat_lt found v.setup.budget) (shifted (memory_of v.setup.capacity event.before.words) (drew v found) shift) (stopped v found) (lt-ltb found v.setup.budget less)

@@ -1,5 +1,5 @@
 -- A change of what a seat keeps to tell its own words, which goes with a shift.
-use Rattle.std.specs.Prelude.{◌≡◌, ℕ, ◌+◌, ◌<◌, ◌≤◌, true, List, [], ◌∷◌, ◌++◌, set, length, Option, ⊤}
+use Rattle.std.specs.Prelude.{◌≡◌, ℕ, ◌+◌, ◌<◌, ◌≤◌, true, List, [], ◌∷◌, ◌++◌, set, length, Option}
 use Rattle.std.specs.Vec.{vec_capacity}
 use Rattle.heap_model.specs.Counting.{times}
 use Rattle.core_model.specs.declared.event.Shift.{Shift}
@@ -25,7 +25,6 @@ pub record CanCutIn (o : Owned) (capacity d class : ℕ) : Type 0 where
   pub fits : length o.blocks < 2147483648
 
 abbrev pub CanChange : Change → ℕ → Owned → Type 0
-CanChange change.Nothing capacity o = ⊤
 CanChange (change.Allocated class) capacity o = class < length o.stacks.items
 CanChange (change.Freed class block) capacity o = HasStack o.stacks.items class
 CanChange (change.Lifted class block) capacity o = (class < length o.stacks.items) × (length o.batch.items < vec_capacity o.batch)
@@ -62,7 +61,6 @@ pub record IsSplitIn (o o' : Owned) (d n : ℕ) : Type 0 where
   pub owning : HaveOwnership o.ownerships.items o'.ownerships.items d n ownership.Unclassed
 
 abbrev pub IsChanged : Change → ℕ → Owned → Owned → Type 0
-IsChanged change.Nothing capacity o o' = o' ≡ o
 IsChanged (change.Allocated class) capacity o o' = IsRecached o o' class rest_of
 IsChanged (change.Freed class block) capacity o o' = IsRecached o o' class (λ cache. block ∷ cache)
 IsChanged (change.Lifted class block) capacity o o' = IsLifted o o' class block

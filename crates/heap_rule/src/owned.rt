@@ -113,8 +113,6 @@ impl Ownership {
 /// A change of what is the seat's, which goes with a shift.
 #[derive(Clone, Copy)]
 pub enum Change {
-    /// The seat's words and blocks stay.
-    Nothing,
     /// The first block of a cache is held.
     Allocated { class: u64 },
     /// A held block came in front of the cache of its class.
@@ -136,7 +134,6 @@ impl Owned {
         ensures { IsChanged change geometry.capacity self.old self.new }
     {
         match change {
-            Change::Nothing => {}
             Change::Allocated { class } => self.uncache(class),
             Change::Freed { class, block } => self.cache(class, block),
             Change::Lifted { class, block } => {

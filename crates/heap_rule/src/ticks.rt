@@ -46,8 +46,15 @@ impl Seat {
         ensures seat { IsSeatOf shared.now self.new }
         ensures stores { KeepsStores self.old self.new }
     {
-        let notes = self.notes;
-        self.draw_as(shared, None, notes, Change::Nothing)
+        let place = 2 * self.geometry.length();
+        let ticket = draw(shared, &mut self.bare, place, Event::Tick { shift: None });
+        if ticket >= self.budget {
+            self.notes.ticket = None;
+            self.notes.stopped = Some(ticket);
+            return Err(Stopped { step: ticket });
+        }
+        self.notes.ticket = Some(ticket);
+        Ok(())
     }
 
     /// Draws a ticket, with a change.
