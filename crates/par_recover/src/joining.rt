@@ -12,7 +12,7 @@ use crate::bounds::bounds;
 use crate::ends::ends;
 use crate::pieces::survey_pieces;
 use filter_trace::Marks;
-use heap_recover::{Found, Survey, TakenPass, rebuild_superblock};
+use heap_recover::{Found, InOrder, Survey, TakenPass, rebuild_superblock};
 use rayon::current_num_threads;
 use std::alloc::{AllocError, Global};
 use std::thread::Threads;
@@ -40,7 +40,7 @@ impl<'rt, R: Threads + Sync> TakenPass for InPieces<'rt, R> {
 }
 
 /// Rebuilds the superblocks that have been taken. What a piece was before is read before a word of
-/// any is written.
+/// any is written. One thread does it superblock by superblock, which needs no room for pieces.
 fn rebuild_in_pieces<R: Threads + Sync>(
     rt: &R,
     alloc: Global,
@@ -57,6 +57,9 @@ fn rebuild_in_pieces<R: Threads + Sync>(
         (IsMarked source.pairs) used found.held.items found.roles.items) }
 {
     let threads = current_num_threads(rt) as u64;
+    if threads == 1 {
+        return InOrder.rebuild_taken(alloc, words, geometry, used, marks);
+    }
     let bounds = bounds(alloc, words, geometry, used, threads)?;
     let ends = ends(alloc, words, geometry, used, marks)?;
     let pieces = survey_pieces(rt, alloc, words, geometry, used, marks, &bounds, &ends)?;
