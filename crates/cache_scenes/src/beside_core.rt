@@ -209,6 +209,15 @@ fn core_behind(
     Ok(core)
 }
 
+/// Where the words of a heap of so many superblocks stand.
+#[tactic(auto, unfolding(heap_model::specs::Geometry::largest_capacity))]
+fn geometry_of(capacity: u64) -> Geometry
+    requires some { 1 ≤ capacity }
+    requires small { capacity ≤ 32 }
+{
+    Geometry::new(capacity)
+}
+
 /// Stores to the word, if the image has it.
 fn put(image: &mut [u64], word: u64, value: u64) {
     if let Some(place) = image.get_mut(word as usize) {
@@ -256,7 +265,7 @@ fn must_agree<R: Threads + Sync + Abort + AllocGlobal>(
     must_hold(rt, core.tickets() == drawn, "the tickets");
     must_hold(rt, shows(&core, &left.closed.now), "what loads see");
     let image = core.image(rt.alloc(), &mut ConstantChance(0))?;
-    let wanted = crashed(rt.alloc(), &left.closed.kept, Geometry::new(capacity))?;
+    let wanted = crashed(rt.alloc(), &left.closed.kept, geometry_of(capacity))?;
     must_hold(
         rt,
         image.as_slice() == wanted.as_slice(),
