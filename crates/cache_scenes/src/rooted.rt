@@ -1,8 +1,7 @@
 //! Roots that lead to blocks, and what recovery makes of an image: exactly the blocks are held that
 //! roots lead to.
 
-ghost use Rattle.std.specs.Prelude.{◌≡◌, ◌<◌, ◌≤◌, ◌%◌, ℕ, All, IfOk, IfSome, Some, OnOk, Contains, length};
-ghost use Rattle.heap_model.specs.Geometry.{roots};
+ghost use Rattle.std.specs.Prelude.{◌≡◌, ◌≤◌, IfOk, OnOk, Contains};
 ghost use Rattle.cache_scenes.specs.Holding.{AreRootsOf, OwnsRoots};
 
 use crate::fixtures::recovery;

@@ -1,6 +1,6 @@
 //! A seat that stops at each ticket of a scene, and what recovery makes of what is left.
 
-ghost use Rattle.std.specs.Prelude.{◌≡◌, ◌<◌};
+ghost use Rattle.std.specs.Prelude.{◌<◌};
 
 use crate::fixtures::{close, must_hold, pair};
 use crate::holders::Halt;

@@ -1,6 +1,6 @@
 //! Threads that share a heap, each with a seat that allocates by caches.
 
-ghost use Rattle.std.specs.Prelude.{◌≡◌, ◌≤◌, All, IfOk, length};
+ghost use Rattle.std.specs.Prelude.{◌≡◌, All, IfOk, length};
 ghost use Rattle.heap_rule.specs.Seated.{IsSeatOf};
 ghost use Rattle.cache_scenes.specs.Holding.{HaveRoots, IsFreshSeatOf, IsJobOf};
 

@@ -12,4 +12,4 @@ follow-told-requires-clause-holds c = record { each = λ b has. absurd (in_none 
 pub follow-told-requires-clause-owns : goal.follow-told-requires-clause-owns
 follow-told-requires-clause-owns c = subst (λ (v : View). OwnsRoots c.deref.result.now v.roots) (sym c.new-seat.ensures.view)
     (subst (λ owned. OwnsRoots owned c.in_ok-shared.first.view.roots) (sym c.deref.ensures.value)
-        (owns 0 2 c.in_ok-roots.roots.items c.in_ok-shared.first c.in_ok-roots.ensures c.in_ok-shared.ensures.first_roots))
+    (owns 0 2 c.in_ok-roots.roots.items c.in_ok-shared.first c.in_ok-roots.ensures c.in_ok-shared.ensures.first_roots))
