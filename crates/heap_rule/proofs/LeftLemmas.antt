@@ -13,7 +13,7 @@ use Rattle.core_model.specs.Memory.{memory_of}
 use Rattle.core_model.specs.View.{View, one_if_some}
 use Rattle.core_model.proofs.PlaceLemmas.{pick, skip, not-eq}
 use Rattle.heap_model.specs.Words.{head_first}
-use Rattle.heap_rule.specs.Parts.{cut_for}
+use Rattle.heap_rule.specs.Cuts.{cut_for}
 use Rattle.heap_table.specs.Plays.{IsEvent, state_before, state_with}
 use Rattle.heap_rule.specs.Seated.{HasLostTo, Tells}
 use Rattle.heap_rule.specs.Shown.{CanCut, CanFree}

@@ -18,7 +18,6 @@ pub mod ToldLemmas
 pub mod SeatImageLemmas
 pub mod ClosedLemmas
 pub mod LeftLemmas
-pub mod PartLemmas
 pub mod RawLemmas
 pub mod MarkLemmas
 pub mod OwnedLemmas

@@ -4,7 +4,7 @@ pub mod Seats
 pub mod Images
 pub mod Held
 pub mod Left
-pub mod Parts
+pub mod Cuts
 pub mod Tickets
 pub mod Records
 pub mod Owned

@@ -47,8 +47,7 @@ pub use seat::Seat;
 pub use step_laws::{
     a_draw_leaves_its_change_or_a_stop, a_lost_exchange_answers_the_word_that_it_found,
     a_seen_used_is_within_the_capacity, a_step_of_a_seat_is_one_of_the_core,
-    a_step_that_changes_nothing_keeps_the_parts, an_exchange_is_won_or_lost,
-    looks_and_tickets_rise, own_words_keep_what_is_recorded,
+    an_exchange_is_won_or_lost, looks_and_tickets_rise, own_words_keep_what_is_recorded,
 };
 pub use view_laws::{
     a_stopped_seat_keeps_its_last_ticket, a_store_is_recorded,

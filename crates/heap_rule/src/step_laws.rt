@@ -4,7 +4,7 @@
 ghost use Rattle.std.specs.Prelude.{◌≡◌, ◌≢◌, ◌≤◌, ◌+◌, ℕ, Option, None, Some, Result, IfErr, ⊤};
 ghost use Rattle.core_model.specs.declared.answer.StepAnswer.TheVariants.{Done, Stopped};
 ghost use Rattle.core_model.specs.declared.event.Event.{Event};
-ghost use Rattle.core_model.specs.declared.event.Event.TheVariants.{Tick, Load, LookUsed, LookHead, LookLink, LookAnchor, KeepUsed, TakeFresh, Pop, Push, TakeAll, Give};
+ghost use Rattle.core_model.specs.declared.event.Event.TheVariants.{Tick, LookUsed, TakeFresh, Pop, Push, TakeAll, Give};
 ghost use Rattle.core_model.specs.declared.event.Shift.{Shift};
 ghost use Rattle.core_model.specs.declared.event.Shift.TheVariants.{Cut, Free};
 ghost use Rattle.core_model.specs.Effects.{after_free, before, drew, given, lost, popped, pushed, seen, seen_of, seen_word, shifted, stopped, taken_all, taken_fresh};
@@ -14,12 +14,10 @@ ghost use Rattle.core_model.specs.Memory.{memory_of};
 ghost use Rattle.core_model.specs.Steps.{StepsTo, words_after};
 ghost use Rattle.core_model.specs.View.{View};
 ghost use Rattle.heap_model.specs.Words.{head_first};
-ghost use Rattle.heap_rule.specs.Fences.{IsSeatFence};
-ghost use Rattle.heap_rule.specs.Parts.{KeepsParts, cut_for};
+ghost use Rattle.heap_rule.specs.Cuts.{cut_for};
 ghost use Rattle.heap_table.specs.Plays.{IsEvent, state_before, state_with};
-ghost use Rattle.heap_table.specs.Reached.{learned};
 ghost use Rattle.heap_rule.specs.Records.{IsOn, KeepsRecord};
-ghost use Rattle.heap_rule.specs.Seated.{HasLostTo, SeatView, Tells};
+ghost use Rattle.heap_rule.specs.Seated.{HasLostTo, Tells};
 ghost use Rattle.heap_rule.specs.Shown.{CanCut, CanFree};
 ghost use Rattle.heap_rule.specs.Tickets.{next_of};
 
@@ -100,33 +98,6 @@ pub fn a_lost_exchange_answers_the_word_that_it_found()
     ensures given { (d : ℕ) (v w : View) (found : ℕ) (result : Result ⊤ ℕ)
         → IsEvent (Give d) v found w → Tells (seen_word v.seen_anchor) found result
         → IfErr result (λ word. HasLostTo (Give d) (seen_word v.seen_anchor) word v w) }
-{}
-
-/// Draws with no change, looks, lost exchanges, and keeping the mark leave the seat its parts; so
-/// do loads and fences, but for what is known of words.
-pub fn a_step_that_changes_nothing_keeps_the_parts()
-    ensures draw { (v w : View) (ticket : ℕ) → IsEvent (Tick None) v ticket w → KeepsParts v w }
-    ensures look_used { (v w : View) (found : ℕ) → IsEvent LookUsed v found w → KeepsParts v w }
-    ensures keep_used { (v w : View) (found : ℕ) → IsEvent KeepUsed v found w → KeepsParts v w }
-    ensures look_head { (list : ℕ) (v w : View) (found : ℕ) → IsEvent (LookHead list) v found w
-        → KeepsParts v w }
-    ensures look_link { (v w : View) (found : ℕ) → IsEvent LookLink v found w → KeepsParts v w }
-    ensures look_anchor { (d : ℕ) (v w : View) (found : ℕ) → IsEvent (LookAnchor d) v found w
-        → KeepsParts v w }
-    ensures load { (word : ℕ) (v w : View) (found : ℕ) → IsEvent (Load word) v found w
-        → KeepsParts (learned v word found) w }
-    ensures fence { (v w : SeatView) → IsSeatFence v w → KeepsParts
-        (record v.view { volatile = w.view.volatile; durable = w.view.durable }) w.view }
-    ensures not_taken { (n : ℕ) (v w : View) (found : ℕ) → IsEvent (TakeFresh n) v found w
-        → found ≢ seen v.seen_used → KeepsParts v w }
-    ensures not_popped { (v w : View) (found : ℕ) → IsEvent Pop v found w
-        → found ≢ seen_word v.seen_head → KeepsParts v w }
-    ensures not_pushed { (d : ℕ) (v w : View) (found : ℕ) → IsEvent (Push d) v found w
-        → found ≢ seen_word v.seen_head → KeepsParts v w }
-    ensures not_taken_all { (d : ℕ) (v w : View) (found : ℕ) → IsEvent (TakeAll d) v found w
-        → found ≢ seen_word v.seen_anchor → KeepsParts v w }
-    ensures not_given { (d : ℕ) (v w : View) (found : ℕ) → IsEvent (Give d) v found w
-        → found ≢ seen_word v.seen_anchor → KeepsParts v w }
 {}
 
 /// What is read of `used` is within the capacity.

@@ -24,7 +24,7 @@ use Rattle.core_model.proofs.TotalLemmas.{eq-eqb-one}
 use Rattle.seat_notes.proofs.BlockRanges.{cut_range}
 use Rattle.seat_notes.proofs.EndLemmas.{last_there}
 use Rattle.heap_rule.specs.Fences.{Owns}
-use Rattle.heap_rule.specs.Parts.{cut_for}
+use Rattle.heap_rule.specs.Cuts.{cut_for}
 use Rattle.heap_rule.specs.Seated.{TellsDraw}
 use Rattle.heap_rule.specs.Shown.{Shows, ShowsLinks, by_claim, as_full, Can, CanCut, CanStore}
 use Rattle.heap_rule.proofs.LeftLemmas.{draw_cuts, draw_done}
