@@ -32,24 +32,28 @@ use Rattle.heap_rule.specs.Stacks.{IsRestacked}
 use Rattle.heap_rule.specs.Shown.{CanFree, CanLift, CanCut, CanHoldLarge}
 use Rattle.heap_rule.proofs.OwnedShifts.{alloc_owned, free_owned, lift_owned, cut_owned, large_owned, split_owned}
 use Rattle.heap_rule.proofs.OwnedSteps.{quiet, taken_below}
-use Rattle.heap_rule.proofs.ShiftLemmas.{free_class}
+use Rattle.heap_rule.proofs.ShiftLemmas.{free_class, free_own}
 use Rattle.heap_rule.proofs.StackLemmas.{has_stack}
 use Rattle.heap_rule.proofs.TickLemmas.{drawn, spent}
-use Rattle.heap_rule.proofs.ViewLemmas.{below_capacity, block_cut, block_once}
+use Rattle.heap_rule.proofs.ViewLemmas.{below_capacity, block_cut, block_once, block_range}
 
 as_is : (o o' : Owned) (p : OwnedParts) → o' ≡ o → HasOwned o p → HasOwned o' p
 as_is o o' p same own = subst (λ x. HasOwned x p) (sym same) own
 
-pub alloc_change : (v : View) (class : ℕ) → MayAlloc v class → FitsChange (change.Allocated class) v (Some (Alloc class))
-alloc_change v class may o own = (
+-- a block's first word fits 32 bits
+word_fits : (v : View) (s : HasSoundState v) (block : ℕ) → 0 < times_block block v → block < 4294967296
+word_fits v s block own = let r = (block_range v s block own).1 in let small = s.sound.good.small in let fits = largest_capacity_fits in omega arith
+
+pub alloc_change : (v : View) (class first : ℕ) → MayAlloc v class → FitsChange (change.Allocated class first) v (Some (Alloc class))
+alloc_change v class first may s o own = (
   (has_stack o.stacks.items v.caches class own.stacks may.is_class).below,
-  λ s found o' is. as_is _ o' _ is.others (alloc_owned v s o own found class o'.stacks may is.stacks),
+  λ found o' is. as_is _ o' _ is.others (alloc_owned v s o own found class o'.stacks may is.stacks),
 )
 
-pub free_change : (v : View) → HasSoundState v → (class block : ℕ) (can : CanFree v block) → class ≡ can.class → FitsChange (change.Freed class block) v (Some (Free block))
-free_change v has class block can class_is o own = (
-  has_stack o.stacks.items v.caches class own.stacks (subst IsClass (sym class_is) (free_class v has block can)),
-  λ s found o' is. as_is _ o' _ is.others (free_owned v s o own found block o'.stacks can (subst (λ n. IsRestacked o.stacks.items o'.stacks.items n (λ cache. block ∷ cache)) class_is is.stacks)),
+pub free_change : (v : View) (class block : ℕ) (can : CanFree v block) → class ≡ can.class → FitsChange (change.Freed class block) v (Some (Free block))
+free_change v class block can class_is s o own = (
+  (has_stack o.stacks.items v.caches class own.stacks (subst IsClass (sym class_is) (free_class v s block can)), word_fits v s block (free_own v s block can)),
+  λ found o' is. as_is _ o' _ is.others (free_owned v s o own found block o'.stacks can (subst (λ n. IsRestacked o.stacks.items o'.stacks.items n (λ cache. block ∷ cache)) class_is is.stacks)),
 )
 
 -- a batch to which a block comes has no more blocks than a superblock
@@ -103,40 +107,41 @@ batch_room v s class can = let short = chain_short v.setup.capacity class d (fir
     | inr other ↦ let z = ne-eqb-none first b other in omega arith
   ]
 
-pub lift_change : (v : View) → HasSoundState v → (class block : ℕ) → CanLift v class → block ≡ first_of (of_class v.caches class) → FitsChange (change.Lifted class block) v (Some (Lift class))
-lift_change v has class block can block_is o own = (
-  (
-    (has_stack o.stacks.items v.caches class own.stacks can.is_class).below,
-    (let r = batch_room v has class can in let l = ap length own.batch in let k = own.room in omega arith),
-  ),
-  λ s found o' is. as_is _ o' _ is.others (lift_owned v s o own found class o'.batch o'.stacks can (is.batch ∙ ap (λ b. o.batch.items ++ b ∷ []) block_is) is.room is.stacks),
+pub lift_change : (v : View) (class block first : ℕ) → CanLift v class → block ≡ first_of (of_class v.caches class) → FitsChange (change.Lifted class block first) v (Some (Lift class))
+lift_change v class block first can block_is s o own = (
+  record {
+    below = (has_stack o.stacks.items v.caches class own.stacks can.is_class).below;
+    room = (let r = batch_room v s class can in let l = ap length own.batch in let k = own.room in omega arith);
+    fits = (let cached = in_lists_total (first_of (of_class v.caches class)) class v.caches (first_there (of_class v.caches class) can.cached) in subst (λ b. b < 4294967296) (sym block_is) (word_fits v s (first_of (of_class v.caches class)) (omega arith)));
+  },
+  λ found o' is. as_is _ o' _ is.others (lift_owned v s o own found class o'.batch o'.stacks can (is.batch ∙ ap (λ b. o.batch.items ++ b ∷ []) block_is) is.room is.stacks),
 )
 
-pub cut_change : (v : View) → HasSoundState v → (d : ℕ) (class : SizeClass) (can : CanCut v d) → class.number ≡ can.class → FitsChange (change.Cut d class) v (Some (Cut d))
-cut_change v has d class can class_is o own = (
+pub cut_change : (v : View) (d : ℕ) (class : SizeClass) (can : CanCut v d) → class.number ≡ can.class → FitsChange (change.Cut d class) v (Some (Cut d))
+cut_change v d class can class_is s o own = (
   record {
     below = less;
     classes = (let l = own.classes_long in let t = less in omega arith);
     ownerships = (let l = own.ownerships_long in let t = less in omega arith);
     blocks = λ b some. let r = cut_range v.setup.capacity class.number d b class.is less (block_of v.setup.capacity class.number d b some) in let l = own.words_long in omega arith;
     stack = has_stack o.stacks.items v.caches class.number own.stacks class.is;
-    fits = (let l = own.words_long in let small = has.sound.good.small in let fits = largest_capacity_fits in omega arith);
+    fits = (let l = own.words_long in let small = s.sound.good.small in let fits = largest_capacity_fits in omega arith);
   },
-  λ s found o' changed. as_is _ o' _ changed.others (cut_owned v s o own found d class.number o'.blocks o'.classes o'.ownerships o'.stacks can class_is changed.blocks changed.classes changed.ownerships changed.stacks),
+  λ found o' changed. as_is _ o' _ changed.others (cut_owned v s o own found d class.number o'.blocks o'.classes o'.ownerships o'.stacks can class_is changed.blocks changed.classes changed.ownerships changed.stacks),
 ) where
   less : d < v.setup.capacity
-  less = taken_below v has d (let c = can.cutting in omega arith)
+  less = taken_below v s d (let c = can.cutting in omega arith)
 
-pub large_change : (v : View) → HasSoundState v → (d n : ℕ) → CanHoldLarge v d n → FitsChange (change.Large d n) v (Some (Large d n))
-large_change v has d n can o own = (
-  (can.some, (let some = can.some in let low = can.durable in let l = below_capacity v has (d + n - 1) (omega arith) in let k = own.ownerships_long in omega arith)),
-  λ s found o' is. as_is _ o' _ is.others (large_owned v s o own found d n is.rest o'.ownerships can is.owning is.first),
+pub large_change : (v : View) (d n : ℕ) → CanHoldLarge v d n → FitsChange (change.Large d n) v (Some (Large d n))
+large_change v d n can s o own = (
+  (can.some, (let some = can.some in let low = can.durable in let l = below_capacity v s (d + n - 1) (omega arith) in let k = own.ownerships_long in omega arith)),
+  λ found o' is. as_is _ o' _ is.others (large_owned v s o own found d n is.rest o'.ownerships can is.owning is.first),
 )
 
-pub split_change : (v : View) → HasSoundState v → (block d n : ℕ) → MaySplit v block → d ≡ superblock_at v.setup.capacity block → n ≡ span_count d v.large → FitsChange (change.Split d n) v (Some (Split block))
-split_change v has block d n may d_is n_is o own = (
-  (let n_some = some in let last = span_covers d (d + n - 1) v.large (omega arith) (omega arith) (omega arith) in let t = taken_below v has (d + n - 1) (omega arith) in let k = own.ownerships_long in omega arith),
-  λ s found o' is. as_is _ o' _ is.others (split_owned v s o own found block d n o'.ownerships may d_is n_is is.owning),
+pub split_change : (v : View) (block d n : ℕ) → MaySplit v block → d ≡ superblock_at v.setup.capacity block → n ≡ span_count d v.large → FitsChange (change.Split d n) v (Some (Split block))
+split_change v block d n may d_is n_is s o own = (
+  (let n_some = some in let last = span_covers d (d + n - 1) v.large (omega arith) (omega arith) (omega arith) in let t = taken_below v s (d + n - 1) (omega arith) in let k = own.ownerships_long in omega arith),
+  λ found o' is. as_is _ o' _ is.others (split_owned v s o own found block d n o'.ownerships may d_is n_is is.owning),
 ) where
   some : 1 ≤ n
   some = let h = subst (λ e. 1 ≤ span_count e v.large) (sym d_is) may.held in omega (arith, h, n_is)
@@ -152,4 +157,4 @@ module _ (o : Owned) (v w : View) (shift : Option Shift) (found : ℕ) (event : 
 
   pub draw_owned : (o' : Owned) (c : Change) (capacity : ℕ) → FitsChange c v shift → capacity ≡ v.setup.capacity → IsChanged c capacity o o' → found < v.setup.budget → HasOwned o' (parts_of w)
   draw_owned o' c capacity fits capacity_is changed less = subst (λ u. HasOwned o' (parts_of u)) (sym (drawn v w shift found event less))
-      ((fits o own).1 event.before found o' (subst (λ n. IsChanged c n o o') capacity_is changed))
+      ((fits event.before o own).1 found o' (subst (λ n. IsChanged c n o o') capacity_is changed))

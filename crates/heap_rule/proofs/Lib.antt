@@ -14,6 +14,7 @@ pub mod ChainLemmas
 pub mod BatchLemmas
 pub mod TickLemmas
 pub mod ShiftLemmas
+pub mod NoteLemmas
 pub mod ToldLemmas
 pub mod SeatImageLemmas
 pub mod ClosedLemmas

@@ -4,7 +4,7 @@ use Rattle.std.proofs.lemmas.Bool.{cases_lt}
 use Rattle.heap_model.specs.Geometry.{lists, start_word, info_word, largest_capacity_fits}
 use Rattle.heap_model.specs.Sizes.{IsClass, words_of_class, blocks_of}
 use Rattle.heap_model.proofs.SizeLemmas.{four_blocks}
-use Rattle.core_model.specs.declared.event.Shift.TheVariants.{Cut, Alloc, Free, Lift, Split}
+use Rattle.core_model.specs.declared.event.Shift.TheVariants.{Cut, Alloc, Free, Lift, Large, Split}
 use Rattle.core_model.specs.Cells.{data_cell, info_cell, superblock_at}
 use Rattle.core_model.specs.Memory.{memory_of, info, volatile_at, next, table_length}
 use Rattle.core_model.specs.View.{View, of_class, times_block, times_large}
@@ -149,6 +149,13 @@ module _ (v : View) (s : HasSoundState v) (d : ℕ) (some : 1 ≤ span_count d v
 
   pub span_read : (place found : ℕ) → place ≡ info_word d → found ≡ get_or s.words place 0 → found ≡ 255 + 256 * span_count d v.large
   span_read place found place_is found_is = info_read v s d place found span_below place_is found_is ∙ ((s.sound.good.claims s.seat v s.below s.at).is_large d some).0
+
+pub large_fits : (notes : SeatNotes) (v : View) (d count : ℕ) (anchor : Option Seen) → IsKeptOf notes v → snapshot anchor ≡ cleared d count (snapshot notes.seen_anchor) → FitsShift (record notes { seen_anchor = anchor }) v (Some (Large d count))
+large_fits notes v d count anchor kept cleared_is = λ s found. record {
+  notes_are = record { ticket = refl; stopped = kept.notes_are.stopped; seen_used = kept.notes_are.seen_used; seen_head = kept.notes_are.seen_head; seen_link = kept.notes_are.seen_link; seen_anchor = ap (cleared d count) kept.notes_are.seen_anchor ∙ sym cleared_is };
+  caches = kept.caches;
+  batch = kept.batch;
+}
 
 pub split_fits : (notes : SeatNotes) (v : View) (block d count : ℕ) (anchor : Option Seen) → IsKeptOf notes v → d ≡ superblock_at v.setup.capacity block → count ≡ span_count d v.large
     → snapshot anchor ≡ cleared d count (snapshot notes.seen_anchor) → FitsShift (record notes { seen_anchor = anchor }) v (Some (Split block))

@@ -31,9 +31,7 @@ use crate::stacks::Stack;
 use anchor_word::{anchor_count, unpack};
 use core_model::Event;
 use heap_table::{Shared, TableSeat, exchange, read};
-use seat_notes::{
-    Cache, Group, NO_BATCH, SeatNotes, anchor_after_give, anchor_after_take_all, first_free,
-};
+use seat_notes::{Cache, Group, NO_BATCH, anchor_after_give, anchor_after_take_all, first_free};
 use size_table::{SizeClass, blocks_of};
 use super_block::{Geometry, block_words};
 
@@ -70,23 +68,15 @@ impl Seat {
         let new = anchor_after_take_all();
         let found = exchange(shared, &mut self.bare, place, anchor.word, new, event);
         if found != anchor.word {
-            self.notes = SeatNotes {
-                ticket: None,
-                seen_anchor: None,
-                ..self.notes
-            };
+            self.notes.ticket = None;
+            self.notes.seen_anchor = None;
             return Err(found);
         }
         let first = first_free(self.geometry, d, class, anchor.word);
         let count = anchor_count(anchor.word);
-        let mut caches = self.notes.caches;
-        caches[class.number as usize] = Cache { first, count };
-        self.notes = SeatNotes {
-            ticket: None,
-            seen_anchor: None,
-            caches,
-            ..self.notes
-        };
+        self.notes.ticket = None;
+        self.notes.seen_anchor = None;
+        self.notes.caches[class.number as usize] = Cache { first, count };
         let stack = &mut self.owned.stacks[class.number as usize];
         load_cache(shared, &mut self.bare, stack, class, first, count);
         mark_all(&mut self.owned.blocks, stack.cached(), true);
@@ -94,6 +84,7 @@ impl Seat {
         self.owned.ownerships[d as usize] = Ownership::Nothing;
         Ok(())
     }
+
     /// Gives the batch back to its superblock, if the anchor is as it was seen; else tells it.
     pub fn try_give(&mut self, shared: &Shared, d: u64) -> Result<(), u64>
         requires seat { IsSeatOf shared.now self.old }
@@ -115,19 +106,13 @@ impl Seat {
         let new = given.unwrap_or(anchor.word);
         let found = exchange(shared, &mut self.bare, place, anchor.word, new, event);
         if found != anchor.word {
-            self.notes = SeatNotes {
-                ticket: None,
-                seen_anchor: None,
-                ..self.notes
-            };
+            self.notes.ticket = None;
+            self.notes.seen_anchor = None;
             return Err(found);
         }
-        self.notes = SeatNotes {
-            ticket: None,
-            seen_anchor: None,
-            batch: NO_BATCH,
-            ..self.notes
-        };
+        self.notes.ticket = None;
+        self.notes.seen_anchor = None;
+        self.notes.batch = NO_BATCH;
         mark_all(&mut self.owned.blocks, &self.owned.batch, false);
         self.owned.batch.clear();
         if anchor.word != anchor_after_take_all() {
@@ -164,7 +149,7 @@ fn load_cache(
     let top = stack.blocks.len() - count;
     let mut block = first;
     for step in 0..count {
-        stack.blocks[top + step] = block;
+        stack.blocks[top + step] = block as u32;
         block = read(shared, bare, block);
     }
     stack.top = top;

@@ -19,7 +19,7 @@ use crate::owned::{Ownership, own_range};
 use crate::seat::Seat;
 use core_model::Event;
 use heap_table::{Shared, exchange, raise};
-use seat_notes::{SeatNotes, Seen};
+use seat_notes::Seen;
 use super_block::USED_WORD;
 
 impl Seat {
@@ -38,19 +38,13 @@ impl Seat {
         let event = Event::TakeFresh { n };
         let found = exchange(shared, &mut self.bare, USED_WORD, used, used + n, event);
         if found != used {
-            self.notes = SeatNotes {
-                ticket: None,
-                seen_used: None,
-                ..self.notes
-            };
+            self.notes.ticket = None;
+            self.notes.seen_used = None;
             return Err(found);
         }
-        self.notes = SeatNotes {
-            ticket: None,
-            seen_used: Some(used + n),
-            seen_anchor: Seen::cleared(self.notes.seen_anchor, used, n),
-            ..self.notes
-        };
+        self.notes.ticket = None;
+        self.notes.seen_used = Some(used + n);
+        self.notes.seen_anchor = Seen::cleared(self.notes.seen_anchor, used, n);
         own_range(&mut self.owned.ownerships, used, n, Ownership::Unclassed);
         Ok(())
     }
@@ -68,9 +62,6 @@ impl Seat {
         };
         let place = self.geometry.length() + USED_WORD;
         raise(shared, &mut self.bare, place, used, Event::KeepUsed);
-        self.notes = SeatNotes {
-            ticket: None,
-            ..self.notes
-        };
+        self.notes.ticket = None;
     }
 }

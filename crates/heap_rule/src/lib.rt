@@ -12,6 +12,7 @@ mod image_laws;
 mod laws;
 mod lists;
 mod looks;
+mod notes;
 mod opening;
 mod own_words;
 mod owned;

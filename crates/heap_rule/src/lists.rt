@@ -21,7 +21,7 @@ use crate::owned::Ownership;
 use crate::seat::Seat;
 use core_model::Event;
 use heap_table::{Shared, exchange};
-use seat_notes::{SeatNotes, Seen, head_after_pop, head_after_push, head_first};
+use seat_notes::{Seen, head_after_pop, head_after_push, head_first};
 use super_block::HEAD_WORD;
 
 impl Seat {
@@ -45,21 +45,15 @@ impl Seat {
         let new = head_after_pop(head.word, link);
         let found = exchange(shared, &mut self.bare, place, head.word, new, Event::Pop);
         if found != head.word {
-            self.notes = SeatNotes {
-                ticket: None,
-                seen_head: None,
-                ..self.notes
-            };
+            self.notes.ticket = None;
+            self.notes.seen_head = None;
             return Err(found);
         }
         let d = head_first(head.word).saturating_sub(1);
-        self.notes = SeatNotes {
-            ticket: None,
-            seen_head: None,
-            seen_link: None,
-            seen_anchor: Seen::cleared(self.notes.seen_anchor, d, 1),
-            ..self.notes
-        };
+        self.notes.ticket = None;
+        self.notes.seen_head = None;
+        self.notes.seen_link = None;
+        self.notes.seen_anchor = Seen::cleared(self.notes.seen_anchor, d, 1);
         self.owned.ownerships[d as usize] = Ownership::listed(head.of);
         Ok(())
     }
@@ -82,19 +76,13 @@ impl Seat {
         let event = Event::Push { d };
         let found = exchange(shared, &mut self.bare, place, head.word, new, event);
         if found != head.word {
-            self.notes = SeatNotes {
-                ticket: None,
-                seen_head: None,
-                ..self.notes
-            };
+            self.notes.ticket = None;
+            self.notes.seen_head = None;
             return Err(found);
         }
-        self.notes = SeatNotes {
-            ticket: None,
-            seen_head: None,
-            seen_anchor: Seen::cleared(self.notes.seen_anchor, d, 1),
-            ..self.notes
-        };
+        self.notes.ticket = None;
+        self.notes.seen_head = None;
+        self.notes.seen_anchor = Seen::cleared(self.notes.seen_anchor, d, 1);
         self.owned.ownerships[d as usize] = Ownership::Nothing;
         Ok(())
     }

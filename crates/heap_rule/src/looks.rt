@@ -8,7 +8,7 @@ ghost use Rattle.heap_rule.specs.Shown.{Can};
 use crate::seat::Seat;
 use core_model::Event;
 use heap_table::{Shared, look};
-use seat_notes::{SeatNotes, Seen, head_first};
+use seat_notes::{Seen, head_first};
 use super_block::{HEAD_WORD, USED_WORD};
 
 impl Seat {
@@ -21,11 +21,8 @@ impl Seat {
         ensures stores { KeepsStores self.old self.new }
     {
         let found = look(shared, &mut self.bare, USED_WORD, Event::LookUsed);
-        self.notes = SeatNotes {
-            ticket: None,
-            seen_used: Some(found),
-            ..self.notes
-        };
+        self.notes.ticket = None;
+        self.notes.seen_used = Some(found);
         found
     }
 
@@ -39,15 +36,12 @@ impl Seat {
     {
         let event = Event::LookHead { list };
         let found = look(shared, &mut self.bare, HEAD_WORD + list, event);
-        self.notes = SeatNotes {
-            ticket: None,
-            seen_head: Some(Seen {
-                of: list,
-                word: found,
-            }),
-            seen_link: None,
-            ..self.notes
-        };
+        self.notes.ticket = None;
+        self.notes.seen_head = Some(Seen {
+            of: list,
+            word: found,
+        });
+        self.notes.seen_link = None;
         found
     }
 
@@ -60,10 +54,7 @@ impl Seat {
         ensures stores { KeepsStores self.old self.new }
     {
         let found = look(shared, &mut self.bare, word, Event::Load { word });
-        self.notes = SeatNotes {
-            ticket: None,
-            ..self.notes
-        };
+        self.notes.ticket = None;
         found
     }
 
@@ -80,11 +71,8 @@ impl Seat {
         };
         let place = self.geometry.link(head_first(head.word) - 1);
         let found = look(shared, &mut self.bare, place, Event::LookLink);
-        self.notes = SeatNotes {
-            ticket: None,
-            seen_link: Some(found),
-            ..self.notes
-        };
+        self.notes.ticket = None;
+        self.notes.seen_link = Some(found);
         found
     }
 
@@ -98,11 +86,8 @@ impl Seat {
     {
         let event = Event::LookAnchor { d };
         let found = look(shared, &mut self.bare, self.geometry.anchor(d), event);
-        self.notes = SeatNotes {
-            ticket: None,
-            seen_anchor: Some(Seen { of: d, word: found }),
-            ..self.notes
-        };
+        self.notes.ticket = None;
+        self.notes.seen_anchor = Some(Seen { of: d, word: found });
         found
     }
 }

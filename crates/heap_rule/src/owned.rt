@@ -42,7 +42,7 @@ pub struct Owned {
     /// By root: whether it is the seat's.
     pub roots: Vec<bool>,
     /// The blocks of its batch, in room for as many as a superblock has.
-    pub batch: Vec<u64>,
+    pub batch: Vec<u32>,
     /// By class: the topmost blocks of its cache.
     pub stacks: Vec<Stack>,
 }
@@ -113,12 +113,12 @@ impl Ownership {
 /// A change of what is the seat's, which goes with a shift.
 #[derive(Clone, Copy)]
 pub enum Change {
-    /// The first block of a cache is held.
-    Allocated { class: u64 },
+    /// The first block of a cache is held, and block `first` comes first there.
+    Allocated { class: u64, first: u64 },
     /// A held block came in front of the cache of its class.
     Freed { class: u64, block: u64 },
-    /// The first block of a cache came behind the batch.
-    Lifted { class: u64, block: u64 },
+    /// The first block of a cache came behind the batch, and block `first` comes first there.
+    Lifted { class: u64, block: u64, first: u64 },
     /// All blocks of a claimed superblock, which was cut for a class, are the seat's.
     Cut { d: u64, class: SizeClass },
     /// A large block takes `n` claimed superblocks.
@@ -134,11 +134,11 @@ impl Owned {
         ensures { IsChanged change geometry.capacity self.old self.new }
     {
         match change {
-            Change::Allocated { class } => self.uncache(class),
+            Change::Allocated { class, .. } => self.uncache(class),
             Change::Freed { class, block } => self.cache(class, block),
-            Change::Lifted { class, block } => {
+            Change::Lifted { class, block, .. } => {
                 self.uncache(class);
-                self.batch.push_reserved(block);
+                self.batch.push_reserved(block as u32);
             }
             Change::Cut { d, class } => self.cut(geometry, d, class),
             Change::Large { d, n } => self.hold_large(d, n),
@@ -156,7 +156,8 @@ impl Owned {
 
     /// Puts a block in front of a cache.
     fn cache(&mut self, class: u64, block: u64)
-        requires { HasStack self.old.stacks.items class }
+        requires stack { HasStack self.old.stacks.items class }
+        requires fits { block < 4294967296 }
         ensures { IsRecached self.old self.new class (λ cache. block ∷ cache) }
     {
         self.stacks[class as usize].push(block);
@@ -185,12 +186,12 @@ impl Owned {
 }
 
 /// Gives or takes back the marks of some blocks.
-pub(crate) fn mark_all(blocks: &mut BitMarks, list: &[u64], mark: bool)
+pub(crate) fn mark_all(blocks: &mut BitMarks, list: &[u32], mark: bool)
     requires { (b : ℕ) → 0 < times b list.now → b < length blocks.old }
     ensures { IsMarking blocks.old blocks.new list.now mark }
 {
     for block in list {
-        mark_one(blocks, *block, mark);
+        mark_one(blocks, *block as u64, mark);
     }
 }
 

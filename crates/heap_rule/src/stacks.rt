@@ -7,10 +7,10 @@ ghost use Rattle.heap_rule.specs.Stacks.{IsTopOf};
 use std::alloc::{AllocError, Global};
 
 /// The topmost blocks of a cache, from `top` on, the first one first; in room for as many as a
-/// superblock has of the class. What lies deeper is found by loads.
+/// superblock has of the class. What lies deeper is found by loads. A word's place fits 32 bits.
 #[derive(Drop)]
 pub struct Stack {
-    pub blocks: Vec<u64>,
+    pub blocks: Vec<u32>,
     pub top: usize,
 }
 
@@ -25,7 +25,7 @@ impl Stack {
     }
 
     /// The blocks.
-    pub(crate) fn cached(&self) -> &[u64]
+    pub(crate) fn cached(&self) -> &[u32]
         requires { self.now.top ≤ length self.now.blocks.items }
         ensures { result.now ≡ drop self.now.top self.now.blocks.items }
     {
@@ -41,7 +41,7 @@ impl Stack {
         if self.blocks.len() - self.top < 2 {
             return None;
         }
-        Some(self.blocks[self.top + 1])
+        Some(self.blocks[self.top + 1] as u64)
     }
 
     /// Takes the first block off.
@@ -59,13 +59,14 @@ impl Stack {
     pub(crate) fn push(&mut self, block: u64)
         requires inside { self.old.top ≤ length self.old.blocks.items }
         requires some { 1 ≤ length self.old.blocks.items }
+        requires fits { block < 4294967296 }
         ensures room { length self.new.blocks.items ≡ length self.old.blocks.items }
         ensures front { (cache : List ℕ) → IsTopOf self.old cache
             → IsTopOf self.new (block ∷ cache) }
     {
         self.make_room();
         self.top -= 1;
-        self.blocks[self.top] = block;
+        self.blocks[self.top] = block as u32;
     }
 
     /// Leaves all blocks to loads, if there is no room for one more.
@@ -84,14 +85,14 @@ impl Stack {
 
     /// Holds blocks from one on, so many words apart, as many as there is room for.
     pub(crate) fn fill(&mut self, first: u64, apart: u64)
-        requires { first + length self.old.blocks.items * apart < 18446744073709551616 }
+        requires { first + length self.old.blocks.items * apart < 4294967296 }
         ensures blocks { self.new.blocks.items
             ≡ steps first apart (length self.old.blocks.items) }
         ensures top { self.new.top ≡ 0 }
     {
         let mut block = first;
         for i in 0..self.blocks.len() {
-            self.blocks[i] = block;
+            self.blocks[i] = block as u32;
             block += apart;
         }
         self.top = 0;

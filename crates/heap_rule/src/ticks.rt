@@ -2,17 +2,17 @@
 
 ghost use Rattle.std.specs.Prelude.{◌≡◌, ℕ, Some, None};
 ghost use Rattle.core_model.specs.declared.event.Event.TheVariants.{Tick};
-ghost use Rattle.heap_rule.specs.Changed.{FitsChange};
+ghost use Rattle.heap_rule.specs.Changed.{FitsChange, FitsNotes};
 ghost use Rattle.heap_table.specs.Plays.{IsEvent};
-ghost use Rattle.heap_rule.specs.Seated.{KeepsStores, IsSeatOf, FitsShift, TellsDraw};
+ghost use Rattle.heap_rule.specs.Seated.{KeepsStores, IsSeatOf, TellsDraw};
 ghost use Rattle.heap_rule.specs.Shown.{Can};
 
+use crate::notes::note;
 use crate::owned::Change;
 use crate::seat::Seat;
 use core_model::{Event, Shift};
 use heap_table::{Shared, draw};
 use line_memory::Stopped;
-use seat_notes::SeatNotes;
 
 impl Seat {
     /// Draws a ticket, with a change of the seat's parts where there is one; a seat that has
@@ -67,43 +67,37 @@ impl Seat {
         ensures seat { IsSeatOf shared.now self.new }
         ensures stores { KeepsStores self.old self.new }
     {
-        let (notes, change) = self.after_shift(shared, shift);
-        self.draw_as(shared, Some(shift), notes, change)
+        let change = self.change_by(shared, shift);
+        self.draw_changing(shared, shift, change)
     }
 
-    /// Draws a ticket, and keeps what the change of the seat's parts leaves, where the ticket is
-    /// below the budget.
-    fn draw_as(
+    /// Draws a ticket, and changes the seat's parts, where the ticket is below the budget.
+    fn draw_changing(
         &mut self,
         shared: &Shared,
-        shift: Option<Shift>,
-        changed: SeatNotes,
+        shift: Shift,
         change: Change,
     ) -> Result<(), Stopped>
         requires seat { IsSeatOf shared.now self.old }
-        requires can { Can self.old.view (Tick shift) }
-        requires changed { FitsShift changed self.old.view shift }
-        requires change { FitsChange change self.old.view shift }
-        ensures event { (found : ℕ) × IsEvent (Tick shift) self.old.view found self.new.view }
+        requires can { Can self.old.view (Tick (Some shift)) }
+        requires notes { FitsNotes change self.old.view (Some shift) }
+        requires change { FitsChange change self.old.view (Some shift) }
+        ensures event { (found : ℕ)
+            × IsEvent (Tick (Some shift)) self.old.view found self.new.view }
         ensures told { TellsDraw self.new.view result }
         ensures seat { IsSeatOf shared.now self.new }
         ensures stores { KeepsStores self.old self.new }
     {
         let place = 2 * self.geometry.length();
-        let event = Event::Tick { shift };
+        let event = Event::Tick { shift: Some(shift) };
         let ticket = draw(shared, &mut self.bare, place, event);
         if ticket >= self.budget {
-            self.notes = SeatNotes {
-                ticket: None,
-                stopped: Some(ticket),
-                ..self.notes
-            };
+            self.notes.ticket = None;
+            self.notes.stopped = Some(ticket);
             return Err(Stopped { step: ticket });
         }
-        self.notes = SeatNotes {
-            ticket: Some(ticket),
-            ..changed
-        };
+        note(&mut self.notes, self.geometry, change);
+        self.notes.ticket = Some(ticket);
         self.owned.change(self.geometry, change);
         Ok(())
     }

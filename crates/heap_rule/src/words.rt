@@ -9,7 +9,6 @@ ghost use Rattle.heap_rule.specs.Shown.{Can};
 use crate::seat::Seat;
 use core_model::Event;
 use heap_table::{Shared, learn, store};
-use seat_notes::SeatNotes;
 
 impl Seat {
     /// Stores to a word of its own.
@@ -22,11 +21,8 @@ impl Seat {
     {
         let event = Event::Store { word, value };
         store(shared, &mut self.bare, word, value, event);
-        self.notes = SeatNotes {
-            ticket: None,
-            batch: self.notes.batch.stored(word),
-            ..self.notes
-        };
+        self.notes.ticket = None;
+        self.notes.batch = self.notes.batch.stored(word);
         self.recent.push(word);
         self.pending.unmark(word as usize);
     }

@@ -1,5 +1,6 @@
 use Rattle.std.proofs.Common.{◌≡◌, ◌<◌, ◌+◌, ◌-◌, drop, get_or, length, length-set, length-drop, sym, subst, ◌∙◌, arith}
 use Rattle.std.proofs.lemmas.List.{take_all}
+use Rattle.heap_model.specs.Geometry.{largest_capacity_fits}
 use Rattle.atomic_table.specs.Table.{Me}
 use Rattle.core_model.specs.Memory.{table_length}
 use Rattle.core_model.specs.View.{of_class}
@@ -31,3 +32,8 @@ returns-clause-loaded c =
     let past = c.loop-step-test.false in
     sym (take_all c.loop-step.step (drop (c.len.result - c.args.count) items) (let d = length-drop (c.len.result - c.args.count) items in let l = c.loop-step.invariant.long in let k = c.len.ensures in let r = c.requires.room in omega arith))
     ∙ c.loop-step.invariant.filled ∙ take_all c.loop-step.step cache (let n = c.requires.count in omega arith)
+
+pub overflow_cast-block : goal.overflow_cast-block
+overflow_cast-block c = let t = c.loop-step-test.true in let n = c.requires.count in
+    let b = cached_below (view_in c.args.bare.now.me.0) c.args.class.number c.requires.at.has c.loop-step.step c.loop-step.block (omega arith) (c.loop-step.invariant.at t) in
+    let small = c.requires.at.has.sound.good.small in let fits = largest_capacity_fits in omega arith

@@ -1,10 +1,10 @@
 use Rattle.std.proofs.Common.{Some, sym, subst}
-use Rattle.heap_rule.specs.Changed.{FitsChange}
-use Rattle.heap_rule.specs.Seated.{SeatView, FitsShift}
+use Rattle.heap_rule.specs.Changed.{FitsChange, FitsNotes}
+use Rattle.heap_rule.specs.Seated.{SeatView}
 use Rattle.heap_rule.proofs.seat.Seat.draw_with.Goals as goal
 
-pub draw_as-requires-clause-changed : goal.draw_as-requires-clause-changed
-draw_as-requires-clause-changed c = subst (λ (s : SeatView). FitsShift c.after_shift-change.result.0 s.view (Some c.args.shift)) (sym c.after_shift-change.ensures.same) c.after_shift-change.ensures.fits
+pub draw_changing-requires-clause-notes : goal.draw_changing-requires-clause-notes
+draw_changing-requires-clause-notes c = subst (λ (s : SeatView). FitsNotes c.change_by-change.result s.view (Some c.args.shift)) (sym c.change_by-change.ensures.same) c.change_by-change.ensures.notes
 
-pub draw_as-requires-clause-change : goal.draw_as-requires-clause-change
-draw_as-requires-clause-change c = subst (λ (s : SeatView). FitsChange c.after_shift-change.result.1 s.view (Some c.args.shift)) (sym c.after_shift-change.ensures.same) c.after_shift-change.ensures.change
+pub draw_changing-requires-clause-change : goal.draw_changing-requires-clause-change
+draw_changing-requires-clause-change c = subst (λ (s : SeatView). FitsChange c.change_by-change.result s.view (Some c.args.shift)) (sym c.change_by-change.ensures.same) c.change_by-change.ensures.change

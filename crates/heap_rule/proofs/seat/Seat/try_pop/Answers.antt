@@ -34,7 +34,7 @@ invariant_of-self-2 c =
     let is = ap seen_word (c.self.invariant.seat.kept.notes_are.seen_head ∙ ap snapshot c.in-Some.is) in
     record {
       seat = seat_after c.self.inside.bare.me c.exchange-found.new.seat.me c.self.inside.notes _ c.self.inside.geometry.capacity Pop c.exchange-found.result c.args.shared.now c.exchange-found.new.seat.table_id c.self.invariant.seat c.exchange-found.ensures.at c.exchange-found.ensures.event
-          (head_popped c.self.inside.notes (view_in c.self.inside.bare.me.0) (view_in c.exchange-found.new.seat.me.0) c.exchange-found.result c.in-Some.head.word c.head_first.result c.saturating_sub-d.result c.cleared.result c.self.invariant.seat.kept c.exchange-found.ensures.event c.exchange-found.ensures.at.has is c.if-found-head.false c.head_first.ensures c.saturating_sub-d.ensures c.cleared.ensures);
+          (head_popped c.self.inside.notes (view_in c.self.inside.bare.me.0) (view_in c.exchange-found.new.seat.me.0) c.exchange-found.result c.in-Some.head.word c.head_first.result c.saturating_sub-d.result c.cleared-self-inside.result c.self.invariant.seat.kept c.exchange-found.ensures.event c.exchange-found.ensures.at.has is c.if-found-head.false c.head_first.ensures c.saturating_sub-d.ensures c.cleared-self-inside.ensures);
       marks_long = c.self.invariant.marks_long;
       own = popped_owned c.self.inside.owned (with_item c.self.inside.owned.ownerships c.saturating_sub-d.result c.listed.result) (view_in c.self.inside.bare.me.0) (view_in c.exchange-found.new.seat.me.0) c.exchange-found.result c.in-Some.head.word c.in-Some.head.of c.head_first.result c.saturating_sub-d.result c.listed.result c.self.invariant.own c.exchange-found.ensures.event is (ap seen_of (c.self.invariant.seat.kept.notes_are.seen_head ∙ ap snapshot c.in-Some.is)) c.if-found-head.false c.head_first.ensures c.saturating_sub-d.ensures c.listed.ensures refl;
     }

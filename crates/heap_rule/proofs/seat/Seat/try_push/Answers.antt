@@ -39,7 +39,7 @@ invariant_of-self-2 c =
     let is = ap seen_word (c.self.invariant.seat.kept.notes_are.seen_head ∙ ap snapshot c.in-Some.is) in
     record {
       seat = seat_after c.self.inside.bare.me c.exchange-found.new.seat.me c.self.inside.notes _ c.self.inside.geometry.capacity (Push c.args.d) c.exchange-found.result c.args.shared.now c.exchange-found.new.seat.table_id c.self.invariant.seat c.exchange-found.ensures.at c.exchange-found.ensures.event
-          (head_pushed c.self.inside.notes (view_in c.self.inside.bare.me.0) (view_in c.exchange-found.new.seat.me.0) c.args.d c.exchange-found.result c.in-Some.head.word c.cleared.result c.self.invariant.seat.kept c.exchange-found.ensures.event c.exchange-found.ensures.at.has is c.if-found-head.false c.cleared.ensures);
+          (head_pushed c.self.inside.notes (view_in c.self.inside.bare.me.0) (view_in c.exchange-found.new.seat.me.0) c.args.d c.exchange-found.result c.in-Some.head.word c.cleared-self-inside.result c.self.invariant.seat.kept c.exchange-found.ensures.event c.exchange-found.ensures.at.has is c.if-found-head.false c.cleared-self-inside.ensures);
       marks_long = c.self.invariant.marks_long;
       own = pushed_owned c.self.inside.owned (with_item c.self.inside.owned.ownerships c.args.d ownership.Nothing) (view_in c.self.inside.bare.me.0) (view_in c.exchange-found.new.seat.me.0) c.args.d c.exchange-found.result c.in-Some.head.word c.self.invariant.own c.exchange-found.ensures.event is c.if-found-head.false refl;
     }

@@ -22,7 +22,7 @@ invariant_of-self-2 c =
     let is = ap seen (c.self.invariant.seat.kept.notes_are.seen_used ∙ c.in-Some.is) in
     record {
       seat = seat_after c.self.inside.bare.me c.exchange-found.new.seat.me c.self.inside.notes _ c.self.inside.geometry.capacity (TakeFresh c.args.n) c.exchange-found.result c.args.shared.now c.exchange-found.new.seat.table_id c.self.invariant.seat c.exchange-found.ensures.at c.exchange-found.ensures.event
-          (fresh_taken c.self.inside.notes (view_in c.self.inside.bare.me.0) (view_in c.exchange-found.new.seat.me.0) c.args.n c.exchange-found.result c.in-Some.used (c.in-Some.used + c.args.n) c.cleared.result c.self.invariant.seat.kept c.exchange-found.ensures.event c.exchange-found.ensures.at.has is c.if-found-used.false refl c.cleared.ensures);
+          (fresh_taken c.self.inside.notes (view_in c.self.inside.bare.me.0) (view_in c.exchange-found.new.seat.me.0) c.args.n c.exchange-found.result c.in-Some.used (c.in-Some.used + c.args.n) c.cleared-self-inside.result c.self.invariant.seat.kept c.exchange-found.ensures.event c.exchange-found.ensures.at.has is c.if-found-used.false refl c.cleared-self-inside.ensures);
       marks_long = c.self.invariant.marks_long;
       own = fresh_owned c.self.inside.owned c.own_range.new.ownerships (view_in c.self.inside.bare.me.0) (view_in c.exchange-found.new.seat.me.0) c.args.n c.exchange-found.result c.in-Some.used c.self.invariant.own c.exchange-found.ensures.event is c.if-found-used.false c.own_range.ensures;
     }
