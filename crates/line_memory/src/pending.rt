@@ -11,7 +11,7 @@ use std::marker::Model;
 const LINE: u64 = memory::LINE;
 
 /// How many words a page has, and how many marks are looked at together.
-const PAGE: u64 = 512;
+const PAGE: u64 = 1024;
 
 const GROUP: u64 = 64;
 
@@ -123,9 +123,9 @@ fn mark_words(marks: &mut BitMarks, line: u64)
 
 /// The first marked word of the page.
 fn first_marked(marks: &BitMarks, page: u64) -> Option<u64>
-    requires { 512 * page < length marks.now }
-    ensures some { IfSome result (λ word. IsMarked marks.now word × (word / 512 ≡ page)) }
-    ensures none { IsNone result → (k : ℕ) → k / 512 ≡ page → mark_at marks.now k ≡ false }
+    requires { 1024 * page < length marks.now }
+    ensures some { IfSome result (λ word. IsMarked marks.now word × (word / 1024 ≡ page)) }
+    ensures none { IsNone result → (k : ℕ) → k / 1024 ≡ page → mark_at marks.now k ≡ false }
 {
     let groups = marks.len().div_ceil(GROUP);
     let first = PAGE / GROUP * page;

@@ -2,4 +2,4 @@ use Rattle.std.proofs.Common.{◌≡◌, ℕ, ◌*◌, ◌/◌, ◌<◌, ◌≤�
 use Rattle.line_memory.proofs.pending.first_marked.Given as goal
 
 abbrev pub invariant-loop-group : goal.invariant-loop-group
-invariant-loop-group l = (k : ℕ) → 8 * l.page ≤ k / 64 → k / 64 < l.group → get_or l.marks k false ≡ false
+invariant-loop-group l = (k : ℕ) → 16 * l.page ≤ k / 64 → k / 64 < l.group → get_or l.marks k false ≡ false

@@ -7,19 +7,19 @@ pub push_reserved-requires : goal.push_reserved-requires
 push_reserved-requires c =
     let h = c.self.invariant in
     let l : 8 * c.args.line < length c.self.inside.marks = rw c.self.view_is c.requires in
-    let within = page_within c.self.inside.marks _ _ _ (c.args.line / 64) h (omega arith) in
+    let within = page_within c.self.inside.marks _ _ _ (c.args.line / 128) h (omega arith) in
     let off = read_is _ _ _ _ within c.index.ensures c.if-not-index.true in
-    rw c.self.inside.pages.ok.0 (has_room c.self.inside.marks _ _ _ (c.args.line / 64) h within off)
+    rw c.self.inside.pages.ok.0 (has_room c.self.inside.marks _ _ _ (c.args.line / 128) h within off)
 
 pub invariant_of-self : goal.invariant_of-self
 invariant_of-self c =
     let h = c.self.invariant in
     let l : 8 * c.args.line < length c.self.inside.marks = rw c.self.view_is c.requires in
-    let inside : 512 * (c.args.line / 64) < length c.self.inside.marks = omega arith in
-    let within = page_within c.self.inside.marks _ _ _ (c.args.line / 64) h inside in
+    let inside : 1024 * (c.args.line / 128) < length c.self.inside.marks = omega arith in
+    let within = page_within c.self.inside.marks _ _ _ (c.args.line / 128) h inside in
     let off = read_is _ _ _ _ within c.index.ensures c.if-not-index.true in
     let p = c.push_reserved.ensures in
-    let same : (k : ℕ) → k / 512 ≢ c.args.line / 64 → get_or c.mark_words.new.marks k false ≡ get_or c.self.inside.marks k false =
+    let same : (k : ℕ) → k / 1024 ≢ c.args.line / 128 → get_or c.mark_words.new.marks k false ≡ get_or c.self.inside.marks k false =
     λ k other. c.mark_words.ensures.others k (λ here. other (omega (arith, here))) in
-    marked_first c.self.inside.marks c.self.inside.marks c.mark_words.new.marks _ _ _ _ _ (c.args.line / 64) h
+    marked_first c.self.inside.marks c.self.inside.marks c.mark_words.new.marks _ _ _ _ _ (c.args.line / 128) h
     refl c.mark_words.ensures.len same off inside (omega (arith, p.capacity)) p.items
