@@ -44,7 +44,7 @@ use Rattle.crash_core.proofs.ChainSteps.{chain_is, block_fits}
 use Rattle.core_model.proofs.AnchorLemmas as on_anchor
 use Rattle.core_model.proofs.GiveLemmas as gives
 use Rattle.seat_notes.proofs.WordLemmas.{entry_there}
-use Rattle.seat_notes.proofs.NewSeat.{empty_group}
+use Rattle.seat_notes.proofs.NewSeat.{empty_batch}
 
 trimmed_kept : (c : CoreState) (i : ℕ) (t : SeatNotes) (v : View) → IsKept c i t v → IsKept c i t (trimmed v)
 trimmed_kept c i t v h = record {
@@ -206,7 +206,7 @@ module _ (c : CoreState) (k : Setup) (views : List View) (i : ℕ) (v : View) (t
 
             module _ (at_word left : ℕ) (here : at_word ≡ anchor_word d) (left_is : left ≡ given_anchor found ((t.batch.first - start_word c.geometry.capacity d) / words_of_class t.batch.class) t.batch.count (blocks_of t.batch.class)) where
               abbrev t' : SeatNotes
-              t' = record t { ticket = None; seen_anchor = None; batch = empty_group }
+              t' = record t { ticket = None; seen_anchor = None; batch = empty_batch }
 
               test : nat_eq (anchor (memory_in c k) d) (seen_word v.seen_anchor) ≡ true
               test = eq-eqb (anchor (memory_in c k) d) (seen_word v.seen_anchor) as_seen
@@ -223,7 +223,7 @@ module _ (c : CoreState) (k : Setup) (views : List View) (i : ℕ) (v : View) (t
 
               -- a superblock that had free blocks keeps its place
               pub give_kept : v.stopped ≡ None → found ≢ full_anchor
-                  → Steps c (record c { words = with_item c.words at_word left; blocks = blocks; seats = with_item c.seats i (record t { ticket = None; seen_anchor = None; batch = empty_group }) }) k views i v (Give d) Done
+                  → Steps c (record c { words = with_item c.words at_word left; blocks = blocks; seats = with_item c.seats i (record t { ticket = None; seen_anchor = None; batch = empty_batch }) }) k views i v (Give d) Done
               give_kept going part = step_done c c' k views i v t t' (Give d) keeps below at at_t going ticket may as_seen (ap (λ (y : View). y.stopped) is ∙ going) words_are
                   refl (record { capacity = refl; budget = refl; blocks = given_chain.long; superblocks = refl; roots = refl })
                   (subst (IsKept c' i t') (sym is) (trimmed_kept c' i t' w0 (record {
@@ -243,7 +243,7 @@ module _ (c : CoreState) (k : Setup) (views : List View) (i : ℕ) (v : View) (t
 
               -- one that was full comes into the hand
               pub give_full : v.stopped ≡ None → found ≡ full_anchor → (x : SuperblockUsage) → x ≡ listed t.batch.class
-                  → Steps c (record c { words = with_item c.words at_word left; blocks = blocks; superblocks = with_item c.superblocks d (record { seat = i; usage = x }); seats = with_item c.seats i (record t { ticket = None; seen_anchor = None; batch = empty_group }) }) k views i v (Give d) Done
+                  → Steps c (record c { words = with_item c.words at_word left; blocks = blocks; superblocks = with_item c.superblocks d (record { seat = i; usage = x }); seats = with_item c.seats i (record t { ticket = None; seen_anchor = None; batch = empty_batch }) }) k views i v (Give d) Done
               give_full going full x x_is = step_done c c' k views i v t t' (Give d) keeps below at at_t going ticket may as_seen (ap (λ (y : View). y.stopped) is ∙ claimed_going w0 d class ∙ going) words_are
                   refl (record { capacity = refl; budget = refl; blocks = given_chain.long; superblocks = length-set c.superblocks.items d (record { seat = i; usage = x }); roots = refl })
                   (subst (IsKept c' i t') (sym is) (trimmed_kept c' i t' (claimed w0 d class)

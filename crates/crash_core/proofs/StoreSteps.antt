@@ -8,7 +8,7 @@ use Rattle.core_model.specs.declared.event.Event.TheVariants.{Store, Settle}
 use Rattle.crash_core.specs.declared.owners.BlockPlace.{BlockPlace}
 use Rattle.crash_core.specs.declared.owners.BlockPlace.TheVariants as place
 use Rattle.seat_notes.specs.declared.notes.SeatNotes.{SeatNotes}
-use Rattle.seat_notes.specs.declared.notes.Group.{Group}
+use Rattle.seat_notes.specs.declared.notes.BatchEnds.{BatchEnds}
 use Rattle.seat_notes.specs.declared.superblocks.SuperblockUsage.{SuperblockUsage}
 use Rattle.seat_notes.specs.declared.superblocks.SuperblockUsage.TheVariants as usage
 use Rattle.seat_notes.specs.declared.superblocks.SuperblockOwner.{SuperblockOwner}
@@ -189,7 +189,7 @@ module _ (c : CoreState) (k : Setup) (views : List View) (i : ℕ) (v : View) (t
   pub no_link : (word value d : ℕ) → cell_at c.geometry.capacity word ≡ link_cell d → (x : SuperblockUsage) → x ≡ usage_for i (get_or c.superblocks.items d no_superblock) → 0 < cutting_in x → Steps c c k views i v (Store word value) NotNow
   no_link word value d is x x_is some = not_stored word value (link_cell d) is (λ none. let o = (kept.superblocks d).is_cutting in let e = ap cutting_in x_is in omega arith)
 
-  pub data_stored : (word value : ℕ) (b : Group) → cell_at c.geometry.capacity word ≡ data_cell word → IsThere v.ticket → IsOwn v (cell_at v.setup.capacity word) → MayChangeWord v word
+  pub data_stored : (word value : ℕ) (b : BatchEnds) → cell_at c.geometry.capacity word ≡ data_cell word → IsThere v.ticket → IsOwn v (cell_at v.setup.capacity word) → MayChangeWord v word
       → b ≡ record t.batch { linked = cond (nat_eq word t.batch.last) false t.batch.linked }
       → Steps c (record c { words = with_item c.words word value; seats = with_item c.seats i (record t { ticket = None; batch = b }) }) k views i v (Store word value) Done
   data_stored word value b is ticket own may b_is = store_as word value (data_cell word) is (record c { words = with_item c.words word value; seats = with_item c.seats i (record t { ticket = None; batch = b }) })

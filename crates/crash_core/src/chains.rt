@@ -16,7 +16,7 @@ use crate::usages::usage;
 use anchor_word::anchor_count;
 use core_model::StepAnswer;
 use seat_notes::{
-    Cache, Group, NO_BATCH, SeatNotes, SuperblockOwner, SuperblockUsage, anchor_after_give,
+    BatchEnds, Cache, NO_BATCH, SeatNotes, SuperblockOwner, SuperblockUsage, anchor_after_give,
     anchor_after_take_all, first_free,
 };
 use size_table::{SizeClass, blocks_of};
@@ -137,7 +137,7 @@ pub(crate) fn give(core: &mut CoreState, seat: usize, d: u64) -> StepAnswer
         seat,
         place: BlockPlace::Nowhere,
     };
-    let Group { first, count, .. } = batch;
+    let BatchEnds { first, count, .. } = batch;
     give_chain(&core.words, &mut core.blocks, first, count, owner);
     core.words[core.geometry.anchor(d) as usize] = given;
     core.seats[seat] = SeatNotes {

@@ -12,7 +12,7 @@ use crate::owners::{BlockOwner, BlockPlace};
 use crate::reads::{info, next};
 use crate::state::CoreState;
 use crate::usages::place;
-use seat_notes::{Cache, Group, SeatNotes};
+use seat_notes::{BatchEnds, Cache, SeatNotes};
 use super_block::{LAST_CLASS, SUPERBLOCK_WORDS};
 
 /// Whether the seat may hold the first block of the cache.
@@ -157,7 +157,7 @@ pub(crate) fn lift(core: &mut CoreState, seat: usize, class: u64)
         first,
         count: cache.count - 1,
     };
-    let batch = Group {
+    let batch = BatchEnds {
         descriptor: d,
         class,
         first: notes.batch.first_with(cache.first),

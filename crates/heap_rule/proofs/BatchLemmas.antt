@@ -17,7 +17,7 @@ use Rattle.core_model.proofs.BlockLemmas.{first_there}
 use Rattle.core_model.proofs.GiveLemmas as gives
 use Rattle.core_model.proofs.SoundLemmas.{batched}
 use Rattle.seat_notes.specs.declared.notes.SeatNotes.{SeatNotes}
-use Rattle.seat_notes.proofs.NewSeat.{empty_group}
+use Rattle.seat_notes.proofs.NewSeat.{empty_batch}
 use Rattle.heap_table.specs.Plays.{HasSoundState, IsEvent}
 use Rattle.heap_rule.specs.Seated.{Fits, IsKeptOf}
 use Rattle.heap_table.specs.AtTable.{IsExchange}
@@ -102,20 +102,20 @@ trims notes v f = record {
 }
 
 pub batch_given : (notes : SeatNotes) (v w : View) (d found word : ℕ) → IsKeptOf notes v → IsEvent (Give d) v found w → HasSoundState w → seen_word v.seen_anchor ≡ word → found ≡ word
-    → IsKeptOf (record notes { ticket = None; seen_anchor = None; batch = empty_group }) w
+    → IsKeptOf (record notes { ticket = None; seen_anchor = None; batch = empty_batch }) w
 batch_given notes v w d found word kept event has is same =
     keep_fits _ _ w (event.after ∙ hit found (seen_word v.seen_anchor) (given v d) _ (same ∙ sym is)) has (trims _ _ (by_state (nat_eq (seen_word v.seen_anchor) full_anchor))) where
       x : View
       x = record (won v) { batch = no_batch; seen_anchor = None; gives = v.gives + 1 }
 
-      fits : Fits (record notes { ticket = None; seen_anchor = None; batch = empty_group }) x
+      fits : Fits (record notes { ticket = None; seen_anchor = None; batch = empty_batch }) x
       fits = record {
         notes_are = record { ticket = refl; stopped = kept.notes_are.stopped; seen_used = kept.notes_are.seen_used; seen_head = kept.notes_are.seen_head; seen_link = kept.notes_are.seen_link; seen_anchor = refl };
         caches = kept.caches;
         batch = record { descriptor = refl; class = refl; first = refl; last = refl; count = refl; linked = refl };
       }
 
-      by_state : (full : Bool) → Fits (record notes { ticket = None; seen_anchor = None; batch = empty_group }) (cond full (claimed x d v.batch.class) x)
+      by_state : (full : Bool) → Fits (record notes { ticket = None; seen_anchor = None; batch = empty_batch }) (cond full (claimed x d v.batch.class) x)
       by_state true = claims _ x d v.batch.class fits
       by_state false = fits
 

@@ -7,7 +7,7 @@ use Rattle.core_model.specs.View.{View, times_own}
 use Rattle.core_model.specs.Effects.{last_of, learn, stored, used_up}
 use Rattle.core_model.specs.Guards.{IsOwn}
 use Rattle.core_model.proofs.PlaceLemmas.{cell_at_index, index_at, cell_there}
-use Rattle.seat_notes.specs.declared.notes.Group.{Group}
+use Rattle.seat_notes.specs.declared.notes.BatchEnds.{BatchEnds}
 use Rattle.seat_notes.specs.declared.notes.SeatNotes.{SeatNotes}
 use Rattle.seat_notes.specs.Notes.{HasCaches, HasBatch}
 use Rattle.heap_table.specs.Plays.{HasSoundState, IsEvent}
@@ -33,7 +33,7 @@ not_last v s word cell is own other last = elim (cases_lt 0 (length v.batch.bloc
       let z : 0 < times_own v (cell_at v.setup.capacity 0) = subst (λ n. 0 < times_own v (cell_at v.setup.capacity n)) zero_word o in omega arith)
 ]
 
-pub word_stored : (notes : SeatNotes) (v w : View) (word value found : ℕ) (batch : Group) → IsKeptOf notes v → IsEvent (Store word value) v found w → HasSoundState w → IsOwn v (cell_at v.setup.capacity word)
+pub word_stored : (notes : SeatNotes) (v w : View) (word value found : ℕ) (batch : BatchEnds) → IsKeptOf notes v → IsEvent (Store word value) v found w → HasSoundState w → IsOwn v (cell_at v.setup.capacity word)
     → batch ≡ record notes.batch { linked = cond (nat_eq word notes.batch.last) false notes.batch.linked } → IsKeptOf (record notes { ticket = None; batch = batch }) w
 word_stored notes v w word value found batch kept event has own batch_is =
     keep_fits _ _ w event.after has (by_cell (cell_at v.setup.capacity word) refl own) where

@@ -31,7 +31,9 @@ use crate::stacks::Stack;
 use anchor_word::{anchor_count, unpack};
 use core_model::Event;
 use heap_table::{Shared, TableSeat, exchange, read};
-use seat_notes::{Cache, Group, NO_BATCH, anchor_after_give, anchor_after_take_all, first_free};
+use seat_notes::{
+    BatchEnds, Cache, NO_BATCH, anchor_after_give, anchor_after_take_all, first_free,
+};
 use size_table::{SizeClass, blocks_of};
 use super_block::{Geometry, block_words};
 
@@ -161,7 +163,7 @@ fn anchor_with_batch(
     geometry: Geometry,
     d: u64,
     class: SizeClass,
-    batch: Group,
+    batch: BatchEnds,
     anchor: u64,
 ) -> Option<u64>
     requires d { d < geometry.capacity }

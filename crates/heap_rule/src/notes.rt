@@ -5,7 +5,7 @@ ghost use Rattle.std.specs.Prelude.{◌<◌, ◌≤◌, ◌+◌, length};
 ghost use Rattle.heap_rule.specs.Changed.{CanNote, CanUncache, IsNoted, IsUncached};
 
 use crate::owned::Change;
-use seat_notes::{Cache, Group, SeatNotes, Seen};
+use seat_notes::{BatchEnds, Cache, SeatNotes, Seen};
 use size_table::blocks_of;
 use super_block::{Geometry, SUPERBLOCK_WORDS};
 
@@ -29,7 +29,7 @@ pub(crate) fn note(notes: &mut SeatNotes, geometry: Geometry, change: Change)
             first,
         } => {
             uncache(notes, class, first);
-            notes.batch = Group {
+            notes.batch = BatchEnds {
                 descriptor: (block - geometry.start(0)) / SUPERBLOCK_WORDS,
                 class,
                 first: notes.batch.first_with(block),

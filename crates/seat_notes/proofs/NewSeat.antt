@@ -5,14 +5,14 @@ use Rattle.seat_notes.specs.declared.notes.Cache.{Cache}
 use Rattle.seat_notes.specs.declared.notes.SeatNotes.{SeatNotes}
 use Rattle.core_model.specs.View.{of_class}
 use Rattle.seat_notes.specs.Notes.{HasCaches}
-use Rattle.seat_notes.specs.declared.notes.Group.{Group}
+use Rattle.seat_notes.specs.declared.notes.BatchEnds.{BatchEnds}
 use Rattle.std.proofs.lemmas.List.{get_or-replicate, length-replicate}
 
 abbrev pub no_cache : Cache
 no_cache = record { first = 0; count = 0 }
 
-abbrev pub empty_group : Group
-empty_group = record { descriptor = 0; class = 0; first = 0; last = 0; count = 0; linked = false }
+abbrev pub empty_batch : BatchEnds
+empty_batch = record { descriptor = 0; class = 0; first = 0; last = 0; count = 0; linked = false }
 
 -- a seat that has done nothing yet
 abbrev pub new_seat : SeatNotes
@@ -24,7 +24,7 @@ new_seat = record {
   seen_link = None;
   seen_anchor = None;
   caches = replicate lists no_cache;
-  batch = empty_group;
+  batch = empty_batch;
 }
 
 pub no_caches : HasCaches (replicate lists no_cache) (replicate lists [])

@@ -3,7 +3,7 @@ use Rattle.std.specs.Prelude.{◌≡◌, ℕ, ◌<◌, ◌≤◌, List, get_or, 
 use Rattle.heap_model.specs.Geometry.{lists}
 use Rattle.seat_notes.specs.declared.notes.Seen.{Seen}
 use Rattle.seat_notes.specs.declared.notes.Cache.{Cache}
-use Rattle.seat_notes.specs.declared.notes.Group.{Group}
+use Rattle.seat_notes.specs.declared.notes.BatchEnds.{BatchEnds}
 use Rattle.seat_notes.specs.declared.notes.SeatNotes.{SeatNotes}
 use Rattle.core_model.specs.View.{View, Batch, Snapshot, of_class}
 use Rattle.core_model.specs.Effects.{first_of, last_of}
@@ -28,7 +28,7 @@ pub record HasCaches (kept : List Cache) (caches : List (List ℕ)) : Type 0 whe
       → first_of (of_class caches class) ≡ c.first
   pub count : (class : ℕ) (c : Cache) → get_or kept class c ≡ c → class < lists → length (of_class caches class) ≡ c.count
 
-pub record HasBatch (kept : Group) (batch : Batch) : Type 0 where
+pub record HasBatch (kept : BatchEnds) (batch : Batch) : Type 0 where
   pub descriptor : batch.descriptor ≡ kept.descriptor
   pub class : batch.class ≡ kept.class
   pub first : first_of batch.blocks ≡ kept.first

@@ -21,9 +21,9 @@ pub struct Cache {
     pub count: u64,
 }
 
-/// Blocks of one superblock on their way to its anchor.
+/// The ends of a batch: of blocks of one superblock on their way to its anchor.
 #[derive(Clone, Copy)]
-pub struct Group {
+pub struct BatchEnds {
     pub descriptor: u64,
     pub class: u64,
     pub first: u64,
@@ -46,7 +46,7 @@ pub struct SeatNotes {
     pub seen_anchor: Option<Seen>,
     /// The cache of each class.
     pub caches: [Cache; LISTS as usize],
-    pub batch: Group,
+    pub batch: BatchEnds,
 }
 
 impl Seen {
@@ -64,7 +64,7 @@ impl Seen {
     }
 }
 
-impl Group {
+impl BatchEnds {
     /// The first block once another is behind the last.
     pub fn first_with(self, block: u64) -> u64
         ensures { result ≡ cond (nat_eq self.count 0) block self.first }
@@ -73,11 +73,11 @@ impl Group {
     }
 
     /// The batch after a store to a word: one to the first word of its last block ends that link.
-    pub fn stored(self, word: u64) -> Group
+    pub fn stored(self, word: u64) -> BatchEnds
         ensures { result ≡ record self { linked = cond (nat_eq word self.last) false self.linked } }
     {
         if word == self.last {
-            Group {
+            BatchEnds {
                 linked: false,
                 ..self
             }
@@ -88,7 +88,7 @@ impl Group {
 }
 
 /// A batch of no blocks.
-pub const NO_BATCH: Group = Group {
+pub const NO_BATCH: BatchEnds = BatchEnds {
     descriptor: 0,
     class: 0,
     first: 0,
