@@ -1,10 +1,9 @@
-//! Recovery whose superblocks are looked through by threads, each a piece of the heap.
+//! Recovery whose marks are looked through by threads, each a piece of the heap.
 #![tactic(auto)]
 
-mod bounds;
-mod ends;
-mod joining;
-mod pieces;
+mod marked;
+mod pass;
 mod recovery;
+mod surveys;
 
 pub use recovery::{recover_owned_par, recover_par};

@@ -12,7 +12,7 @@ ghost use Rattle.region_header.specs.Migration.{current_words};
 ghost use Rattle.heap_recover.specs.Fault.{TellsFault};
 ghost use Rattle.heap_recover.specs.Answer.{IsMadeOf};
 
-use crate::joining::InPieces;
+use crate::pass::InPieces;
 use filter_trace::Filter;
 use heap_recover::{RecoverFault, Recovered, Was, recover_by, recover_owned_by};
 use std::alloc::Global;
