@@ -1,1 +1,2 @@
 pub mod MarkedLemmas
+pub mod StoredLemmas

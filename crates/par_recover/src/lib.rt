@@ -4,6 +4,7 @@
 mod marked;
 mod pass;
 mod recovery;
+mod room;
 mod surveys;
 
 pub use recovery::{recover_owned_par, recover_par};

@@ -12,9 +12,9 @@ ghost use Rattle.par_recover.specs.Marked.{TellsAll};
 use crate::marked::marked_blocks;
 use crate::surveys::survey_marked;
 use filter_trace::Marks;
-use heap_recover::{Found, InOrder, TakenPass, rebuild_superblock};
-use rayon::current_num_threads;
+use heap_recover::{Found, TakenPass, rebuild_superblock};
 use std::alloc::{AllocError, Global};
+use std::cell::Cell;
 use std::thread::Threads;
 use super_block::{Block, Geometry};
 
@@ -22,6 +22,8 @@ use super_block::{Block, Geometry};
 #[derive(Drop)]
 pub struct InPieces<'rt, R> {
     pub rt: &'rt R,
+    /// Room for the kept blocks.
+    pub room: Cell<Vec<Block>>,
 }
 
 impl<'rt, R: Threads + Sync> TakenPass for InPieces<'rt, R> {
@@ -35,19 +37,10 @@ impl<'rt, R: Threads + Sync> TakenPass for InPieces<'rt, R> {
         used: u64,
         marks: &Marks,
     ) -> Result<Found, AllocError> {
-        if current_num_threads(self.rt) == 1 {
-            return InOrder.rebuild_taken(alloc, words, geometry, used, marks);
-        }
         let marked = marked_blocks(self.rt, alloc, words, geometry, used, marks)?;
-        rebuild_marked(
-            alloc,
-            words,
-            geometry,
-            used,
-            marks,
-            &marked,
-            Vec::new(alloc),
-        )
+        let mut held = self.room.replace(Vec::new(alloc));
+        held.clear();
+        rebuild_marked(alloc, words, geometry, used, marks, &marked, held)
     }
 }
 

@@ -1,22 +1,33 @@
 //! The calls that recover an image with the superblocks looked through by threads.
-ghost use Rattle.std.specs.Prelude.{◌≡◌, ◌↔◌, ◌<◌, ◌*◌, ℕ, All, Some, Err, length, slice_index, IfOk, OnOk, IfErr};
+ghost use Rattle.std.specs.Prelude.{◌≡◌, ◌↔◌, ◌<◌, ◌*◌, ◌^◌, ℕ, All, Some, Err, IsTrue, length, slice_index, IfOk, OnOk, IfErr};
 ghost use Rattle.heap_model.specs.declared.block.Block.{Block};
 ghost use Rattle.heap_model.specs.declared.header.BadHeader.{BadHeader};
 ghost use Rattle.heap_model.specs.Geometry.{roots, clean};
-ghost use Rattle.heap_model.specs.Header.{IsWellFormed, HasGoodHeader, HasKindsBelow, header_fault, state_of};
+ghost use Rattle.heap_model.specs.Header.{IsWellFormed, HasGoodHeader, HasKindsBelow, header_fault, kinds_of, state_of};
 ghost use Rattle.heap_model.specs.Blocks.{layout_of};
 ghost use Rattle.heap_model.specs.Reach.{IsOutsideIn, IsReachedIn};
 ghost use Rattle.heap_model.specs.Recovered.{IsFreeSuperblock, AreAscending};
 ghost use Rattle.heap_model.specs.Recovery.{IsRecovered};
 ghost use Rattle.region_header.specs.Migration.{current_words};
-ghost use Rattle.heap_recover.specs.Fault.{TellsFault};
+ghost use Rattle.super_block.specs.Division.{Describes};
+ghost use Rattle.filter_trace.specs.Reached.{AreReached};
+ghost use Rattle.heap_recover.specs.Fault.{TellsFault, TellsOutsideIn};
 ghost use Rattle.heap_recover.specs.Answer.{IsMadeOf};
 
 use crate::pass::InPieces;
-use filter_trace::Filter;
-use heap_recover::{RecoverFault, Recovered, Was, recover_by, recover_owned_by};
+use crate::room::{expected_blocks, room_for};
+use filter_trace::{Filter, Marks, trace};
+use heap_recover::{
+    InOrder, RecoverFault, Recovered, Was, current_copy, keep_marked, recover_current,
+};
+use rayon::current_num_threads;
+use region_header::{current, read_header};
 use std::alloc::Global;
-use std::thread::Threads;
+use std::cell::Cell;
+use std::thread::{Threads, join};
+
+/// Where fewer blocks than these are expected, one thread recovers the image.
+const FEW_BLOCKS: usize = 16_384;
 
 /// Recovers an image as `heap_recover::recover` does, with the same heap, the same answers and the
 /// same causes. The trace runs in one thread; then each processor looks through a piece of the
@@ -65,7 +76,10 @@ pub fn recover_par<R: Threads + Sync, F: Filter + Sync>(
         → header_fault (Some F.KINDS) (8 * length words.now) (slice_index words.now) ≡ Some cause
         → result ≡ Err (RecoverFault.Header cause) }
 {
-    recover_by(alloc, words, kinds, filter, &InPieces { rt })
+    // A bad header is told before there is memory for a copy.
+    let header = read_header(words, Some(F::KINDS))?;
+    let current = current_copy(alloc, words, header.version, kinds)?;
+    recover_current_par(rt, alloc, current, header.clean, filter)
 }
 
 /// The same in the room of the image, which is gone where it is refused.
@@ -102,5 +116,69 @@ pub fn recover_owned_par<R: Threads + Sync, F: Filter + Sync>(
         ≡ Some cause
         → result ≡ Err (RecoverFault.Header cause) }
 {
-    recover_owned_by(alloc, words, kinds, filter, &InPieces { rt })
+    let header = read_header(&words, Some(F::KINDS))?;
+    let current = current(words, kinds)?;
+    recover_current_par(rt, alloc, current, header.clean, filter)
+}
+
+/// Recovers an image of this version with a good header, of which it is known whether it was closed.
+fn recover_current_par<R: Threads + Sync, F: Filter + Sync>(
+    rt: &R,
+    alloc: Global,
+    words: Vec<u64>,
+    closed: bool,
+    filter: &F,
+) -> Result<Recovered, RecoverFault>
+    requires formed { IsWellFormed (8 * length words.items) (slice_index words.items) }
+    requires below { HasKindsBelow (Some F.KINDS) (slice_index words.items) }
+    requires few { F.KINDS < 2 ^ 32 }
+    requires closed { IsTrue closed ↔ (state_of (slice_index words.items) ≡ clean) }
+    ensures ok { IfOk result (IsMadeOf words.items
+        (IsReachedIn (slice_index words.items) (F.links_of filter.now))) }
+    ensures kinds { IfOk result (λ answer.
+        HasKindsBelow (Some F.KINDS) (slice_index answer.heap.words)) }
+    ensures none { OnOk result ((at : ℕ) → IsOutsideIn (slice_index words.items)
+        (F.links_of filter.now) at → ⊥) }
+    ensures cause { IfErr result
+        (TellsOutsideIn (slice_index words.items) (F.links_of filter.now)) }
+{
+    let expected = expected_blocks(&words);
+    if current_num_threads(rt) == 1 || expected < FEW_BLOCKS {
+        return recover_current(alloc, words, closed, filter, &InOrder);
+    }
+    let (room, marks) = join(
+        rt,
+        || room_for(alloc, expected),
+        || -> Result<Marks, RecoverFault>
+            requires { IsWellFormed (8 * length words.items) (slice_index words.items)
+                × HasKindsBelow (Some F.KINDS) (slice_index words.items)
+                × (F.KINDS < 2 ^ 32) }
+        { trace_stored(alloc, &words, filter) },
+    );
+    let marks = marks?;
+    let pass = InPieces {
+        rt,
+        room: Cell::new(room?),
+    };
+    let recovered = keep_marked(alloc, words, &marks, closed, &pass)?;
+    Ok(recovered)
+}
+
+/// Traces an image by the kinds that it stores.
+fn trace_stored<F: Filter>(alloc: Global, words: &[u64], filter: &F) -> Result<Marks, RecoverFault>
+    requires formed { IsWellFormed (8 * length words.now) (slice_index words.now) }
+    requires below { HasKindsBelow (Some F.KINDS) (slice_index words.now) }
+    requires few { F.KINDS < 2 ^ 32 }
+    ensures ok { IfOk result (λ marks. AreReached (slice_index words.now)
+        (kinds_of (slice_index words.now)) (F.links_of filter.now) marks.pairs) }
+    ensures described { IfOk result (λ marks.
+        Describes marks.directory (layout_of (slice_index words.now))) }
+    ensures none { OnOk result ((at : ℕ) → IsOutsideIn (slice_index words.now)
+        (F.links_of filter.now) at → ⊥) }
+    ensures cause { IfErr result
+        (TellsOutsideIn (slice_index words.now) (F.links_of filter.now)) }
+{
+    let stored = root_table::kinds(words);
+    let marks = trace(alloc, words, &stored, filter)?;
+    Ok(marks)
 }
