@@ -4,8 +4,8 @@ block is reached, with 1, 2 and 4 processors (taskset).
 
 rt proves and builds the text timed_parallel.txt in a scratch clone: it recovers an image again and again by both, and looks
 at the clock before and behind the pass over the taken superblocks in one thread. Each figure is the median of RUNS
-processes that take turns, of CALLS recoveries each. All but the pass is the same by threads, so what that takes there
-is reckoned: the whole by threads, less the other parts.
+processes that take turns, of CALLS recoveries each. What the pass takes by threads is reckoned: the whole by threads, less
+the other parts.
 
 usage: recovering.py [RUNS [CALLS [SUPERBLOCKS..]]]      (make comes first)
 """
@@ -41,16 +41,10 @@ def tell(series, sizes, processors):
     print("| superblocks | processors | in one thread | by threads | times | reached | pass | pass by threads | rest, lists |")
     print("|---|---|---|---|---|---|---|---|---|")
     for size in sizes:
-        passes = {}
         for count in processors:
-            whole, threads, before, taken, passes[count], behind = reckon(series[size, count])
-            cells = (f"{ms:,.1f}" for ms in (before, taken, passes[count], behind))
+            whole, threads, *parts = reckon(series[size, count])
+            cells = (f"{ms:,.1f}" for ms in parts)
             print(f"| {size:,} | {count} | {whole:,.1f} | {threads:,.1f} | {threads / whole:.2f} | {' | '.join(cells)} |")
-        least, most = processors[0], processors[-1]
-        if least < most:
-            # as if surveys took least / most of the time there, and nothing else changed
-            surveys = (passes[least] - passes[most]) / (1 - least / most)
-            print(f"{size:,} superblocks: as if {surveys:,.1f} ms of the pass were shared out, and {passes[least] - surveys:,.1f} ms not")
 
 
 def main(runs="5", calls="3", *sizes):
