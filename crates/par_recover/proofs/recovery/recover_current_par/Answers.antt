@@ -1,4 +1,4 @@
-use Rattle.std.proofs.Common.{rules, ◌≡◌, ℕ, ◌<◌, Some, slice_index}
+use Rattle.std.proofs.Common.{rules, Some, slice_index}
 use Rattle.heap_model.specs.Header.{kinds_of}
 use Rattle.heap_model.specs.Reach.{IsReachedIn}
 use Rattle.filter_trace.specs.Reached.{AreReached}

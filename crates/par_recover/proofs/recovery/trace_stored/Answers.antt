@@ -1,4 +1,4 @@
-use Rattle.std.proofs.Common.{◌≡◌, ℕ, ◌<◌, Some, slice_index, List, subst, sym, arith}
+use Rattle.std.proofs.Common.{Some, slice_index, arith}
 use Rattle.std.proofs.lemmas.Result.{err_from_is_err_and}
 use Rattle.region_header.proofs.KindLemmas.{below_stored}
 use Rattle.par_recover.proofs.StoredLemmas.{reached_stored, outside_traced, tells_stored}
