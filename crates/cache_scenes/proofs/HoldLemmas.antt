@@ -32,31 +32,6 @@ holds_less given left b i v w frees none less at is holds = record {
   moves : IsPermutation given (b ∷ left)
   moves = subst (λ l. IsPermutation given (b ∷ l)) (sym is) (IsPermutation-swap_remove given i b less at)
 
--- the last of all seats, and the last but one
-pub last_in : (all rest : List SeatView) (last : SeatView) → all ≡ rest ++ last ∷ [] → Contains all last
-last_in all rest last split = subst (λ l. Contains l last) (sym split) (Contains-append_right rest (last ∷ []) last (in_head last []))
-
-pub other_in : (all rest fewer : List SeatView) (last other : SeatView) → all ≡ rest ++ last ∷ [] → rest ≡ fewer ++ other ∷ [] → Contains all other
-other_in all rest fewer last other split again = subst (λ l. Contains l other) (sym split) (Contains-append_left rest (last ∷ []) other (last_in rest fewer other again))
-
--- two seats are all seats of a heap of two
-pub pair_of : (shared : SharedView) (first second : SeatView) → shared.opening.seats ≡ 2 → IsSeatOf shared first → IsSeatOf shared second → AreSeatsOf shared (first ∷ second ∷ [])
-pair_of shared first second two one other = record { count = sym two; each = λ s p. by_index s p.0 p.1 p.2 } where
-  by_index : (s : SeatView) (j : ℕ) → j < 2 → get_or (first ∷ second ∷ []) j s ≡ s → IsSeatOf shared s
-  by_index s zero less at = subst (IsSeatOf shared) at one
-  by_index s (suc zero) less at = subst (IsSeatOf shared) at other
-  by_index s (suc (suc j)) less at = absurd (omega (arith, less))
-
--- of two seats, the last but one is the first
-pub first_at : (all rest fewer : List SeatView) (last other : SeatView) → all ≡ rest ++ last ∷ [] → rest ≡ fewer ++ other ∷ [] → length all ≡ 2 → get_or all 0 other ≡ other
-first_at all rest [] last other split again two = ap (λ l. get_or l 0 other) (split ∙ ap (λ l. l ++ last ∷ []) again)
-first_at all rest (x ∷ fewer) last other split again two =
-    let outer = length-append rest (last ∷ []) in
-    let inner = length-append (x ∷ fewer) (other ∷ []) in
-    let long = ap length split in
-    let longer = ap length again in
-    absurd (omega (arith, two, long, outer, longer, inner))
-
 -- a seat of an opened heap has the roots that are its own
 pub has_roots : (setup : Setup) (held : List Block) (block_owners root_owners : List ℕ) (i : ℕ) (v : CoreView) (root : ℕ) → v ≡ opened_view setup held block_owners root_owners i → root < roots → get_or root_owners root (i + 1) ≡ i → Contains v.roots root
 has_roots setup held block_owners root_owners i v root is inside owner = times_some root v.roots

@@ -1,25 +1,25 @@
 //! The same steps by two seats of a shared heap, and by the core of the heap, with each number of
 //! tickets: what loads see, and what a crash leaves.
 
-ghost use Rattle.std.specs.Prelude.{◌<◌, ◌≤◌};
-
 use crate::fixtures::{MANY, must_hold, owners_in_turn, recovered};
-use crate::meeting::{Scene, play_scene};
+use crate::scenes::{Scene, play_scene};
 use core_model::{Event, StepAnswer};
 use crash_core::Core;
-use line_memory::ConstantChance;
+use image_text::{anchor_word, link_word};
+use line_memory::{Closed, ConstantChance};
 use std::alloc::{AllocError, Global};
 use std::process::Abort;
 use std::test::Fail;
 use std::thread::Threads;
-use super_block::{DIRTY, Geometry, HEAD_WORD, LISTS, STATE_WORD};
+use super_block::{DIRTY, HEAD_WORD, LISTS, STATE_WORD};
 use trace_text::{Schedule, parse_schedule};
 
 /// Two seats trade the blocks of a superblock that was never taken: a batch and all free blocks are
 /// each exchanged once in vain.
 const TRADE: Scene<'static> = Scene {
+    capacity: 1,
     words: "",
-    order: "a23 b6 a5 b8 a4 b4 a7 b",
+    order: "23 6 5 8 4 4 7",
     first: "take 14336 2, quiet, free 1, quiet, free 1, quiet",
     second: "take 14336 1, quiet, take 14336 1",
     drawn: 0,
@@ -93,8 +93,9 @@ const TRADED: &str = "seats 2
 /// A seat holds a large block and frees it, and publishes a block of one of its superblocks for a
 /// while. What it frees the other seat takes.
 const SPLIT: Scene<'static> = Scene {
+    capacity: 2,
     words: "",
-    order: "a b",
+    order: "-",
     first: "take 131072 1, free 1, take 14336 1, put 0, clear 0, free 1",
     second: "take 14336 1",
     drawn: 0,
@@ -184,38 +185,26 @@ fn take_drawn(core: &mut Core, seat: usize, event: Event) -> Result<bool, Fail> 
     Ok(!matches!(answer, StepAnswer::Stopped { .. }))
 }
 
-/// The core of a heap that is opened for two seats, behind all steps that so many tickets allow.
-fn core_behind(
-    alloc: Global,
-    capacity: u64,
-    words: &str,
-    steps: &Schedule,
-    budget: u64,
-) -> Result<Core, Fail>
-    requires some { 1 ≤ capacity }
-    requires small { capacity ≤ 32 }
-    requires budget { budget < 1099511627776 }
-{
-    let heap = recovered(alloc, capacity, words)?;
+/// The core of a heap that is opened for two seats, with so many tickets.
+fn core_of(alloc: Global, scene: &Scene<'_>, budget: u64) -> Result<Core, Fail> {
+    if budget > MANY {
+        return Err("too many tickets".into());
+    }
+    let heap = recovered(alloc, scene.capacity, scene.words)?;
     let owners = owners_in_turn(alloc, &heap, 2)?;
-    let mut core = Core::of(alloc, &heap, &owners, 2, budget)?;
+    Ok(Core::of(alloc, &heap, &owners, 2, budget)?)
+}
+
+/// All steps that the tickets allow.
+fn take_all(core: &mut Core, steps: &[(usize, Event)]) -> Result<(), Fail> {
     let mut goes_on = [true; 2];
-    for (seat, event) in &steps.lines {
+    for (seat, event) in steps {
         match goes_on.get_mut(*seat) {
-            Some(goes_on) if *goes_on => *goes_on = take_drawn(&mut core, *seat, *event)?,
+            Some(goes_on) if *goes_on => *goes_on = take_drawn(core, *seat, *event)?,
             _ => {}
         }
     }
-    Ok(core)
-}
-
-/// Where the words of a heap of so many superblocks stand.
-#[tactic(auto, unfolding(heap_model::specs::Geometry::largest_capacity))]
-fn geometry_of(capacity: u64) -> Geometry
-    requires some { 1 ≤ capacity }
-    requires small { capacity ≤ 32 }
-{
-    Geometry::new(capacity)
+    Ok(())
 }
 
 /// Stores to the word, if the image has it.
@@ -225,15 +214,16 @@ fn put(image: &mut [u64], word: u64, value: u64) {
     }
 }
 
-/// What a crash leaves of the durable words, where it leaves 0 in heads, anchors and links.
-fn crashed(alloc: Global, kept: &[u64], geometry: Geometry) -> Result<Vec<u64>, AllocError> {
+/// What a crash leaves of the durable words of so many superblocks, where it leaves 0 in heads,
+/// anchors and links.
+fn crashed(alloc: Global, kept: &[u64], capacity: u64) -> Result<Vec<u64>, AllocError> {
     let mut image = Vec::from_slice(alloc, kept)?;
     for head in HEAD_WORD..HEAD_WORD + LISTS {
         put(&mut image, head, 0);
     }
-    for d in 0..geometry.capacity() {
-        put(&mut image, geometry.anchor(d), 0);
-        put(&mut image, geometry.link(d), 0);
+    for d in 0..capacity {
+        put(&mut image, anchor_word(d), 0);
+        put(&mut image, link_word(d), 0);
     }
     put(&mut image, STATE_WORD, DIRTY);
     Ok(image)
@@ -246,47 +236,68 @@ fn shows(core: &Core, now: &[u64]) -> bool {
         .all(|(word, value)| core.volatile(word as u64) == *value)
 }
 
-/// Plays a scene and its steps with so many tickets, and asserts that both leave the same. How many
+/// Whether a crash leaves the same of the core as of these durable words.
+fn leaves(alloc: Global, core: &Core, kept: &[u64], capacity: u64) -> Result<bool, Fail> {
+    let image = core.image(alloc, &mut ConstantChance(0))?;
+    let wanted = crashed(alloc, kept, capacity)?;
+    Ok(image.as_slice() == wanted.as_slice())
+}
+
+/// The core behind all steps that so many tickets allow.
+fn core_behind(
+    alloc: Global,
+    scene: &Scene<'_>,
+    steps: &[(usize, Event)],
+    budget: u64,
+) -> Result<Core, Fail> {
+    let mut core = core_of(alloc, scene, budget)?;
+    take_all(&mut core, steps)?;
+    Ok(core)
+}
+
+/// Asserts that both leave the same.
+fn must_leave(
+    rt: &(impl Abort + AllocGlobal),
+    core: &Core,
+    closed: &Closed,
+    capacity: u64,
+) -> Result<(), Fail> {
+    let same = leaves(rt.alloc(), core, &closed.kept, capacity)?;
+    must_hold(rt, same, "what a crash leaves");
+    must_hold(rt, shows(core, &closed.now), "what loads see");
+    Ok(())
+}
+
+/// Plays a scene and its steps with so many tickets, and asserts that both are the same. How many
 /// were drawn.
 fn must_agree<R: Threads + Sync + Abort + AllocGlobal>(
     rt: &R,
-    capacity: u64,
     scene: &Scene<'_>,
-    steps: &Schedule,
+    steps: &[(usize, Event)],
     budget: u64,
-) -> Result<u64, Fail>
-    requires some { 1 ≤ capacity }
-    requires small { capacity ≤ 32 }
-    requires budget { budget < 1099511627776 }
-{
-    let core = core_behind(rt.alloc(), capacity, scene.words, steps, budget)?;
-    let ([first, second], left) = play_scene(rt, rt.alloc(), capacity, scene, budget)?;
+) -> Result<u64, Fail> {
+    let core = core_behind(rt.alloc(), scene, steps, budget)?;
+    let ([first, second], left) = play_scene(rt, rt.alloc(), scene, budget)?;
     let drawn = first.wrapping_add(second);
     must_hold(rt, core.tickets() == drawn, "the tickets");
-    must_hold(rt, shows(&core, &left.closed.now), "what loads see");
-    let image = core.image(rt.alloc(), &mut ConstantChance(0))?;
-    let wanted = crashed(rt.alloc(), &left.closed.kept, geometry_of(capacity))?;
-    must_hold(
-        rt,
-        image.as_slice() == wanted.as_slice(),
-        "what a crash leaves",
-    );
+    must_leave(rt, &core, &left.closed, scene.capacity)?;
     Ok(drawn)
+}
+
+/// The steps that a text writes.
+fn steps_of(alloc: Global, told: &str) -> Result<Schedule, Fail> {
+    Ok(parse_schedule(alloc, told.as_bytes()).map_err(|_fault| "no schedule")?)
 }
 
 /// Plays a scene and its steps with each number of tickets till none stops.
 fn must_always_agree<R: Threads + Sync + Abort + AllocGlobal>(
     rt: &R,
-    capacity: u64,
     scene: &Scene<'_>,
     told: &str,
-) -> Result<(), Fail>
-    requires some { 1 ≤ capacity }
-    requires small { capacity ≤ 32 }
-{
-    let steps = parse_schedule(rt.alloc(), told.as_bytes()).map_err(|_fault| "no schedule")?;
+) -> Result<(), Fail> {
+    let steps = steps_of(rt.alloc(), told)?;
     for budget in 0..MANY {
-        if must_agree(rt, capacity, scene, &steps, budget)? <= budget {
+        if must_agree(rt, scene, &steps.lines, budget)? <= budget {
             return Ok(());
         }
     }
@@ -295,6 +306,6 @@ fn must_always_agree<R: Threads + Sync + Abort + AllocGlobal>(
 
 #[test]
 fn seats_do_what_the_core_does(rt: HostRuntime) -> Result<(), Fail> {
-    must_always_agree(&rt, 1, &TRADE, TRADED)?;
-    must_always_agree(&rt, 2, &SPLIT, WAS_SPLIT)
+    must_always_agree(&rt, &TRADE, TRADED)?;
+    must_always_agree(&rt, &SPLIT, WAS_SPLIT)
 }

@@ -25,13 +25,18 @@ pub fn recovery(alloc: Global, image: &[u64]) -> Result<Recovered, RecoverFault>
     recover(alloc, image, &root_kinds(), &DictFilter)
 }
 
-/// What recovery makes of an empty image of so many superblocks with these changes.
+/// The words of an empty image of so many superblocks, at most 32, with these changes.
 #[tactic(auto, unfolding(heap_model::specs::Geometry::largest_capacity))]
-pub fn recovered(alloc: Global, capacity: u64, words: &str) -> Result<Ready, Fail>
-    requires some { 1 ≤ capacity }
-    requires small { capacity ≤ 32 }
-{
-    let image = image_of(alloc, capacity, words)?;
+fn image(alloc: Global, capacity: u64, words: &str) -> Result<Vec<u64>, Fail> {
+    if capacity < 1 || capacity > 32 {
+        return Err("no such capacity".into());
+    }
+    image_of(alloc, capacity, words)
+}
+
+/// What recovery makes of it.
+pub fn recovered(alloc: Global, capacity: u64, words: &str) -> Result<Ready, Fail> {
+    let image = image(alloc, capacity, words)?;
     Ok(recovery(alloc, &image)?.heap)
 }
 
@@ -72,54 +77,18 @@ pub fn open(
     heap: Ready,
     seats: usize,
     budget: u64,
-) -> Result<(Shared, Vec<Seat>), AllocError>
-    requires some { 1 ≤ seats }
-    requires few { seats ≤ 8 }
-    requires budget { budget < 1099511627776 }
+) -> Result<(Shared, Vec<Seat>), Fail>
     ensures seats { IfOk result (λ r. All (IsFreshSeatOf r.0) r.1.items) }
-    ensures roots { IfOk result (λ r. HaveRoots seats r.1.items) }
+    ensures roots { IfOk result (λ r. HaveRoots (length r.1.items) r.1.items) }
     ensures count { IfOk result (λ r. length r.1.items ≡ r.0.opening.seats) }
-    ensures opened { IfOk result (λ r. r.0.opening.seats ≡ seats) }
 {
+    if seats < 1 || seats > 8 || budget > MANY {
+        return Err("no such seats, or too many tickets".into());
+    }
     let owners = owners_in_turn(alloc, &heap, seats)?;
     let opened = open_shared(alloc, heap, &owners, seats, budget)?;
     an_opened_seat_is_idle();
     Ok(opened)
-}
-
-/// An empty heap of so many superblocks, and its two seats.
-pub fn pair(alloc: Global, capacity: u64, budget: u64) -> Result<(Shared, Seat, Seat), Fail>
-    requires some { 1 ≤ capacity }
-    requires small { capacity ≤ 32 }
-    requires budget { budget < 1099511627776 }
-    ensures count { IfOk result (λ r. r.0.opening.seats ≡ 2) }
-    ensures first { IfOk result (λ r. IsSeatOf r.0 r.1) }
-    ensures second { IfOk result (λ r. IsSeatOf r.0 r.2) }
-    ensures first_fresh { IfOk result (λ r. IsFresh r.1.view) }
-    ensures first_roots { IfOk result (λ r. HasRootsOf 0 2 r.1) }
-    ensures second_fresh { IfOk result (λ r. IsFresh r.2.view) }
-{
-    let heap = recovered(alloc, capacity, "")?;
-    let (shared, mut seats) = open(alloc, heap, 2, budget)?;
-    let Some(second) = seats.pop() else {
-        unreachable!();
-    };
-    let Some(first) = seats.pop() else {
-        unreachable!();
-    };
-    Ok((shared, first, second))
-}
-
-/// Closes a heap that two seats shared.
-pub fn close(alloc: Global, shared: Shared, first: Seat, second: Seat) -> Result<Closed, AllocError>
-    requires count { shared.opening.seats ≡ 2 }
-    requires first { IsSeatOf shared first }
-    requires second { IsSeatOf shared second }
-{
-    let mut seats = Vec::with_capacity(alloc, 2)?;
-    seats.push_reserved(first);
-    seats.push_reserved(second);
-    close_shared(alloc, shared, seats)
 }
 
 /// Asserts what the text tells of.

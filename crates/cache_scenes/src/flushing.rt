@@ -5,10 +5,8 @@ ghost use Rattle.std.specs.Prelude.{OnOk};
 ghost use Rattle.seat_view.specs.CacheState.{heap_view};
 ghost use Rattle.cache_scenes.specs.Holding.{Holds};
 
-use crate::fixtures::{MANY, pair};
 use crate::holders::{Halt, give_back, give_back_last, take_all};
-use crate::scripts::{Holder, holder_of};
-use std::alloc::Global;
+use crate::pairs::{Holder, Part, play_pair};
 use std::test::Fail;
 use super_block::Block;
 
@@ -68,22 +66,22 @@ fn trade(a: &mut Holder<'_>, b: &mut Holder<'_>, order: u64) -> Result<(), Halt>
     take_blocks(a, FOUR)
 }
 
-/// Trades in each order. How many blocks the first seat has then.
-fn trade_all(alloc: Global) -> Result<usize, Fail> {
-    let (shared, first, second) = pair(alloc, FOUR, MANY)?;
-    let mut a = holder_of(alloc, &shared, first, 0);
-    let mut b = holder_of(alloc, &shared, second, 1);
-    take_blocks(&mut a, 16)?;
+/// Trades in each order. The first seat has all blocks then.
+pub fn trade_all(a: &mut Holder<'_>, b: &mut Holder<'_>) -> Result<(), Fail>
+    requires a { Holds (heap_view a.old.seat).held a.old.given.items }
+    requires b { Holds (heap_view b.old.seat).held b.old.given.items }
+{
+    take_blocks(a, 16)?;
     for order in 0..256 {
-        trade(&mut a, &mut b, order)?;
+        trade(a, b, order)?;
     }
-    Ok(a.given.len())
+    if a.given.len() != 16 {
+        return Err("a block is lost".into());
+    }
+    Ok(())
 }
 
 #[test]
 fn a_cache_is_flushed_in_every_order(rt: HostRuntime) -> Result<(), Fail> {
-    if trade_all(rt.alloc())? != 16 {
-        return Err("a block is lost".into());
-    }
-    Ok(())
+    play_pair(rt.alloc(), FOUR, Part::Orders)
 }

@@ -1,6 +1,7 @@
 //! Seats with the blocks that they were given.
 
-ghost use Rattle.std.specs.Prelude.{◌≡◌, ◌++◌, ◌∷◌, [], OnOk, false};
+ghost use Rattle.std.specs.Prelude.{◌≡◌, ◌++◌, ◌∷◌, [], IfOk, OnErr, OnOk, false};
+ghost use Rattle.heap_seat.specs.Alloc.{Adds};
 ghost use Rattle.cache_scenes.specs.Holding.{Holds, IsNoneOf};
 
 use heap_seat::{AllocFault, HeapSeat};
@@ -9,7 +10,7 @@ use std::alloc::AllocError;
 use super_block::Block;
 
 /// Why a seat goes no further in a scene.
-#[derive(Clone, Copy, PartialEq, Eq, Debug)]
+#[derive(Clone, Copy, Debug)]
 pub enum Halt {
     /// Its request was not granted.
     Refused(AllocFault),
@@ -43,26 +44,33 @@ impl From<AllocError> for Halt {
 
 /// Adds a block.
 fn push_block(given: &mut Vec<Block>, b: Block) -> Result<(), AllocError>
-    ensures { OnOk result (given.new.items ≡ given.old.items ++ b ∷ []) }
+    ensures ok { OnOk result (given.new.items ≡ given.old.items ++ b ∷ []) }
+    ensures err { OnErr result (given.new.items ≡ given.old.items) }
 {
     Ok(given.push(b)?)
 }
 
-/// Asks for so many bytes, and keeps the block if it is given.
-pub fn take<H: HeapSeat>(
-    seat: &mut H,
-    given: &mut Vec<Block>,
-    bytes: u64,
-) -> Result<Result<Block, AllocFault>, Halt>
-    requires { Holds (H.view seat.old).held given.old.items }
-    ensures holds { OnOk result (Holds (H.view seat.new).held given.new.items) }
+/// Asks for so many bytes.
+fn ask<H: HeapSeat>(seat: &mut H, bytes: u64) -> Result<Block, Halt>
+    ensures ok { IfOk result (λ b. Adds b (H.view seat.old) (H.view seat.new)) }
+    ensures err { OnErr result ((H.view seat.new).held ≡ (H.view seat.old).held) }
     ensures kept { H.keeps seat.old seat.new }
 {
-    let answer = seat.alloc(bytes);
-    if let Ok(b) = answer {
-        push_block(given, b)?;
+    match seat.alloc(bytes) {
+        Ok(b) => Ok(b),
+        Err(fault) => Err(Halt::Refused(fault)),
     }
-    Ok(answer)
+}
+
+/// Asks for so many bytes, and keeps the block if it is given.
+pub fn take<H: HeapSeat>(seat: &mut H, given: &mut Vec<Block>, bytes: u64) -> Result<(), Halt>
+    requires { Holds (H.view seat.old).held given.old.items }
+    ensures holds { Holds (H.view seat.new).held given.new.items }
+    ensures kept { H.keeps seat.old seat.new }
+{
+    let b = ask(seat, bytes)?;
+    push_block(given, b)?;
+    Ok(())
 }
 
 /// Asks so often for so many bytes, which are given each time.
@@ -77,9 +85,7 @@ pub fn take_all<H: HeapSeat>(
     ensures kept { H.keeps seat.old seat.new }
 {
     for _nth in 0..count {
-        if let Err(fault) = take(seat, given, bytes)? {
-            return Err(Halt::Refused(fault));
-        }
+        take(seat, given, bytes)?;
     }
     Ok(())
 }

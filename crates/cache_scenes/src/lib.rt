@@ -3,9 +3,9 @@
 #![tactic(auto)]
 
 #[cfg(test)]
-mod beside_core;
+mod apart;
 #[cfg(test)]
-mod classes;
+mod beside_core;
 #[cfg(test)]
 mod dice;
 #[cfg(test)]
@@ -21,9 +21,13 @@ mod neighbours;
 #[cfg(test)]
 mod order;
 #[cfg(test)]
-mod publishing;
+mod pairs;
+#[cfg(test)]
+mod rolling;
 #[cfg(test)]
 mod rooted;
+#[cfg(test)]
+mod scenes;
 #[cfg(test)]
 mod scripts;
 #[cfg(test)]

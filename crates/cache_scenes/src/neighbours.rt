@@ -1,22 +1,7 @@
 //! What a seat gives and refuses, beside another one.
 
-ghost use Rattle.std.specs.Prelude.{◌≤◌};
-
-use crate::fixtures::{MANY, pair};
-use crate::scripts::{holder_of, play};
-use std::alloc::Global;
+use crate::pairs::{Part, play_pair};
 use std::test::Fail;
-
-/// Plays a scene over an empty heap of so many superblocks.
-fn scene(alloc: Global, capacity: u64, lines: &str) -> Result<(), Fail>
-    requires some { 1 ≤ capacity }
-    requires small { capacity ≤ 32 }
-{
-    let (shared, first, second) = pair(alloc, capacity, MANY)?;
-    let mut a = holder_of(alloc, &shared, first, 1);
-    let mut b = holder_of(alloc, &shared, second, 0);
-    Ok(play(&mut a, &mut b, lines)?)
-}
 
 /// One seat fills both superblocks, with four blocks in each. What it frees of a whole superblock
 /// the other one can have.
@@ -36,7 +21,7 @@ b full 14336 2";
 
 #[test]
 fn a_freed_superblock_serves_the_other_seat(rt: HostRuntime) -> Result<(), Fail> {
-    scene(rt.alloc(), 2, FULL)
+    play_pair(rt.alloc(), 2, Part::Acts(FULL))
 }
 
 /// What a seat has cached the other one cannot have, until the seat is quiet.
@@ -54,7 +39,7 @@ a take 16 4096";
 
 #[test]
 fn a_quiet_seat_leaves_its_cache_to_the_other(rt: HostRuntime) -> Result<(), Fail> {
-    scene(rt.alloc(), 1, QUIET)
+    play_pair(rt.alloc(), 1, Part::Acts(QUIET))
 }
 
 /// A large block takes superblocks that were never taken. Once it is freed they serve classes, and
@@ -73,5 +58,62 @@ b full 14336 3";
 
 #[test]
 fn the_superblocks_of_a_freed_large_block_serve_classes(rt: HostRuntime) -> Result<(), Fail> {
-    scene(rt.alloc(), 3, LARGE)
+    play_pair(rt.alloc(), 3, Part::Acts(LARGE))
+}
+
+/// A seat asks for each class in order, and then for more than a superblock: each class gets a
+/// superblock. There is no room then. The seat frees all, and the other one takes all.
+const CLASSES: &str = "a take 16 1
+a has 1240 2
+a take 32 1
+a has 9432 4
+a take 48 1
+a has 17624 6
+a take 64 1
+a has 25816 8
+a take 96 1
+a has 34008 12
+a take 128 1
+a has 42200 16
+a take 192 1
+a has 50392 24
+a take 256 1
+a has 58584 32
+a take 384 1
+a has 66776 48
+a take 512 1
+a has 74968 64
+a take 768 1
+a has 83160 96
+a take 1024 1
+a has 91352 128
+a take 1536 1
+a has 99544 192
+a take 2048 1
+a has 107736 256
+a take 3072 1
+a has 115928 384
+a take 4096 1
+a has 124120 512
+a take 6144 1
+a has 132312 768
+a take 8192 1
+a has 140504 1024
+a take 12288 1
+a has 148696 1536
+a take 14336 1
+a has 156888 1792
+a take 70000 1
+a has 165080 16384
+b full 16 22
+b full 65536 22
+a free 21
+a quiet
+b take 14336 88
+b full 14336 22
+a full 14336 22";
+
+#[test]
+fn each_class_is_given_a_superblock_and_gives_it_back(rt: HostRuntime) -> Result<(), Fail> {
+    play_pair(rt.alloc(), 22, Part::Acts(CLASSES))
 }

@@ -1,26 +1,18 @@
 //! An order in which two seats draw, each in a thread of its own: so one acts between two steps of a
 //! call of the other.
 //!
-//! It is told as a text: in `a3 b12 a` the first seat draws three times, then the second one twelve
-//! times, and then the first one to its end. Behind that the other one goes on, or where one has
-//! come to its end. A seat asks chance for a number at each draw, and is held there until its turn.
+//! It is told as a text: in `3 12` the first seat draws three times, then the second one twelve
+//! times, and then the first one to its end; `-` is its turn from the beginning. Where one seat has
+//! come to its end the other one goes on. A seat asks chance for a number at each draw, and is held
+//! there until its turn.
 
-use image_text::number;
 use line_memory::Chance;
-use std::alloc::Global;
+use std::alloc::{AllocError, Global};
 use std::sync::atomic::{AtomicU64, Ordering};
-use std::test::Fail;
 use std::thread;
 
 /// How often a seat looks whether it is its turn, at most.
 const MOST_LOOKS: u64 = 100_000_000;
-
-/// So many draws of a seat, one after the other.
-#[derive(Clone, Copy)]
-struct Turns {
-    is_first: bool,
-    count: u64,
-}
 
 /// What is known of a seat.
 #[derive(Drop)]
@@ -41,7 +33,8 @@ impl Side {
 /// The order, and how far both seats have come.
 #[derive(Drop)]
 pub struct Order {
-    turns: Vec<Turns>,
+    /// How many draws are one seat's, in turn.
+    turns: Vec<u64>,
     first: Side,
     second: Side,
     /// How many draws are over, with the steps behind them.
@@ -50,32 +43,19 @@ pub struct Order {
     missed: AtomicU64,
 }
 
-/// The turns that a word of the text tells.
-fn turns_of(told: &str) -> Result<Turns, Fail> {
-    let (is_first, count) = match told.strip_prefix("a") {
-        Some(count) => (true, count),
-        None => (false, told.strip_prefix("b").ok_or("no such seat")?),
-    };
-    if count.is_empty() {
-        return Ok(Turns {
-            is_first,
-            count: u64::MAX,
-        });
+fn turns_of(alloc: Global, told: &str) -> Result<Vec<u64>, AllocError> {
+    let mut turns = Vec::new(alloc);
+    for word in told.split(' ') {
+        turns.push(word.parse::<u64>().unwrap_or(u64::MAX))?;
     }
-    Ok(Turns {
-        is_first,
-        count: number(count)?,
-    })
+    Ok(turns)
 }
 
 impl Order {
-    pub fn new(alloc: Global, told: &str) -> Result<Self, Fail> {
-        let mut turns = Vec::new(alloc);
-        for word in told.split(' ') {
-            turns.push(turns_of(word)?)?;
-        }
+    /// The order that a text tells. What is no number stands for all further draws.
+    pub fn new(alloc: Global, told: &str) -> Result<Self, AllocError> {
         Ok(Order {
-            turns,
+            turns: turns_of(alloc, told)?,
             first: Side::new(),
             second: Side::new(),
             over: AtomicU64::new(0),
@@ -105,13 +85,15 @@ impl Order {
     /// Whether the draw behind so many is the first seat's, by the text.
     fn is_firsts(&self, over: u64) -> bool {
         let mut before = over;
-        for turns in &self.turns {
-            if before < turns.count {
-                return turns.is_first;
+        let mut is_first = true;
+        for count in &self.turns {
+            if before < *count {
+                return is_first;
             }
-            before = before.saturating_sub(turns.count);
+            before = before.saturating_sub(*count);
+            is_first = !is_first;
         }
-        true
+        is_first
     }
 
     fn may_draw(&self, is_first: bool) -> bool {
@@ -131,16 +113,19 @@ impl Order {
         self.missed.store(1, Ordering::SeqCst);
     }
 
-    /// The seat's turn is over.
-    fn pass(&self) {
-        self.over.fetch_add(1, Ordering::SeqCst);
+    /// A seat that is at work ends its turn, and waits for the next one.
+    fn step(&self, is_first: bool, is_at_work: bool) {
+        if is_at_work {
+            self.over.fetch_add(1, Ordering::SeqCst);
+        }
+        self.wait(is_first);
     }
 }
 
-/// The chance of a seat that keeps to an order.
+/// The chance of a seat that keeps to an order, or to none.
 #[derive(Drop)]
 pub struct Turn<'a> {
-    order: &'a Order,
+    order: Option<&'a Order>,
     is_first: bool,
     is_at_work: bool,
     drawn: u64,
@@ -148,7 +133,7 @@ pub struct Turn<'a> {
 
 impl<'a> Turn<'a> {
     /// It gives this number at each draw.
-    pub fn new(order: &'a Order, is_first: bool, drawn: u64) -> Self {
+    pub fn new(order: Option<&'a Order>, is_first: bool, drawn: u64) -> Self {
         Turn {
             order,
             is_first,
@@ -160,10 +145,9 @@ impl<'a> Turn<'a> {
 
 impl<'a> Chance for Turn<'a> {
     fn draw(&mut self) -> u64 {
-        if self.is_at_work {
-            self.order.pass();
+        if let Some(order) = self.order {
+            order.step(self.is_first, self.is_at_work);
         }
-        self.order.wait(self.is_first);
         self.is_at_work = true;
         self.drawn
     }

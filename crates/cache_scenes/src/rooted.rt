@@ -6,6 +6,7 @@ ghost use Rattle.cache_scenes.specs.Holding.{AreRootsOf, OwnsRoots};
 
 use crate::fixtures::recovery;
 use crate::holders::Halt;
+use heap_recover::Recovered;
 use heap_seat::{HeapSeat, Spot, persist};
 use std::alloc::{AllocError, Global};
 use std::test::Fail;
@@ -95,22 +96,26 @@ fn count_superblocks(blocks: &[Block], start: u64) -> u64 {
     count
 }
 
-/// What recovery holds, which are the blocks that roots lead to; each other superblock that was
-/// taken is free.
-pub fn held_in(alloc: Global, image: &[u64]) -> Result<Vec<u64>, Fail> {
-    let found = recovery(alloc, image)?;
-    let mut held = Vec::new(alloc);
-    for b in found.heap.held() {
-        held.push(b.first_word)?;
-    }
-    if held.as_slice() != rooted(alloc, image)?.as_slice() {
-        return Err("other blocks are held than roots lead to".into());
-    }
+/// Whether exactly the blocks are held that roots lead to.
+fn holds_rooted(alloc: Global, image: &[u64], held: &[Block]) -> Result<bool, AllocError> {
+    let first_words = rooted(alloc, image)?;
+    Ok(held.iter().map(|b| &b.first_word).eq(first_words.iter()))
+}
+
+/// Whether each superblock that was taken is free or has a held block.
+fn frees_others(image: &[u64], found: &Recovered) -> bool {
+    let held = found.heap.held();
     let start = found.heap.geometry().start(0);
     let taken = image.get(USED_WORD as usize).copied().unwrap_or(0);
-    let free = found.free.len() as u64;
-    if taken != free.wrapping_add(count_superblocks(found.heap.held(), start)) {
-        return Err("a superblock is neither free nor has a held block".into());
+    taken == count_superblocks(held, start).wrapping_add(found.free.len() as u64)
+}
+
+/// What recovery of an image holds, which are the blocks that roots lead to; each other superblock
+/// that was taken is free.
+pub fn held_in(alloc: Global, image: &[u64]) -> Result<Vec<Block>, Fail> {
+    let found = recovery(alloc, image)?;
+    if !holds_rooted(alloc, image, found.heap.held())? || !frees_others(image, &found) {
+        return Err("other blocks are held, or superblocks free".into());
     }
-    Ok(held)
+    Ok(Vec::from_slice(alloc, found.heap.held())?)
 }

@@ -1,68 +1,100 @@
-//! Scenes of two seats, as texts.
-//!
-//! A line is a seat, `a` or `b`, with what it does and that in numbers:
+//! What seats do, as texts: acts, with numbers.
 //!
 //! ```text
-//! a take 14336 8     it asks 8 times for 14,336 bytes, and is given a block each time
-//! a full 14336 2     it asks, and there is no room: 2 superblocks are taken, and no list has one
-//! a free 4           it frees 4 of its blocks, the last ones first
-//! a drop 2           it frees its block 2, in whose place the last one comes
-//! a quiet            its caches are emptied
-//! a put 0            the first of its roots leads to its last block, durably
-//! a clear 0          that root leads to no block
+//! take 14336 8     the seat asks 8 times for 14,336 bytes, and is given a block each time
+//! full 14336 2     it asks, and there is no room: 2 superblocks are taken, and no list has one
+//! has 1080 1792    its last block has the first word 1,080 and 1,792 words
+//! free 4           it frees 4 of its blocks, the last ones first
+//! drop 2           it frees its block 2, in whose place the last one comes
+//! quiet            its caches are emptied
+//! put 0            the first of its roots leads to its last block, durably
+//! clear 0          that root leads to no block
+//! publish          its roots lead to its blocks, in order
+//! roll 9           9 random acts
 //! ```
+//!
+//! Acts of one seat stand between commas.
 
-ghost use Rattle.std.specs.Prelude.{OnOk};
-ghost use Rattle.heap_rule.specs.Seated.{IsSeatOf};
+ghost use Rattle.std.specs.Prelude.{◌≡◌, OnOk};
 ghost use Rattle.seat_view.specs.CacheState.{heap_view};
 ghost use Rattle.thread_cache.specs.Keeps.{KeepsHeap};
-ghost use Rattle.cache_scenes.specs.Holding.{Holds, IsFresh, OwnsRoots};
+ghost use Rattle.cache_scenes.specs.Holding.{Holds, OwnsRoots};
 
 use crate::holders::{Halt, give_back, give_back_last, take, take_all};
+use crate::order::Turn;
+use crate::rolling::{quiet, roll_often};
 use crate::rooted::put;
-use heap_rule::{Seat, Shared};
 use heap_seat::{AllocFault, Looks};
-use line_memory::{Chance, ConstantChance};
-use std::alloc::Global;
 use super_block::Block;
 use thread_cache::CacheSeat;
 
 /// A list head has its list in its last so many bits, and none there where it is empty.
 const LIST_BITS: u32 = 24;
 
-/// What a line tells beside the seat: the word, and up to two numbers.
+/// What a seat can be told.
 #[derive(Clone, Copy)]
-struct Act<'a> {
-    name: &'a str,
-    first: u64,
-    second: u64,
+pub enum Act {
+    Take { bytes: u64, count: u64 },
+    Full { bytes: u64, taken: u64 },
+    Has { first_word: u64, words: u64 },
+    Free { count: u64 },
+    Drop { index: u64 },
+    Quiet,
+    Put { root: u64 },
+    Clear { root: u64 },
+    Publish,
+    Roll { count: u64 },
 }
 
-/// The number of a word, or 0 for none.
-fn number_of(word: Option<&str>) -> Result<u64, Halt> {
+/// The number of a word, which is 0 where there is none. What is no number is more than any act
+/// takes.
+fn number_of(word: Option<&str>) -> u64 {
     match word {
-        Some(word) => word.parse::<u64>().ok().ok_or(Halt::NoSuchAct),
-        None => Ok(0),
+        Some(word) => word.parse::<u64>().unwrap_or(u64::MAX),
+        None => 0,
     }
 }
 
-/// What the words tell.
-fn act_of(told: &str) -> Result<Act<'_>, Halt> {
+/// The act of this name, with its numbers.
+fn act_named(name: &str, first: u64, second: u64) -> Option<Act> {
+    let act = match name {
+        "take" => Act::Take {
+            bytes: first,
+            count: second,
+        },
+        "full" => Act::Full {
+            bytes: first,
+            taken: second,
+        },
+        "has" => Act::Has {
+            first_word: first,
+            words: second,
+        },
+        "free" => Act::Free { count: first },
+        "drop" => Act::Drop { index: first },
+        "quiet" => Act::Quiet,
+        "put" => Act::Put { root: first },
+        "clear" => Act::Clear { root: first },
+        "publish" => Act::Publish,
+        "roll" => Act::Roll { count: first },
+        _ => return None,
+    };
+    Some(act)
+}
+
+/// The act that a text tells.
+pub fn act_of(told: &str) -> Option<Act> {
     let mut words = told.split(' ');
     let name = words.next().unwrap_or("");
-    let first = number_of(words.next())?;
-    let second = number_of(words.next())?;
-    Ok(Act {
-        name,
-        first,
-        second,
-    })
+    let first = number_of(words.next());
+    let second = number_of(words.next());
+    act_named(name, first, second)
 }
 
 /// Whether there was no room, with so many superblocks taken and no list that had one.
-fn is_full(answer: &Result<Block, AllocFault>, taken: u64) -> bool {
+fn is_full(answer: &Result<(), Halt>, taken: u64) -> bool {
     match answer {
-        Err(AllocFault::Full(looks)) => is_empty(looks) && looks.used == taken,
+        Err(Halt::Refused(AllocFault::Full(looks))) => is_empty(looks) && looks.used == taken,
         _ => false,
     }
 }
@@ -74,8 +106,8 @@ fn is_empty(looks: &Looks) -> bool {
 }
 
 /// A request for so many bytes, for which there is no room.
-fn must_be_full<C: Chance>(
-    seat: &mut CacheSeat<'_, C>,
+fn must_be_full(
+    seat: &mut CacheSeat<'_, Turn<'_>>,
     given: &mut Vec<Block>,
     bytes: u64,
     taken: u64,
@@ -84,93 +116,104 @@ fn must_be_full<C: Chance>(
     ensures holds { OnOk result (Holds (heap_view seat.new).held given.new.items) }
     ensures kept { KeepsHeap seat.old seat.new }
 {
-    let answer = take(seat, given, bytes)?;
-    if !is_full(&answer, taken) {
-        return Err(Halt::Room);
+    let answer = take(seat, given, bytes);
+    if is_full(&answer, taken) {
+        Ok(())
+    } else {
+        Err(Halt::Room)
+    }
+}
+
+/// Whether the last block has this first word and so many words.
+fn ends_with(given: &[Block], first_word: u64, words: u64) -> Result<(), Halt> {
+    if given.last() != Some(&Block { first_word, words }) {
+        return Err(Halt::NoBlock);
     }
     Ok(())
 }
 
-/// A seat does what a line tells.
-fn perform<C: Chance>(
-    seat: &mut CacheSeat<'_, C>,
+/// What a seat is dealt beside its blocks: its number, and roots of its own.
+#[derive(Clone, Copy)]
+pub struct Dealt<'a> {
+    pub number: u64,
+    pub roots: &'a [u64],
+}
+
+/// Roots of the seat lead to its blocks, in order.
+fn publish(seat: &mut CacheSeat<'_, Turn<'_>>, owned: &[u64], given: &[Block]) -> Result<(), Halt>
+    requires { OwnsRoots owned.now seat.old.view.roots }
+    ensures held { OnOk result ((heap_view seat.new).held ≡ (heap_view seat.old).held) }
+    ensures kept { KeepsHeap seat.old seat.new }
+{
+    for (index, b) in given.iter().enumerate() {
+        put(seat, owned, index as u64, Some(b))?;
+    }
+    Ok(())
+}
+
+/// A seat does what its roots or its number are for.
+fn perform_dealt(
+    seat: &mut CacheSeat<'_, Turn<'_>>,
     given: &mut Vec<Block>,
-    owned: &[u64],
-    told: &str,
+    dealt: Dealt<'_>,
+    act: Act,
 ) -> Result<(), Halt>
     requires holds { Holds (heap_view seat.old).held given.old.items }
-    requires owns { OwnsRoots owned.now seat.old.view.roots }
+    requires owns { OwnsRoots dealt.roots.now seat.old.view.roots }
     ensures holds { OnOk result (Holds (heap_view seat.new).held given.new.items) }
     ensures kept { KeepsHeap seat.old seat.new }
 {
-    let Act {
-        name,
-        first,
-        second,
-    } = act_of(told)?;
-    match name {
-        "take" => take_all(seat, given, first, second),
-        "full" => must_be_full(seat, given, first, second),
-        "free" => give_back_last(seat, given, first),
-        "drop" => give_back(seat, given, first as usize),
-        "quiet" => Ok(seat.quiet()?),
-        "put" => put(seat, owned, first, given.last()),
-        "clear" => put(seat, owned, first, None),
+    match act {
+        Act::Put { root } => put(seat, dealt.roots, root, given.last()),
+        Act::Clear { root } => put(seat, dealt.roots, root, None),
+        Act::Publish => publish(seat, dealt.roots, given),
+        Act::Roll { count } => roll_often(seat, given, dealt.number, count),
         _ => Err(Halt::NoSuchAct),
     }
 }
 
-/// A seat does what the lines tell, in their order; none of them names it.
-#[tactic(auto, using(crate::proofs::HoldLemmas::still_owns))]
-pub fn follow<C: Chance>(
-    seat: &mut CacheSeat<'_, C>,
+/// A seat does what it is told.
+pub fn perform(
+    seat: &mut CacheSeat<'_, Turn<'_>>,
     given: &mut Vec<Block>,
-    owned: &[u64],
-    lines: &str,
+    dealt: Dealt<'_>,
+    act: Act,
 ) -> Result<(), Halt>
     requires holds { Holds (heap_view seat.old).held given.old.items }
-    requires owns { OwnsRoots owned.now seat.old.view.roots }
+    requires owns { OwnsRoots dealt.roots.now seat.old.view.roots }
+    ensures holds { OnOk result (Holds (heap_view seat.new).held given.new.items) }
+    ensures kept { KeepsHeap seat.old seat.new }
+{
+    match act {
+        Act::Take { bytes, count } => take_all(seat, given, bytes, count),
+        Act::Full { bytes, taken } => must_be_full(seat, given, bytes, taken),
+        Act::Has { first_word, words } => ends_with(given, first_word, words),
+        Act::Free { count } => give_back_last(seat, given, count),
+        Act::Drop { index } => give_back(seat, given, index as usize),
+        Act::Quiet => quiet(seat),
+        _ => perform_dealt(seat, given, dealt, act),
+    }
+}
+
+/// A seat does what the acts between commas tell, in their order. It counts those that are done.
+#[tactic(auto, using(crate::proofs::HoldLemmas::still_owns))]
+pub fn follow(
+    seat: &mut CacheSeat<'_, Turn<'_>>,
+    given: &mut Vec<Block>,
+    dealt: Dealt<'_>,
+    acts: &str,
+    done: &mut usize,
+) -> Result<(), Halt>
+    requires holds { Holds (heap_view seat.old).held given.old.items }
+    requires owns { OwnsRoots dealt.roots.now seat.old.view.roots }
     ensures { KeepsHeap seat.old seat.new }
 {
-    for told in lines.split(", ") {
-        perform(seat, given, owned, told)?;
-    }
-    Ok(())
-}
-
-/// A seat, and the blocks that it was given and has not freed.
-#[derive(Drop)]
-pub struct Holder<'a> {
-    pub seat: CacheSeat<'a, ConstantChance>,
-    pub given: Vec<Block>,
-}
-
-/// A seat with no blocks, whose chance gives this number.
-pub fn holder_of<'a>(alloc: Global, shared: &'a Shared, seat: Seat, drawn: u64) -> Holder<'a>
-    requires seat { IsSeatOf shared.now seat }
-    requires fresh { IsFresh seat.view }
-    ensures { Holds (heap_view result.seat).held result.given.items }
-{
-    Holder {
-        seat: CacheSeat::new(shared, seat, ConstantChance(drawn)),
-        given: Vec::new(alloc),
-    }
-}
-
-/// Two seats do what the lines tell, in their order.
-pub fn play(a: &mut Holder<'_>, b: &mut Holder<'_>, lines: &str) -> Result<(), Halt>
-    requires a { Holds (heap_view a.old.seat).held a.old.given.items }
-    requires b { Holds (heap_view b.old.seat).held b.old.given.items }
-    ensures a { OnOk result (Holds (heap_view a.new.seat).held a.new.given.items) }
-    ensures b { OnOk result (Holds (heap_view b.new.seat).held b.new.given.items) }
-{
-    for line in lines.split('\n') {
-        let (who, told) = line.split_once(' ').unwrap_or(("", line));
-        match who {
-            "a" => perform(&mut a.seat, &mut a.given, &[], told)?,
-            "b" => perform(&mut b.seat, &mut b.given, &[], told)?,
-            _ => return Err(Halt::NoSuchAct),
-        }
+    for told in acts.split(", ") {
+        let Some(act) = act_of(told) else {
+            return Err(Halt::NoSuchAct);
+        };
+        perform(seat, given, dealt, act)?;
+        *done = done.wrapping_add(1);
     }
     Ok(())
 }

@@ -1,6 +1,6 @@
 use Rattle.seat_view.specs.CacheState.{heap_view}
 use Rattle.cache_scenes.specs.Holding.{Holds}
-use Rattle.cache_scenes.proofs.scripts.play.Given as goal
+use Rattle.cache_scenes.proofs.pairs.play.Given as goal
 
 abbrev pub invariant-loop-line : goal.invariant-loop-line
 invariant-loop-line l = Holds (heap_view l.a.seat).held l.a.given.items × Holds (heap_view l.b.seat).held l.b.given.items

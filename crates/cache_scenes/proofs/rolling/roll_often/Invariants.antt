@@ -1,7 +1,7 @@
 use Rattle.seat_view.specs.CacheState.{heap_view}
 use Rattle.thread_cache.specs.Keeps.{KeepsHeap}
 use Rattle.cache_scenes.specs.Holding.{Holds}
-use Rattle.cache_scenes.proofs.threading.take_turns.Given as goal
+use Rattle.cache_scenes.proofs.rolling.roll_often.Given as goal
 
 abbrev pub invariant-loop-turn : goal.invariant-loop-turn
 invariant-loop-turn l = record {

@@ -1,5 +1,0 @@
-use Rattle.cache_scenes.proofs.HoldLemmas.{still_owns}
-use Rattle.cache_scenes.proofs.threading.publish.Goals as goal
-
-pub put-requires : goal.put-requires
-put-requires c = still_owns c.args.owned.now c.args.seat.now c.loop-index.seat c.loop-index.invariant c.requires
