@@ -1,12 +1,13 @@
 -- What the seats of the tests are at first, and what each call leaves of what they hold.
-use Rattle.std.proofs.Common.{◌≡◌, ◌<◌, ◌%◌, ◌+◌, ℕ, zero, suc, List, [], ◌∷◌, ◌++◌, Contains, length, get_or, ap, sym, subst, ◌∙◌, arith}
+use Rattle.std.proofs.Common.{◌⊎◌, inl, inr, ◌≡◌, ◌<◌, ◌%◌, ◌+◌, ℕ, zero, suc, List, [], ◌∷◌, ◌++◌, Contains, length, get_or, ap, sym, subst, ◌∙◌, arith}
 use Rattle.std.specs.List.{swap_remove}
 use Rattle.std.specs.List.Sorted.{IsPermutation}
-use Rattle.std.proofs.lemmas.List.Elements.{All-contains, Contains-append_left, Contains-append_right}
+use Rattle.std.proofs.lemmas.List.Elements.{All-contains, Contains-append_cases}
 use Rattle.std.proofs.lemmas.List.Sorted.{Contains-permutation, IsPermutation-swap_remove, IsPermutation-sym}
 use Rattle.heap_model.specs.declared.block.Block.{Block}
-use Rattle.heap_model.proofs.MemberLemmas.{in_head, in_rest}
+use Rattle.heap_model.proofs.MemberLemmas.{head_or_rest, in_none, in_rest}
 use Rattle.heap_seat.specs.View.{View}
+use Rattle.heap_seat.specs.Alloc.{Adds}
 use Rattle.heap_seat.specs.Free.{MayHaveFreed}
 use Rattle.heap_rule.specs.Seated.{IsSeatOf, SeatView}
 use Rattle.heap_rule.specs.Seats.{AreSeatsOf}
@@ -31,6 +32,23 @@ holds_less given left b i v w frees none less at is holds = record {
 } where
   moves : IsPermutation given (b ∷ left)
   moves = subst (λ l. IsPermutation given (b ∷ l)) (sym is) (IsPermutation-swap_remove given i b less at)
+
+-- one more is given, or the blocks that were held are
+pub holds_more : (given more : List Block) (b : Block) (v w : View) → Adds b v w → more ≡ given ++ b ∷ [] → Holds v.held given → Holds w.held more
+holds_more given more b v w adds is holds = record {
+  each = λ a has. elim (Contains-append_cases given (b ∷ []) a (subst (λ l. Contains l a) is has)) [
+    | inl old ↦ adds.keeps a (holds.each a old)
+    | inr new ↦ subst (Contains w.held) (same a new) adds.has
+  ];
+} where
+  same : (a : Block) → Contains (b ∷ []) a → b ≡ a
+  same a new = elim (head_or_rest b a [] new) [
+    | inl e ↦ e
+    | inr none ↦ absurd (in_none a none)
+  ]
+
+pub holds_still : (given : List Block) (b : Block) (v w : View) → Adds b v w → Holds v.held given → Holds w.held given
+holds_still given b v w adds holds = record { each = λ a has. adds.keeps a (holds.each a has) }
 
 -- a seat of an opened heap has the roots that are its own
 pub has_roots : (setup : Setup) (held : List Block) (block_owners root_owners : List ℕ) (i : ℕ) (v : CoreView) (root : ℕ) → v ≡ opened_view setup held block_owners root_owners i → root < roots → get_or root_owners root (i + 1) ≡ i → Contains v.roots root

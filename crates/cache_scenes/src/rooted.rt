@@ -69,13 +69,24 @@ pub fn put<H: HeapSeat>(
     }
 }
 
+/// The first word of the block that the root leads to, if it leads to one.
+fn led_to(image: &[u64], root: u64) -> Option<u64> {
+    let word = image
+        .get(ROOT_WORD.wrapping_add(root) as usize)
+        .copied()
+        .unwrap_or(0);
+    if word == 0 {
+        return None;
+    }
+    Some(word.wrapping_sub(POINTER) / WORD_BYTES)
+}
+
 /// The first words of the blocks that roots lead to, in order.
 fn rooted(alloc: Global, image: &[u64]) -> Result<Vec<u64>, AllocError> {
     let mut first_words = Vec::new(alloc);
     for root in FIRST_ROOT..ROOTS {
-        match image.get((ROOT_WORD + root) as usize) {
-            Some(word) if *word != 0 => first_words.push(word.wrapping_sub(POINTER) / WORD_BYTES)?,
-            _ => {}
+        if let Some(first_word) = led_to(image, root) {
+            first_words.push(first_word)?;
         }
     }
     first_words.sort()?;
