@@ -1,10 +1,7 @@
 //! Images recovered with no filter: every word that names a block keeps it, and only a bad header is
 //! refused.
-use crate::harness::{has_image, must_hold, runs, store, store_with};
-use crate::session::{play, shows_each, shows_rows};
-use crate::words::are_usage;
+use crate::session::{Table, plays};
 use std::test::Fail;
-use tool_ports::FailedPut;
 
 /// A word that leads nowhere is passed by, one that names a block keeps it, and no key is told.
 const KEPT: &str = "
@@ -55,11 +52,6 @@ $ conservative h
 > heap 1 dirty
 ";
 
-#[test]
-fn every_word_that_names_a_block_keeps_it(rt: HostRuntime) -> Result<(), Fail> {
-    shows_each(&rt, KEPT)
-}
-
 /// An image of version 1 stays as it is.
 const OLD: &str = "
 @ table: 1 1, 9275 @9276; 139712
@@ -74,37 +66,36 @@ $ conservative h
 ~ 74112
 ";
 
-#[test]
-fn an_image_of_the_old_version_is_recovered_without_a_filter(rt: HostRuntime) -> Result<(), Fail> {
-    shows_each(&rt, OLD)
-}
-
 /// Each cause of a bad header but that of a kind, which no root has to have.
 const HEADERS: &str = "
-1; 0 | 7 | bad header short
-1; 8511 | 7 | bad header short
-1: 0 5 | 7 | bad header magic
-1: 1 3 | 7 | bad header version
-1: 2 0 | 7 | bad header capacity
-1: 1 1, 2 257; 74112 | 7 | bad header capacity
-1; 8512 | 7 | bad header length
-1; 82303 | 7 | bad header length
-1; 82312 | 7 | bad header length
-1: 1 1; 74111 | 7 | bad header length
-1: state 0, used 2 | 7 | bad header state
-1: used 2 | 7 | bad header used
-1: used 2, 9273 3 | 7 | bad header used
+1; 0 = 7 > bad header short
+1; 8511 = 7 > bad header short
+1: 0 5 = 7 > bad header magic
+1: 1 3 = 7 > bad header version
+1: 2 0 = 7 > bad header capacity
+1: 1 1, 2 257; 74112 = 7 > bad header capacity
+1; 8512 = 7 > bad header length
+1; 82303 = 7 > bad header length
+1; 82312 = 7 > bad header length
+1: 1 1; 74111 = 7 > bad header length
+1: state 0, used 2 = 7 > bad header state
+1: used 2 = 7 > bad header used
+1: used 2, 9273 3 = 7 > bad header used
 # Kinds of roots that there are none of, or that no shard's root may have.
-1: 9273 3 | 0 | heap 1 clean
-1: 9264 18446744073709551615 | 0 | heap 1 clean
-1: 9264 0 | 0 | heap 1 clean
+1: 9273 3 = 0 > heap 1 clean
+1: 9264 18446744073709551615 = 0 > heap 1 clean
+1: 9264 0 = 0 > heap 1 clean
 ";
 
-#[test]
-fn only_a_bad_header_is_refused(rt: HostRuntime) -> Result<(), Fail> {
-    shows_rows(&rt, "conservative h", HEADERS)
-}
+/// The call on each row: an image, the status, and the line that is told.
+const RECOVERED: [(&str, &str); 4] = [
+    ("\n", "\n@ "),
+    ("\n@ #", "\n#"),
+    (" = ", "\n$ conservative h\n= "),
+    (" > ", "\n> "),
+];
 
+/// Faults are told without a filter too.
 const OUTSIDE: &str = "
 $ conservative none.img
 = 6
@@ -122,32 +113,21 @@ $ conservative h
 $ conservative h
 > heap 1 clean
 ~ 82304
+@ 1
+! 1
+$ conservative h
+= 4
+> read fault
 ";
 
-#[test]
-fn faults_are_told_without_a_filter_too(rt: HostRuntime) -> Result<(), Fail> {
-    play(&rt, &mut store(rt.alloc()), OUTSIDE);
-    let mut failing = store_with(rt.alloc(), b"old", 1, FailedPut::LeavesOld)?;
-    runs(&rt, &mut failing, "conservative h", b"", 4, "read fault\n");
-    must_hold(&rt, has_image(&failing, b"old"), "the store is as it was");
-    Ok(())
-}
-
-const NO_FORM: &str = "conservative
-conservative -h
-conservative h h
-conservative h --mapp
-conservative h --map 1
-conservative h --map=1
-conservative h --map --map
-conservative h --par
-conservative h --seed 1
-conservative --help
-conservatively h
-Conservative h
-conserv h";
+const TABLES: [Table; 4] = [
+    (KEPT, &[]),
+    (OLD, &[]),
+    (HEADERS, &RECOVERED),
+    (OUTSIDE, &[]),
+];
 
 #[test]
-fn other_words_ask_for_no_such_recovery(rt: HostRuntime) {
-    are_usage(&rt, NO_FORM);
+fn images_are_recovered_with_no_filter(rt: HostRuntime) -> Result<(), Fail> {
+    plays(&rt, &TABLES)
 }

@@ -1,10 +1,7 @@
 //! Images opened by their own anchors where these tell what is held, and else recovered.
-use crate::harness::{NO_CALL, has_image, must_hold, runs, store, store_with};
-use crate::session::{play, shows_each, shows_rows};
-use crate::words::are_usage;
-use crate::workers::play_with_each;
+use crate::session::{Table, plays};
+use crate::workers::{BY_EIGHT, BY_ONE, BY_TWO};
 use std::test::Fail;
-use tool_ports::FailedPut;
 
 /// What a run left, and what `format` put; a dirty image is recovered.
 const LEFT: &str = "
@@ -70,12 +67,6 @@ $ count h
 > quick
 > heap 1 clean
 ";
-
-#[test]
-fn what_a_run_closes_is_opened_by_its_anchors(rt: HostRuntime) -> Result<(), Fail> {
-    play(&rt, &mut store(rt.alloc()), LEFT);
-    Ok(())
-}
 
 /// Runs with so many workers in place of N: values replaced and deleted, large ones held and freed,
 /// with a seed and a step that no run comes to.
@@ -163,12 +154,6 @@ $ count h
 > held large 2 1
 ";
 
-#[test]
-fn what_any_workers_close_is_opened_by_its_anchors(rt: HostRuntime) -> Result<(), Fail> {
-    play_with_each(&rt, CLOSED)?;
-    Ok(())
-}
-
 /// A put that finds no room.
 const FULL: &str = "
 $ format h 2
@@ -201,12 +186,6 @@ $ count h --map
 > sb 0 class 12 held 0-1
 > sb 1 class 20 held 0-3
 ";
-
-#[test]
-fn a_full_heap_is_opened_by_its_anchors(rt: HostRuntime) -> Result<(), Fail> {
-    play_with_each(&rt, FULL)?;
-    Ok(())
-}
 
 /// Anchors alone are believed, where they tell what is held, and roots and links where they don't.
 const BELIEVED: &str = "
@@ -302,11 +281,6 @@ $ count h
 > heap 2 clean
 ";
 
-#[test]
-fn anchors_are_believed_where_they_tell_what_is_held(rt: HostRuntime) -> Result<(), Fail> {
-    shows_each(&rt, BELIEVED)
-}
-
 /// Images of version 1 stay as they are.
 const OLD: &str = "
 @ table: 1 1, anchor:0 2; 139712
@@ -323,11 +297,6 @@ $ count h
 > held 1024 1
 ~ 139712
 ";
-
-#[test]
-fn an_image_of_the_old_version_is_opened_by_its_anchors_too(rt: HostRuntime) -> Result<(), Fail> {
-    shows_each(&rt, OLD)
-}
 
 /// A word that points outside, and a shard without a map, where anchors tell what is held and where
 /// they don't.
@@ -362,33 +331,27 @@ $ count h
 > held 1024 1
 ";
 
-#[test]
-fn a_word_outside_refuses_what_is_recovered_alone(rt: HostRuntime) -> Result<(), Fail> {
-    shows_each(&rt, OUTSIDE)
-}
-
 /// Each cause of a bad header.
 const HEADERS: &str = "
-1; 0 | 7 | bad header short
-1; 8511 | 7 | bad header short
-1: 0 5 | 7 | bad header magic
-1: 1 3 | 7 | bad header version
-1: 2 0 | 7 | bad header capacity
-1: 1 1, 2 257; 74112 | 7 | bad header capacity
-1; 8512 | 7 | bad header length
-1; 82303 | 7 | bad header length
-1: 1 1; 74111 | 7 | bad header length
-1: state 0, used 2 | 7 | bad header state
-1: used 2 | 7 | bad header used
-1: kind:9 3 | 7 | bad header kind
-1: kind:0 18446744073709551615, state 2 | 7 | bad header kind
+1; 0 = 7 > bad header short
+1; 8511 = 7 > bad header short
+1: 0 5 = 7 > bad header magic
+1: 1 3 = 7 > bad header version
+1: 2 0 = 7 > bad header capacity
+1: 1 1, 2 257; 74112 = 7 > bad header capacity
+1; 8512 = 7 > bad header length
+1; 82303 = 7 > bad header length
+1: 1 1; 74111 = 7 > bad header length
+1: state 0, used 2 = 7 > bad header state
+1: used 2 = 7 > bad header used
+1: kind:9 3 = 7 > bad header kind
+1: kind:0 18446744073709551615, state 2 = 7 > bad header kind
 ";
 
-#[test]
-fn a_bad_header_is_refused_whatever_the_anchors_tell(rt: HostRuntime) -> Result<(), Fail> {
-    shows_rows(&rt, "count h", HEADERS)
-}
+/// The call on each row: an image, the status, and the line that is told.
+const COUNTED: [(&str, &str); 3] = [("\n", "\n@ "), (" = ", "\n$ count h\n= "), (" > ", "\n> ")];
 
+/// Faults are told of a count too.
 const FAILING: &str = "
 $ count none.img
 = 6
@@ -408,32 +371,29 @@ $ count h
 > quick
 > heap 1 clean
 ~ 82304
+@ 1
+! 1
+$ count h
+= 4
+> read fault
 ";
 
-#[test]
-fn faults_are_told_of_a_count_too(rt: HostRuntime) -> Result<(), Fail> {
-    play(&rt, &mut store(rt.alloc()), FAILING);
-    let mut failing = store_with(rt.alloc(), b"old", 1, FailedPut::LeavesOld)?;
-    runs(&rt, &mut failing, "count h", b"", 4, "read fault\n");
-    must_hold(&rt, has_image(&failing, b"old"), "the store is as it was");
-    Ok(())
-}
-
-const NO_FORM: &str = "count
-count -h
-count h h
-count h --mapp
-count h --map 1
-count h --map=1
-count h --map --map
-count h --par
-count h --seed 1
-count --help
-counts h
-Count h
-coun h";
+const TABLES: [Table; 12] = [
+    (LEFT, &[]),
+    (CLOSED, &BY_ONE),
+    (CLOSED, &BY_TWO),
+    (CLOSED, &BY_EIGHT),
+    (FULL, &BY_ONE),
+    (FULL, &BY_TWO),
+    (FULL, &BY_EIGHT),
+    (BELIEVED, &[]),
+    (OLD, &[]),
+    (OUTSIDE, &[]),
+    (HEADERS, &COUNTED),
+    (FAILING, &[]),
+];
 
 #[test]
-fn other_words_ask_for_no_count(rt: HostRuntime) {
-    are_usage(&rt, NO_FORM);
+fn images_are_counted(rt: HostRuntime) -> Result<(), Fail> {
+    plays(&rt, &TABLES)
 }

@@ -1,40 +1,22 @@
 //! What is told of an image in which words have values that no run leaves there. Each session
 //! changes nothing else of the image, and the store is as it was after each.
-use crate::harness::shows;
-use crate::images::image_bytes;
-use crate::session::shows_each;
-use std::alloc::{AllocError, Global};
+use crate::session::{Table, plays};
 use std::test::Fail;
 
-const AS_BEFORE: &str = "heap 2 clean\nkey 0 -\nheld 32 1\nheld 1024 1\n";
-
 /// The words of the header behind the mark, and of the descriptors of two superblocks, that
-/// recovery makes anew.
-const NOT_READ: &str = "16 17 18 19 20 21 22 23 24 25 26 27 28 29 30 31 32 33 34 35 36 anchor:0 \
-    link:0 anchor:1 link:1";
+/// recovery makes anew. Clause `ok`: with their greatest values they change nothing.
+const NOT_READ: &str = "
+@ table: 16, 17, 18, 19, 20, 21, 22, 23, 24, 25, 26, 27, 28, 29, 30, 31, 32, 33, 34, 35, 36, \
+    anchor:0, link:0, anchor:1, link:1 18446744073709551615
+$ show h
+> heap 2 clean
+> key 0 -
+> held 32 1
+> held 1024 1
+";
 
-/// Changes by which each of these words has its greatest value.
-fn greatest(alloc: Global, words: &str) -> Result<String, AllocError> {
-    let mut changes = String::from_str(alloc, "table: ")?;
-    for word in words.split(' ') {
-        changes.push_str(word)?;
-        changes.push_str(" 18446744073709551615, ")?;
-    }
-    Ok(changes)
-}
-
-/// The image with these words.
-fn damaged(alloc: Global) -> Result<Vec<u8>, Fail> {
-    let changes = greatest(alloc, NOT_READ)?;
-    image_bytes(alloc, &changes)
-}
-
-#[test]
-fn words_that_recovery_does_not_read_change_nothing(rt: HostRuntime) -> Result<(), Fail> {
-    // Clause `ok`: the reserved words of the header, and what recovery makes anew of a superblock.
-    let image = damaged(rt.alloc())?;
-    shows(&rt, &image, "show h", 0, AS_BEFORE)
-}
+/// Each of them has the value that the last one has.
+const GREATEST: [(&str, &str); 1] = [(",", " 18446744073709551615,")];
 
 const DAMAGED: &str = "
 @ table
@@ -119,7 +101,9 @@ $ show h
 > bad shard 0 at 40
 ";
 
+const TABLES: [Table; 2] = [(NOT_READ, &GREATEST), (DAMAGED, &[])];
+
 #[test]
 fn a_damaged_word_is_taken_or_told(rt: HostRuntime) -> Result<(), Fail> {
-    shows_each(&rt, DAMAGED)
+    plays(&rt, &TABLES)
 }

@@ -1,179 +1,151 @@
 //! Runs of which a call of the outside fails, that name a damaged image, or whose trace is outside
 //! the grammar.
-use crate::harness::{
-    Call, NO_CALL, ends_so, has_image, image_after, image_in, make, must_hold, plain, runs, store,
-    store_with,
-};
-use crate::session::{play, shows_each};
-use line_memory::ConstantChance;
+use crate::harness::must_hold;
+use crate::session::{Table, image_in, played, plays};
+use crate::turn::replaced;
 use std::process::Abort;
 use std::test::Fail;
 use std::thread::Threads;
-use tool_ports::{FailedPut, MapStore, OpenGate};
+use tool_ports::MapStore;
 
-const LINE: &str = "run h --workers 1 --map";
-
-const TRACE: &[u8] = b"put 5 6162\nget 5\ndel 5\nget 5";
-
-const TOLD: &str = "ok
-6162
-ok
-none
-run closed
-heap 2 clean
-held 1024 1
-used 2 free 1 fresh 0
-sb 0 class 12 held 0
-sb 1 free
+/// A run whose image can't be read, whose trace can't be, at its first, its second or its last read,
+/// and whose image can't be put. The store's call 0 put the image there, 1 gets it, and 2 puts what
+/// is left.
+const LEAVE_OLD: &str = "
+@ 2
+! 1
+$ RUN
+= 4
+> read fault
+@ 2
+$ RUN
+? 0
+= 4
+> read fault
+@ 2
+$ RUN
+? 1
+= 4
+> read fault
+@ 2
+$ RUN
+? 4
+= 4
+> read fault
+@ 2
+! 2
+$ RUN
+= 5
+> write fault
 ";
 
-/// Which call of the outside fails, and how: that of the store, the input or the output.
-#[derive(Clone, Copy)]
-struct Failure {
-    store: u64,
-    read: u64,
-    write: u64,
-    put: FailedPut,
-}
-
-const NONE: Failure = Failure {
-    store: NO_CALL,
-    read: NO_CALL,
-    write: NO_CALL,
-    put: FailedPut::LeavesOld,
-};
-
-/// A failure, the status, what is printed, and whether the image is put. The store's call 0 put the
-/// image there, 1 gets it, and 2 puts what is left.
-type Failing = (Failure, u8, &'static str, bool);
-
-const FAILURES: [Failing; 7] = [
-    (Failure { store: 1, ..NONE }, 4, "read fault\n", false),
-    (Failure { read: 0, ..NONE }, 4, "read fault\n", false),
-    (Failure { read: 1, ..NONE }, 4, "read fault\n", false),
-    (Failure { store: 2, ..NONE }, 5, "write fault\n", false),
-    (
-        Failure {
-            store: 2,
-            put: FailedPut::LeavesNew,
-            ..NONE
-        },
-        5,
-        "write fault\n",
-        true,
-    ),
-    (Failure { write: 0, ..NONE }, 5, "write fault\n", true),
-    (Failure { write: 1, ..NONE }, 0, TOLD, true),
+/// A run of which nothing fails, of which a put fails that leaves the new image, and whose output
+/// fails at its first write, or would at one that it doesn't make.
+const LEAVE_NEW: [&str; 4] = [
+    "+ 2
+$ RUN
+TOLD",
+    "+ 2
+!+ 2
+$ RUN
+= 5
+> write fault",
+    "+ 2
+$ RUN
+! 0
+= 5
+> write fault",
+    "+ 2
+$ RUN
+! 99
+TOLD",
 ];
 
-/// Makes the run over the store, of which a read and a write fail, and which ends so.
-fn must_end_so(
+const RUN: [(&str, &str); 2] = [
+    (
+        "RUN",
+        "run h --workers 1 --map
+< put 5 6162
+< get 5
+< del 5
+< get 5
+% 0",
+    ),
+    (
+        "TOLD",
+        "> ok
+> 6162
+> ok
+> none
+> run closed
+> heap 2 clean
+> held 1024 1
+> used 2 free 1 fresh 0
+> sb 0 class 12 held 0
+> sb 1 free",
+    ),
+];
+
+/// The store that such a session leaves.
+fn left_by(
     rt: &(impl Abort + AllocGlobal + Threads + Sync),
-    images: &mut MapStore,
-    (failing_reads, failing_writes): (&[u64], &[u64]),
-    status: u8,
-    text: &str,
-) {
-    let call = Call {
-        failing_reads,
-        failing_writes,
-        ..plain(LINE, TRACE)
-    };
-    let ended = make(rt, call, images, &OpenGate, &mut ConstantChance(0));
-    must_hold(rt, ends_so(ended, status, text), text);
+    session: &str,
+) -> Result<MapStore, Fail> {
+    played(rt, &replaced(rt.alloc(), session, &RUN)?)
 }
 
-/// Makes the run over the old image with that failure: it ends so, and leaves the old or the new.
-fn fails(
+/// Plays a session, which leaves this image.
+fn leaves(
     rt: &(impl Abort + AllocGlobal + Threads + Sync),
-    old: &[u8],
-    new: &[u8],
-    failing: &Failing,
+    session: &str,
+    image: &[u8],
 ) -> Result<(), Fail> {
-    let (failure, status, text, is_new) = *failing;
-    let mut images = store_with(rt.alloc(), old, failure.store, failure.put)?;
-    let calls = ([failure.read], [failure.write]);
-    must_end_so(rt, &mut images, (&calls.0, &calls.1), status, text);
-    let left = if is_new { new } else { old };
-    must_hold(rt, has_image(&images, left), text);
+    let images = left_by(rt, session)?;
+    must_hold(rt, image_in(&images) == image, session);
     Ok(())
 }
 
-/// The image that the run leaves of an old one, where nothing fails.
-fn image_run(
-    rt: &(impl Abort + AllocGlobal + Threads + Sync),
-    old: &[u8],
-) -> Result<Vec<u8>, Fail> {
-    let mut images = store_with(rt.alloc(), old, NO_CALL, FailedPut::LeavesOld)?;
-    must_end_so(rt, &mut images, (&[], &[]), 0, TOLD);
-    Ok(image_in(rt.alloc(), &images)?)
-}
-
-/// Makes the run over the old image, which changes it, with each failure.
-fn fail_each(
-    rt: &(impl Abort + AllocGlobal + Threads + Sync),
-    old: &[u8],
-    new: &[u8],
-) -> Result<(), Fail> {
-    must_hold(rt, old != new, "the run changes the image");
-    for failing in &FAILURES {
-        fails(rt, old, new, failing)?;
+/// Plays the sessions, which leave the same image.
+fn leave_the_same(rt: &(impl Abort + AllocGlobal + Threads + Sync)) -> Result<(), Fail> {
+    let images = left_by(rt, LEAVE_NEW[0])?;
+    for session in &LEAVE_NEW {
+        leaves(rt, session, image_in(&images))?;
     }
     Ok(())
 }
 
-#[test]
-fn each_call_of_the_outside_fails_once(rt: HostRuntime) -> Result<(), Fail> {
-    let old = image_after(&rt, "2", "")?;
-    fail_each(&rt, &old, &image_run(&rt, &old)?)
-}
-
-/// A call of a store that fails, the first being that which puts the bytes `old` as h: what a
-/// failed put leaves, the line, the status, the text, and the length of h after it.
-type StoreFailing = (u64, FailedPut, &'static str, u8, &'static str, usize);
-
-const STORE_FAILURES: [StoreFailing; 5] = [
-    (1, FailedPut::LeavesOld, "show h", 4, "read fault\n", 3),
-    (1, FailedPut::LeavesOld, "drain h 4", 4, "read fault\n", 3),
-    (1, FailedPut::LeavesOld, "format h 1", 5, "write fault\n", 3),
-    (
-        1,
-        FailedPut::LeavesNew,
-        "format h 1",
-        5,
-        "write fault\n",
-        82_304,
-    ),
-    (
-        2,
-        FailedPut::LeavesOld,
-        "format h 1",
-        0,
-        "formatted 1 bytes 82304\n",
-        82_304,
-    ),
-];
-
-/// Makes the call over such a store.
-fn store_fails(
-    rt: &(impl Abort + AllocGlobal + Threads + Sync),
-    failing: &StoreFailing,
-) -> Result<(), Fail> {
-    let (call, failed_put, line, status, text, length) = *failing;
-    let mut images = store_with(rt.alloc(), b"old", call, failed_put)?;
-    runs(rt, &mut images, line, b"", status, text);
-    let bytes = images.image("h").unwrap_or(&[]);
-    must_hold(rt, bytes.len() == length, line);
-    Ok(())
-}
-
-#[test]
-fn a_failing_store_is_told_and_has_the_old_bytes_or_the_new(rt: HostRuntime) -> Result<(), Fail> {
-    for failing in &STORE_FAILURES {
-        store_fails(&rt, failing)?;
-    }
-    Ok(())
-}
+/// A failing store is told, and has the old bytes, which are three here, or the new ones.
+const STORE_FAILURES: &str = "
+@ 1; 3
+! 1
+$ show h
+= 4
+> read fault
+~ 3
+@ 1; 3
+! 1
+$ drain h 4
+= 4
+> read fault
+~ 3
+@ 1; 3
+! 1
+$ format h 1
+= 5
+> write fault
+~ 3
+@+ 1; 3
+!+ 1
+$ format h 1
+= 5
+> write fault
+~ 82304
+@+ 1; 3
+! 2
+$ format h 1
+> formatted 1 bytes 82304
+~ 82304
+";
 
 /// Each trace has a line outside the grammar. (The crate dictionary_tests has more of them.)
 const BAD_TRACES: &str = "
@@ -267,11 +239,7 @@ $ run h --workers 1
 > bad trace line 1
 ";
 
-#[test]
-fn the_first_line_outside_the_grammar_is_told(rt: HostRuntime) -> Result<(), Fail> {
-    shows_each(&rt, BAD_TRACES)
-}
-
+/// The last key and the last line are read.
 const LAST_KEY: &str = "
 $ format h 1
 > formatted 1 bytes 82304
@@ -287,12 +255,7 @@ $ run h --workers 1
 > held 1024 1
 ";
 
-#[test]
-fn the_last_key_and_the_last_line_are_read(rt: HostRuntime) {
-    play(&rt, &mut store(rt.alloc()), LAST_KEY);
-}
-
-/// The trace of each is outside the grammar.
+/// An image is refused before its trace, which is outside the grammar each time.
 const BEFORE_ITS_TRACE: &str = "
 @ 1; 0
 $ run h --workers 1
@@ -325,7 +288,16 @@ $ run none.img --workers 1
 > no image none.img
 ";
 
+const TABLES: [Table; 5] = [
+    (LEAVE_OLD, &RUN),
+    (STORE_FAILURES, &[]),
+    (BAD_TRACES, &[]),
+    (LAST_KEY, &[]),
+    (BEFORE_ITS_TRACE, &[]),
+];
+
 #[test]
-fn an_image_is_refused_before_its_trace(rt: HostRuntime) -> Result<(), Fail> {
-    shows_each(&rt, BEFORE_ITS_TRACE)
+fn each_call_of_the_outside_fails_and_what_is_refused_is_told(rt: HostRuntime) -> Result<(), Fail> {
+    plays(&rt, &TABLES)?;
+    leave_the_same(&rt)
 }

@@ -1,13 +1,13 @@
 //! The gate: it is told of each request by the number of its worker and by its own, once before it
 //! and once behind it.
-use crate::harness::{NO_CALL, make, must_hold, plain, store_with, worker_of};
-use crate::images::image_bytes;
+use crate::harness::{make, must_hold};
+use crate::session::store_of;
 use std::alloc::{AllocError, Global};
 use std::process::Abort;
 use std::sync::atomic::{AtomicU64, Ordering};
 use std::test::Fail;
 use std::thread::Threads;
-use tool_ports::{FailedPut, Gate, SeededChances};
+use tool_ports::{Gate, SeededChances};
 
 /// Keeps what it is told.
 #[derive(Drop)]
@@ -84,61 +84,57 @@ impl Gate for Recorder {
     }
 }
 
-/// A run, of some requests so many times.
-#[derive(Clone, Copy)]
-struct Case {
-    line: &'static str,
-    workers: u64,
-    requests: &'static str,
-    times: usize,
-}
-
-/// Requests to all workers, whatever their number is.
-const SEVEN: &str = "put 0 aa
-get 11
-put 3 bb
-del 5
-get 20
-put 14 cc
-put 7 dd
-";
+/// Requests to all workers, whatever their number is, as lines of a turn.
+const SEVEN: &str = "
+< put 0 aa
+< get 11
+< put 3 bb
+< del 5
+< get 20
+< put 14 cc
+< put 7 dd";
 
 /// Requests that are soon done.
-const SEVEN_GETS: &str = "get 0
-get 1
-get 10
-get 3
-get 12
-get 5
-get 7
-";
+const SEVEN_GETS: &str = "
+< get 0
+< get 1
+< get 10
+< get 3
+< get 12
+< get 5
+< get 7";
 
-fn trace_of(alloc: Global, case: &Case) -> Result<String, AllocError> {
-    let mut trace = String::new(alloc);
-    for _ in 0..case.times {
-        trace.push_str(case.requests)?;
+/// A call with the requests so many times.
+fn turn_of(alloc: Global, call: &str, requests: &str, times: usize) -> Result<String, AllocError> {
+    let mut turn = String::from_str(alloc, call)?;
+    for _ in 0..times {
+        turn.push_str(requests)?;
     }
-    Ok(trace)
+    Ok(turn)
 }
 
-/// What a run tells a recorder of the requests of the trace.
-fn record(
+/// Makes a run, which tells the gate of its requests.
+fn pass_through(
     rt: &(impl AllocGlobal + Threads + Sync),
-    line: &str,
-    trace: &str,
-) -> Result<Recorder, Fail> {
-    let image = image_bytes(rt.alloc(), "4")?;
-    let mut images = store_with(rt.alloc(), &image, NO_CALL, FailedPut::LeavesOld)?;
-    let gate = Recorder::new(rt.alloc(), trace.split('\n').count())?;
-    let call = plain(line, trace.as_bytes());
-    make(rt, call, &mut images, &gate, &mut SeededChances::new())?;
-    Ok(gate)
+    turn: &str,
+    gate: &Recorder,
+) -> Result<(), Fail> {
+    let mut images = store_of(rt.alloc(), "4")?;
+    make(rt, &mut images, turn, gate, &mut SeededChances::new())?;
+    Ok(())
 }
 
-/// Whether the gate was told of each request of the trace.
-fn was_told_all(gate: &Recorder, trace: &str, workers: u64) -> bool {
-    for (number, request) in trace.trim().split('\n').enumerate() {
-        if gate.told_of(number) != behind(worker_of(request, workers) as usize) {
+/// The worker, of so many, to which a request belongs.
+fn worker_of(request: &str, workers: u64) -> usize {
+    let key = request.split(' ').nth(2).unwrap_or("");
+    let shard = key.parse::<u64>().unwrap_or(0) % 8;
+    shard.checked_rem(workers).unwrap_or(0) as usize
+}
+
+/// Whether the gate was told of each request of the turn.
+fn was_told_all(gate: &Recorder, turn: &str, workers: u64) -> bool {
+    for (number, request) in turn.split('\n').skip(1).enumerate() {
+        if gate.told_of(number) != behind(worker_of(request, workers)) {
             return false;
         }
     }
@@ -146,45 +142,33 @@ fn was_told_all(gate: &Recorder, trace: &str, workers: u64) -> bool {
 }
 
 /// Makes the run, whose gate is told of all requests.
-fn tells_all(rt: &(impl Abort + AllocGlobal + Threads + Sync), case: &Case) -> Result<(), Fail> {
-    let trace = trace_of(rt.alloc(), case)?;
-    let gate = record(rt, case.line, &trace)?;
-    must_hold(rt, was_told_all(&gate, &trace, case.workers), case.line);
+fn tells_all(
+    rt: &(impl Abort + AllocGlobal + Threads + Sync),
+    turn: &str,
+    requests: usize,
+    workers: u64,
+) -> Result<(), Fail> {
+    let gate = Recorder::new(rt.alloc(), requests)?;
+    pass_through(rt, turn, &gate)?;
+    must_hold(rt, was_told_all(&gate, turn, workers), "each request");
     Ok(())
 }
 
-#[test]
-fn the_gate_is_told_of_each_request_before_and_behind_it(rt: HostRuntime) -> Result<(), Fail> {
-    for (line, workers) in [
-        ("run h --workers 1 --sum", 1),
-        ("run h --workers 3 --sum", 3),
-    ] {
-        let case = Case {
-            line,
-            workers,
-            requests: SEVEN,
-            times: 143,
-        };
-        tells_all(&rt, &case)?;
-    }
-    Ok(())
+/// Makes the run that a row tells.
+fn tells_row(
+    rt: &(impl Abort + AllocGlobal + Threads + Sync),
+    (call, workers, requests, times): (&str, u64, &str, usize),
+) -> Result<(), Fail> {
+    let turn = turn_of(rt.alloc(), call, requests, times)?;
+    tells_all(rt, &turn, times.saturating_mul(7), workers)
 }
 
-#[test]
-fn the_gate_is_told_of_seventy_thousand_requests(rt: HostRuntime) -> Result<(), Fail> {
-    let case = Case {
-        line: "run h --workers 2 --sum",
-        workers: 2,
-        requests: SEVEN_GETS,
-        times: 10_000,
-    };
-    tells_all(&rt, &case)
-}
+/// What is told of the first request of each of three workers, and of no other.
+const FIRST: [u64; 7] = [2, 0, 0, 6, 4, 0, 0];
 
-/// Whether the gate was told of the first request of each of three workers, and of no other.
+/// Whether the gate was told of these alone.
 fn was_told_first(gate: &Recorder) -> bool {
-    let told = [2, 0, 0, 6, 4, 0, 0];
-    for (number, told) in told.iter().enumerate() {
+    for (number, told) in FIRST.iter().enumerate() {
         if gate.told_of(number) != *told {
             return false;
         }
@@ -192,9 +176,40 @@ fn was_told_first(gate: &Recorder) -> bool {
     gate.wrong.load(Ordering::SeqCst) == 0
 }
 
-#[test]
-fn the_gate_is_told_of_a_request_that_is_stopped(rt: HostRuntime) -> Result<(), Fail> {
-    let gate = record(&rt, "run h --workers 3 --stop 0", SEVEN)?;
-    must_hold(&rt, was_told_first(&gate), "the first ones");
+/// A run of the seven requests that is stopped at once.
+const STOPPED: &str = "run h --workers 3 --stop 0
+< put 0 aa
+< get 11
+< put 3 bb
+< del 5
+< get 20
+< put 14 cc
+< put 7 dd";
+
+/// Makes it.
+fn tells_first(rt: &(impl Abort + AllocGlobal + Threads + Sync)) -> Result<(), Fail> {
+    let gate = Recorder::new(rt.alloc(), 7)?;
+    pass_through(rt, STOPPED, &gate)?;
+    must_hold(rt, was_told_first(&gate), "the first ones");
     Ok(())
+}
+
+/// A call, its workers, the seven requests, and how often it has them.
+const ROWS: [(&str, u64, &str, usize); 3] = [
+    ("run h --workers 1 --sum", 1, SEVEN, 143),
+    ("run h --workers 3 --sum", 3, SEVEN, 143),
+    ("run h --workers 2 --sum", 2, SEVEN_GETS, 10_000),
+];
+
+/// Makes all of these runs.
+fn tells_in_each(rt: &(impl Abort + AllocGlobal + Threads + Sync)) -> Result<(), Fail> {
+    for row in &ROWS {
+        tells_row(rt, *row)?;
+    }
+    tells_first(rt)
+}
+
+#[test]
+fn the_gate_is_told_of_each_request_before_and_behind_it(rt: HostRuntime) -> Result<(), Fail> {
+    tells_in_each(&rt)
 }

@@ -41,6 +41,8 @@ mod shows;
 #[cfg(test)]
 mod stops;
 #[cfg(test)]
+mod turn;
+#[cfg(test)]
 mod versions;
 #[cfg(test)]
 mod words;

@@ -1,12 +1,13 @@
 //! Two workers that are at work at the same time: each is held until the other has come as far.
-use crate::harness::{Ended, NO_CALL, ends_so, make, must_hold, plain, store_with};
-use crate::images::image_bytes;
+use crate::harness::{make, must_hold};
+use crate::session::{ends_as_told, store_of};
 use line_memory::Chance;
+use std::process::Abort;
 use std::sync::atomic::{AtomicU64, Ordering};
 use std::test::Fail;
 use std::thread;
 use std::thread::Threads;
-use tool_ports::{Chances, FailedPut, Gate, MapStore};
+use tool_ports::{Chances, Gate};
 
 /// How often a worker looks whether the other one has come, at most.
 const MOST_TURNS: u64 = 100_000_000;
@@ -61,14 +62,9 @@ fn has_come(other: &AtomicU64) -> bool {
 }
 
 /// Holds each worker before its first request.
-#[derive(Drop)]
-struct MeetingGate {
-    at_first_request: Meeting,
-}
-
-impl Gate for MeetingGate {
+impl Gate for Meeting {
     fn pass(&self, worker: usize, _: usize) {
-        self.at_first_request.come(worker);
+        self.come(worker);
     }
 
     fn done(&self, _: usize, _: usize) {}
@@ -111,45 +107,43 @@ impl<'a> Chance for MeetingChance<'a> {
     }
 }
 
-const BOTH: &str = "ok
-ok
-run closed
-heap 4 clean
-key 0 aa
-key 1 bb
-held 32 2
-held 1024 2
-";
-
 /// A run by two workers, each of which has one put.
-fn run_of_two(
-    rt: &(impl AllocGlobal + Threads + Sync),
-    images: &mut MapStore,
-    gate: &MeetingGate,
-    draws: &Meeting,
-) -> Ended {
-    let call = plain("run h --workers 2", b"put 0 aa\nput 1 bb\n");
-    let mut chances = MeetingChances {
-        at_first_draw: draws,
-    };
-    make(rt, call, images, gate, &mut chances)
+const BOTH: &str = "run h --workers 2
+< put 0 aa
+< put 1 bb
+<
+> ok
+> ok
+> run closed
+> heap 4 clean
+> key 0 aa
+> key 1 bb
+> held 32 2
+> held 1024 2";
+
+/// Makes the run with these two points.
+fn run_with(
+    rt: &(impl Abort + AllocGlobal + Threads + Sync),
+    at_first_request: &Meeting,
+    at_first_draw: &Meeting,
+) -> Result<(), Fail> {
+    let mut images = store_of(rt.alloc(), "4")?;
+    let mut chances = MeetingChances { at_first_draw };
+    let ended = make(rt, &mut images, BOTH, at_first_request, &mut chances);
+    must_hold(rt, ends_as_told(BOTH, ended), "both are done");
+    Ok(())
+}
+
+/// Makes it, and asserts that both points were come to.
+fn meet(rt: &(impl Abort + AllocGlobal + Threads + Sync)) -> Result<(), Fail> {
+    let (requests, draws) = (Meeting::new(), Meeting::new());
+    run_with(rt, &requests, &draws)?;
+    must_hold(rt, requests.was_held(), "at the first requests");
+    must_hold(rt, draws.was_held(), "at the first draws");
+    Ok(())
 }
 
 #[test]
 fn two_workers_meet_in_their_first_steps(rt: HostRuntime) -> Result<(), Fail> {
-    let image = image_bytes(rt.alloc(), "4")?;
-    let mut images = store_with(rt.alloc(), &image, NO_CALL, FailedPut::LeavesOld)?;
-    let gate = MeetingGate {
-        at_first_request: Meeting::new(),
-    };
-    let draws = Meeting::new();
-    let ended = run_of_two(&rt, &mut images, &gate, &draws);
-    must_hold(&rt, ends_so(ended, 0, BOTH), "both are done");
-    must_hold(
-        &rt,
-        gate.at_first_request.was_held(),
-        "at the first requests",
-    );
-    must_hold(&rt, draws.was_held(), "at the first draws");
-    Ok(())
+    meet(&rt)
 }

@@ -1,14 +1,11 @@
 //! `show` by threads: what it prints and how it ends is what `show` without them does.
-use crate::harness::{
-    Ended, NO_CALL, has_image, image_after, make_plain, must_hold, runs, store, store_with,
-};
-use crate::images::image_bytes;
-use crate::session::{play, shows_each};
-use crate::words::are_usage;
+use crate::harness::{Ended, make_turn, must_hold};
+use crate::session::{Table, image_in, played, plays};
+use std::alloc::AllocError;
 use std::process::Abort;
 use std::test::Fail;
 use std::thread::Threads;
-use tool_ports::FailedPut;
+use tool_ports::MapStore;
 
 /// Images of one to four superblocks, among them large blocks, free and fresh superblocks, those of
 /// version 1, and those that are refused.
@@ -37,64 +34,63 @@ table: 1 1; 139712
 table: 9273 8
 1: 9264 0";
 
+/// Requests that leave keys, long values in blocks of their own, and a free superblock.
+const RUN: &str = "+ 4
+$ run h --workers 1
+< put 1 aa
+< put 2 bbbbbbbbbbbbbbbbbbbbbbbbbbbbbbbbbbbbbbbb
+< put 8 cc
+< put 9 dd
+< put 17 ee
+< put 25 ff
+< del 9
+< put 3 00
+< put 7 11
+< del 3
+>* run closed";
+
 /// Whether two calls ended alike.
-fn is_same(first: Ended, second: Ended) -> bool {
-    let (Ok((status, text)), Ok((other, printed))) = (first, second) else {
+fn ended_alike(one: Result<Ended, AllocError>, other: Result<Ended, AllocError>) -> bool {
+    let (Ok(one), Ok(other)) = (one, other) else {
         return false;
     };
-    status == other && text.as_slice() == printed.as_slice()
+    one.status == other.status && one.text() == other.text()
 }
 
 /// Shows the image with threads and without, by these two lines: all is the same.
+fn shows_alike(
+    rt: &(impl Abort + AllocGlobal + Threads + Sync),
+    images: &mut MapStore,
+    line: &str,
+    by_threads: &str,
+) {
+    let ended = make_turn(rt, images, line);
+    let other = make_turn(rt, images, by_threads);
+    must_hold(rt, ended_alike(ended, other), by_threads);
+}
+
+/// Shows the image that a session leaves, with the map of superblocks and without. It stays as it
+/// is.
 fn is_shown_alike(
     rt: &(impl Abort + AllocGlobal + Threads + Sync),
-    image: &[u8],
-    (line, by_threads): (&str, &str),
-    told: &str,
+    session: &str,
 ) -> Result<(), Fail> {
-    let mut images = store_with(rt.alloc(), image, NO_CALL, FailedPut::LeavesOld)?;
-    let ended = make_plain(rt, &mut images, line, b"");
-    let other = make_plain(rt, &mut images, by_threads, b"");
-    must_hold(rt, is_same(ended, other), told);
-    must_hold(rt, has_image(&images, image), told);
+    let mut images = played(rt, session)?;
+    let image = Vec::from_slice(rt.alloc(), image_in(&images))?;
+    shows_alike(rt, &mut images, "show h", "show h --par");
+    shows_alike(rt, &mut images, "show h --map", "show --par h --map");
+    must_hold(rt, image_in(&images) == image.as_slice(), session);
     Ok(())
 }
 
-/// The same with the map of superblocks and without.
-fn is_shown_alike_twice(
-    rt: &(impl Abort + AllocGlobal + Threads + Sync),
-    image: &[u8],
-    told: &str,
-) -> Result<(), Fail> {
-    is_shown_alike(rt, image, ("show h", "show h --par"), told)?;
-    let mapped = ("show h --map", "show --par h --map");
-    is_shown_alike(rt, image, mapped, told)
-}
-
-/// The same of an image told in words.
-fn is_told_alike(rt: &(impl Abort + AllocGlobal + Threads + Sync), told: &str) -> Result<(), Fail> {
-    let image = image_bytes(rt.alloc(), told)?;
-    is_shown_alike_twice(rt, &image, told)
-}
-
-#[test]
-fn images_are_shown_alike_with_threads_and_without(rt: HostRuntime) -> Result<(), Fail> {
+/// Shows each image alike, and that which a run leaves.
+fn are_shown_alike(rt: &(impl Abort + AllocGlobal + Threads + Sync)) -> Result<(), Fail> {
     for told in IMAGES.split('\n') {
         if !told.starts_with('#') {
-            is_told_alike(&rt, told)?;
+            is_shown_alike(rt, told)?;
         }
     }
-    Ok(())
-}
-
-/// Requests that leave keys, long values in blocks of their own, and a free superblock.
-const TRACE: &str = "put 1 aa\nput 2 bbbbbbbbbbbbbbbbbbbbbbbbbbbbbbbbbbbbbbbb\nput 8 cc\n\
-    put 9 dd\nput 17 ee\nput 25 ff\ndel 9\nput 3 00\nput 7 11\ndel 3";
-
-#[test]
-fn what_a_run_leaves_is_shown_alike(rt: HostRuntime) -> Result<(), Fail> {
-    let image = image_after(&rt, "4", TRACE)?;
-    is_shown_alike_twice(&rt, &image, "what a run leaves")
+    is_shown_alike(rt, RUN)
 }
 
 /// What is printed, byte for byte.
@@ -129,11 +125,7 @@ $ show h --par
 > bad header state
 ";
 
-#[test]
-fn what_threads_find_is_printed(rt: HostRuntime) -> Result<(), Fail> {
-    shows_each(&rt, PRINTED)
-}
-
+/// Faults are told with threads too.
 const OUTSIDE: &str = "
 $ show none.img --par
 = 6
@@ -148,29 +140,17 @@ $ show h --par
 ! 1
 = 5
 > heap 1 cwrite fault
+@ 1
+! 1
+$ show h --par
+= 4
+> read fault
 ";
 
-#[test]
-fn faults_are_told_with_threads_too(rt: HostRuntime) -> Result<(), Fail> {
-    play(&rt, &mut store(rt.alloc()), OUTSIDE);
-    let mut failing = store_with(rt.alloc(), b"old", 1, FailedPut::LeavesOld)?;
-    runs(&rt, &mut failing, "show h --par", b"", 4, "read fault\n");
-    must_hold(&rt, has_image(&failing, b"old"), "the store is as it was");
-    Ok(())
-}
-
-const NO_FORM: &str = "show --par
-show h --parr
-show h --pa
-show h --par 1
-show h --par=1
-show h --par --par
-show h h --par
-drain h 4 --par
-rebuild h --par
-run h --workers 1 --par";
+const TABLES: [Table; 2] = [(PRINTED, &[]), (OUTSIDE, &[])];
 
 #[test]
-fn threads_are_asked_for_once_and_of_show_alone(rt: HostRuntime) {
-    are_usage(&rt, NO_FORM);
+fn threads_show_what_one_does(rt: HostRuntime) -> Result<(), Fail> {
+    are_shown_alike(&rt)?;
+    plays(&rt, &TABLES)
 }

@@ -1,11 +1,6 @@
 //! Traces worked off to their end: the replies, the report, and the image that is left.
-use crate::harness::{make_plain, must_hold, runs, store, word};
-use crate::session::play;
-use image_text::number;
-use std::alloc::{AllocError, Global};
-use std::process::Abort;
+use crate::session::{Table, plays};
 use std::test::Fail;
-use std::thread::Threads;
 
 const ANSWERED: &str = "
 $ format h 4
@@ -77,11 +72,6 @@ $ show none.img
 > no image none.img
 ";
 
-#[test]
-fn requests_are_answered_and_the_heap_is_told(rt: HostRuntime) {
-    play(&rt, &mut store(rt.alloc()), ANSWERED);
-}
-
 /// The last call shows that those before it left the heap as it was stopped.
 const REFUSED: &str = "
 $ format h 4
@@ -145,11 +135,7 @@ $ show h
 > held 1024 1
 ";
 
-#[test]
-fn a_refused_run_leaves_the_heap_as_it_is(rt: HostRuntime) {
-    play(&rt, &mut store(rt.alloc()), REFUSED);
-}
-
+/// A stopped run is gone on with.
 const GONE_ON_WITH: &str = "
 $ format h 4
 > formatted 4 bytes 279104
@@ -177,11 +163,8 @@ $ run h --workers 1
 > held 1024 1
 ";
 
-#[test]
-fn a_stopped_run_is_gone_on_with(rt: HostRuntime) {
-    play(&rt, &mut store(rt.alloc()), GONE_ON_WITH);
-}
-
+/// Keys at the end stand in the last bucket: the last root leads to a table, and its last bucket to a
+/// node.
 const LAST_BUCKET: &str = "
 $ format h 2
 > formatted 2 bytes 147904
@@ -196,27 +179,11 @@ $ run h --workers 1
 > key 18446744073709551615 -
 > held 32 1
 > held 1024 1
+& root:7 1 @1080
+& 1207 1 @9272
 ";
 
-/// Whether the word at the place is this pointer.
-fn leads_to(image: &[u8], place: &str, pointer: &str) -> Result<bool, Fail> {
-    Ok(word(image, place)? == number(pointer)?)
-}
-
-/// Asserts that the last root leads to a table, and its last bucket to a node.
-fn leads_to_node(rt: &impl Abort, image: &[u8]) -> Result<(), Fail> {
-    must_hold(rt, leads_to(image, "root:7", "@1080")?, "the root");
-    must_hold(rt, leads_to(image, "1207", "@9272")?, "the bucket");
-    Ok(())
-}
-
-#[test]
-fn keys_at_the_end_stand_in_the_last_bucket(rt: HostRuntime) -> Result<(), Fail> {
-    let mut images = store(rt.alloc());
-    play(&rt, &mut images, LAST_BUCKET);
-    leads_to_node(&rt, images.image("h").unwrap_or(&[]))
-}
-
+/// Long values take blocks of their own.
 const LONG: &str = "
 $ format h 4
 > formatted 4 bytes 279104
@@ -251,11 +218,7 @@ $ run h --workers 1 --sum --map
 > sb 2 free
 ";
 
-#[test]
-fn long_values_take_blocks_of_their_own(rt: HostRuntime) {
-    play(&rt, &mut store(rt.alloc()), LONG);
-}
-
+/// Freed superblocks serve other classes.
 const OTHER_CLASS: &str = "
 $ format h 2
 > formatted 2 bytes 147904
@@ -289,11 +252,7 @@ $ run h --workers 1 --map
 > sb 1 class 2 held 0
 ";
 
-#[test]
-fn freed_superblocks_serve_other_classes(rt: HostRuntime) {
-    play(&rt, &mut store(rt.alloc()), OTHER_CLASS);
-}
-
+/// A block that was freed serves a value that had no room.
 const FIFTH_REFUSED: &str = "
 $ format h 2
 > formatted 2 bytes 147904
@@ -313,11 +272,6 @@ $ run h --workers 1 --sum
 > held 1024 1
 > held 14336 4
 ";
-
-#[test]
-fn a_block_that_was_freed_serves_a_value_that_had_no_room(rt: HostRuntime) {
-    play(&rt, &mut store(rt.alloc()), FIFTH_REFUSED);
-}
 
 const GENERATED: &str = "
 $ gen 4 0
@@ -359,41 +313,55 @@ $ format h 8
 > formatted 8 bytes 541504
 ";
 
-#[test]
-fn a_trace_is_made(rt: HostRuntime) {
-    play(&rt, &mut store(rt.alloc()), GENERATED);
-}
-
-/// What a call prints.
-fn printed(rt: &(impl AllocGlobal + Threads + Sync), line: &str) -> Result<Vec<u8>, AllocError> {
-    Ok(make_plain(rt, &mut store(rt.alloc()), line, b"")?.1)
-}
-
-const EIGHT_RUN: &str = "requests 8 ok 4 none 4 value 0 full 0 unanswered 0
-run closed
-heap 8 clean
-keys 4 bytes 300
-held 96 2
-held 128 2
-held 1024 4
-used 3 free 0 fresh 5
-sb 0 class 12 held 0-3
-sb 1 class 5 held 0-1
-sb 2 class 6 held 0-1
+/// A made trace is run.
+const EIGHT: &str = "
+$ gen 8 1
+> put 61 d1d2d3d4d5d6d7d8d9dadbdcdddedfe0e1e2e3e4e5e6e7e8e9eaebecedeeeff0f1f2f3f4f5f6f7f8f9fafbfcfdfeff000102030405060708090a0b0c
+> put 2592 08090a0b0c0d0e0f101112131415161718191a1b1c1d1e1f202122232425262728292a2b2c2d2e2f303132333435363738393a3b3c3d3e3f404142434445464748494a4b4c4d4e4f505152535455565758595a5b
+> get 1027
+> del 3559
+> put 1994 adaeafb0b1b2b3b4b5b6b7b8b9babbbcbdbebfc0c1c2c3c4c5c6c7c8c9cacbcccdcecfd0d1d2d3d4d5d6d7d8d9dadbdcdddedfe0e1e2e3e4e5e6e7e8e9eaebecedeeeff0f1f2f3f4f5f6f7f8f9fafbfcfdfeff00
+> put 430 e4e5e6e7e8e9eaebecedeeeff0f1f2f3f4f5f6f7f8f9fafbfcfdfeff000102030405060708090a0b0c0d0e0f101112131415161718191a1b1c1d1e1f202122232425262728292a2b
+> get 2961
+> del 1397
+$ format h 8
+> formatted 8 bytes 541504
+$ run h --workers 1 --sum --map
+< put 61 d1d2d3d4d5d6d7d8d9dadbdcdddedfe0e1e2e3e4e5e6e7e8e9eaebecedeeeff0f1f2f3f4f5f6f7f8f9fafbfcfdfeff000102030405060708090a0b0c
+< put 2592 08090a0b0c0d0e0f101112131415161718191a1b1c1d1e1f202122232425262728292a2b2c2d2e2f303132333435363738393a3b3c3d3e3f404142434445464748494a4b4c4d4e4f505152535455565758595a5b
+< get 1027
+< del 3559
+< put 1994 adaeafb0b1b2b3b4b5b6b7b8b9babbbcbdbebfc0c1c2c3c4c5c6c7c8c9cacbcccdcecfd0d1d2d3d4d5d6d7d8d9dadbdcdddedfe0e1e2e3e4e5e6e7e8e9eaebecedeeeff0f1f2f3f4f5f6f7f8f9fafbfcfdfeff00
+< put 430 e4e5e6e7e8e9eaebecedeeeff0f1f2f3f4f5f6f7f8f9fafbfcfdfeff000102030405060708090a0b0c0d0e0f101112131415161718191a1b1c1d1e1f202122232425262728292a2b
+< get 2961
+< del 1397
+<
+> requests 8 ok 4 none 4 value 0 full 0 unanswered 0
+> run closed
+> heap 8 clean
+> keys 4 bytes 300
+> held 96 2
+> held 128 2
+> held 1024 4
+> used 3 free 0 fresh 5
+> sb 0 class 12 held 0-3
+> sb 1 class 5 held 0-1
+> sb 2 class 6 held 0-1
 ";
 
-/// Runs the trace over an empty heap.
-fn runs_eight(rt: &(impl Abort + AllocGlobal + Threads + Sync), trace: &[u8]) {
-    let mut images = store(rt.alloc());
-    let made = "formatted 8 bytes 541504\n";
-    runs(rt, &mut images, "format h 8", b"", 0, made);
-    let line = "run h --workers 1 --sum --map";
-    runs(rt, &mut images, line, trace, 0, EIGHT_RUN);
-}
+const TABLES: [Table; 9] = [
+    (ANSWERED, &[]),
+    (REFUSED, &[]),
+    (GONE_ON_WITH, &[]),
+    (LAST_BUCKET, &[]),
+    (LONG, &[]),
+    (OTHER_CLASS, &[]),
+    (FIFTH_REFUSED, &[]),
+    (GENERATED, &[]),
+    (EIGHT, &[]),
+];
 
 #[test]
-fn a_made_trace_is_run(rt: HostRuntime) -> Result<(), Fail> {
-    let trace = printed(&rt, "gen 8 1")?;
-    runs_eight(&rt, &trace);
-    Ok(())
+fn requests_are_answered_and_the_heap_is_told(rt: HostRuntime) -> Result<(), Fail> {
+    plays(&rt, &TABLES)
 }

@@ -1,12 +1,8 @@
 //! What is told of images: the report, what a class gives, and why there is none.
-use crate::harness::{shows, store};
-use crate::images::image_bytes;
-use crate::session::{play, shows_each, shows_rows};
-use std::alloc::{AllocError, Global};
-use std::process::Abort;
+use crate::session::{Table, plays};
 use std::test::Fail;
-use std::thread::Threads;
 
+/// An image is made and shown.
 const MADE: &str = "
 $ format h 1
 > formatted 1 bytes 82304
@@ -23,27 +19,25 @@ $ show h
 ~ 279104
 ";
 
-#[test]
-fn an_image_is_made_and_shown(rt: HostRuntime) {
-    play(&rt, &mut store(rt.alloc()), MADE);
-}
-
 /// An image of one superblock with these words, of a length, the status, and what is told of it.
 const LENGTHS: &str = "
-1: state 1, used 0; 0 | 7 | bad header short
-1: state 1, used 0; 8511 | 7 | bad header short
-1: state 1, used 0; 8512 | 7 | bad header length
-1: state 1, used 0; 82303 | 7 | bad header length
-1: state 1, used 0; 82312 | 7 | bad header length
-1: state 0, used 2; 82304 | 7 | bad header state
-1: state 1, used 2; 82304 | 7 | bad header used
-1: state 2, used 1; 82304 | 0 | heap 1 dirty
+1: state 1, used 0; 0 = 7 > bad header short
+1: state 1, used 0; 8511 = 7 > bad header short
+1: state 1, used 0; 8512 = 7 > bad header length
+1: state 1, used 0; 82303 = 7 > bad header length
+1: state 1, used 0; 82312 = 7 > bad header length
+1: state 0, used 2; 82304 = 7 > bad header state
+1: state 1, used 2; 82304 = 7 > bad header used
+1: state 2, used 1; 82304 = 0 > heap 1 dirty
 ";
 
-#[test]
-fn a_malformed_image_is_told_by_its_first_cause(rt: HostRuntime) -> Result<(), Fail> {
-    shows_rows(&rt, "show h", LENGTHS)
-}
+/// The call on each row: an image, the status, and the line that is told.
+const SHOWN: [(&str, &str); 4] = [
+    ("\n", "\n@ "),
+    ("\n@ #", "\n#"),
+    (" = ", "\n$ show h\n= "),
+    (" > ", "\n> "),
+];
 
 /// A table in block 0 of superblock 0, to which root 0 points, and two ways to a node behind it.
 const REACHED: &str = "
@@ -77,11 +71,6 @@ $ show h --map
 > sb 0 free
 ";
 
-#[test]
-fn what_the_roots_reach_is_shown(rt: HostRuntime) -> Result<(), Fail> {
-    shows_each(&rt, REACHED)
-}
-
 /// Pointers into a block, to a superblock that was never taken, with another upper half, and of the
 /// last root; and a link.
 const OUTSIDE: &str = "
@@ -107,43 +96,42 @@ $ show h
 > pointer outside at 1328 value 0000000000000007
 ";
 
-#[test]
-fn a_pointer_outside_is_told_with_its_word(rt: HostRuntime) -> Result<(), Fail> {
-    shows_each(&rt, OUTSIDE)
-}
-
 /// Words that make shards bad, of which the lowest is told and its first bad link. Superblock 1 has
 /// nodes of four words, of which the first two begin at 9,272 and 9,276.
 const BAD_SHARDS: &str = "
 # A root leads to a node, or to a table that another root leads to.
-table: root:0 @9272, 1080 0 | 9 | bad shard 0 at 40
-table: root:1 @1080, 9273 0 | 9 | bad shard 0 at 40
-table: root:8 @1080, 9273 0 | 9 | bad shard 0 at 40
-table: root:7 @9276, 9273 0 | 9 | bad shard 7 at 47
+table: root:0 @9272, 1080 0 = 9 > bad shard 0 at 40
+table: root:1 @1080, 9273 0 = 9 > bad shard 0 at 40
+table: root:8 @1080, 9273 0 = 9 > bad shard 0 at 40
+table: root:7 @9276, 9273 0 = 9 > bad shard 7 at 47
 # A bucket leads to the table, or to a node that another root reaches.
-table: 1080 @1080, 9273 0 | 9 | bad shard 0 at 1080
-table: root:8 @9272, 9273 0 | 9 | bad shard 0 at 1080
-table: root:1 @1208, 1208 @9272 | 9 | bad shard 0 at 1080
+table: 1080 @1080, 9273 0 = 9 > bad shard 0 at 1080
+table: root:8 @9272, 9273 0 = 9 > bad shard 0 at 1080
+table: root:1 @1208, 1208 @9272 = 9 > bad shard 0 at 1080
 # The key is of another bucket or shard, or the value has no room.
-table: 9273 8, 9274 0 | 9 | bad shard 0 at 1080
-table: 9273 1, 9274 0 | 9 | bad shard 0 at 1080
-table: 9274 9, 9275 0 | 9 | bad shard 0 at 1080
-table: 9274 131073, 9275 0 | 9 | bad shard 0 at 1080
-table: 9274 18446744073709551615, 9275 0 | 9 | bad shard 0 at 1080
+table: 9273 8, 9274 0 = 9 > bad shard 0 at 1080
+table: 9273 1, 9274 0 = 9 > bad shard 0 at 1080
+table: 9274 9, 9275 0 = 9 > bad shard 0 at 1080
+table: 9274 131073, 9275 0 = 9 > bad shard 0 at 1080
+table: 9274 18446744073709551615, 9275 0 = 9 > bad shard 0 at 1080
 # A node leads to itself, to a node with its key, or to one of another bucket.
-table: 9272 @9272, 9273 0 | 9 | bad shard 0 at 9272
-table: 9272 @9276, 9277 0 | 9 | bad shard 0 at 9272
-table: 9272 @9276, 9277 8 | 9 | bad shard 0 at 9272
+table: 9272 @9272, 9273 0 = 9 > bad shard 0 at 9272
+table: 9272 @9276, 9277 0 = 9 > bad shard 0 at 9272
+table: 9272 @9276, 9277 8 = 9 > bad shard 0 at 9272
 # A later bucket leads to a node of the first, or to one that is not its own.
-table: 1081 @9272, 9273 0 | 9 | bad shard 0 at 1081
-table: 1207 @9276, 9277 1024 | 9 | bad shard 0 at 1207
+table: 1081 @9272, 9273 0 = 9 > bad shard 0 at 1081
+table: 1207 @9276, 9277 1024 = 9 > bad shard 0 at 1207
 ";
 
-#[test]
-fn the_lowest_bad_shard_is_told_with_its_first_bad_link(rt: HostRuntime) -> Result<(), Fail> {
-    shows_rows(&rt, "show h --map", BAD_SHARDS)
-}
+/// The same with `--map`.
+const SHOWN_WITH_MAP: [(&str, &str); 4] = [
+    ("\n", "\n@ "),
+    ("\n@ #", "\n#"),
+    (" = ", "\n$ show h --map\n= "),
+    (" > ", "\n> "),
+];
 
+/// The keys of all shards, in ascending order.
 const KEYS: &str = "
 @ table: 1080 @9276, 9276 @9272, 9277 1024, 9274 2, 9275 16961, root:1 @1208, 1209 @9280, 9281 9
 $ show h
@@ -155,11 +143,7 @@ $ show h
 > held 1024 2
 ";
 
-#[test]
-fn the_keys_of_all_shards_are_shown_in_ascending_order(rt: HostRuntime) -> Result<(), Fail> {
-    shows_each(&rt, KEYS)
-}
-
+/// Superblocks of two kinds.
 const KINDS: &str = "
 @ table: info:1 2
 $ show h
@@ -204,83 +188,23 @@ $ show h --map
 > sb 0 class 4 held 0
 ";
 
-#[test]
-fn superblocks_of_two_kinds_are_shown(rt: HostRuntime) -> Result<(), Fail> {
-    shows_each(&rt, KINDS)
-}
-
-/// A call on an image of two superblocks, the first line that it prints, and the blocks that are
-/// listed behind it: the first of them, their size, and how many there are.
-type Drained = (&'static str, &'static str, &'static str, [u64; 3]);
-
-const DRAINED: [Drained; 4] = [
-    (
-        "2: used 1, info:0 4, root:8 @1080",
-        "drain h 04",
-        "class 4 size 64 blocks 2047",
-        [8_704, 64, 2_047],
-    ),
-    (
-        "2: used 1, info:0 4, root:8 @1080",
-        "drain h 012",
-        "class 12 size 1024 blocks 64",
-        [74_176, 1_024, 64],
-    ),
-    (
-        "2: state 2",
-        "drain h 01",
-        "class 1 size 16 blocks 8192",
-        [8_640, 16, 8_192],
-    ),
-    (
-        "2: used 2, info:0 767, root:8 @1080",
-        "drain h 02",
-        "class 2 size 32 blocks 0",
-        [0, 32, 0],
-    ),
-];
-
-/// The line, and behind it the blocks, a line each.
-fn drained_text(
-    alloc: Global,
-    line: &str,
-    [first, size, count]: [u64; 3],
-) -> Result<String, AllocError> {
-    let mut text = String::from_str(alloc, line)?;
-    let mut offset = first;
-    for _ in 0..count {
-        write!(text, "\n{offset}")?;
-        offset = offset.wrapping_add(size);
-    }
-    text.push_str("\n")?;
-    Ok(text)
-}
-
-/// Makes a call on an image told in words.
-fn drains(
-    rt: &(impl Abort + AllocGlobal + Threads + Sync),
-    image: &str,
-    call: &str,
-    text: &str,
-) -> Result<(), Fail> {
-    let image = image_bytes(rt.alloc(), image)?;
-    shows(rt, &image, call, 0, text)
-}
-
-/// Asks for the blocks of a class.
-fn is_drained(rt: &(impl Abort + AllocGlobal + Threads + Sync), row: &Drained) -> Result<(), Fail> {
-    let (image, call, line, blocks) = *row;
-    let text = drained_text(rt.alloc(), line, blocks)?;
-    drains(rt, image, call, &text)
-}
-
-#[test]
-fn what_a_class_gives_is_listed(rt: HostRuntime) -> Result<(), Fail> {
-    for row in &DRAINED {
-        is_drained(&rt, row)?;
-    }
-    Ok(())
-}
+/// Listed blocks of a class, in ascending order.
+const DRAINED: &str = "
+@ 2: used 1, info:0 4, root:8 @1080
+$ drain h 04
+> class 4 size 64 blocks 2047
+>+ 8704 64 2047
+$ drain h 012
+> class 12 size 1024 blocks 64
+>+ 74176 1024 64
+@ 2: state 2
+$ drain h 01
+> class 1 size 16 blocks 8192
+>+ 8640 16 8192
+@ 2: used 2, info:0 767, root:8 @1080
+$ drain h 02
+> class 2 size 32 blocks 0
+";
 
 /// Free superblocks are cut for any class; and what `show` refuses is refused.
 const GIVEN: &str = "
@@ -317,7 +241,19 @@ $ drain h 12
 > pointer outside at 40 value 5250000000002180
 ";
 
+const TABLES: [Table; 9] = [
+    (MADE, &[]),
+    (REACHED, &[]),
+    (KEYS, &[]),
+    (KINDS, &[]),
+    (DRAINED, &[]),
+    (GIVEN, &[]),
+    (LENGTHS, &SHOWN),
+    (OUTSIDE, &[]),
+    (BAD_SHARDS, &SHOWN_WITH_MAP),
+];
+
 #[test]
-fn free_superblocks_are_cut_for_any_class(rt: HostRuntime) -> Result<(), Fail> {
-    shows_each(&rt, GIVEN)
+fn images_are_made_shown_and_drained(rt: HostRuntime) -> Result<(), Fail> {
+    plays(&rt, &TABLES)
 }

@@ -1,48 +1,35 @@
 //! Runs stopped at their steps: what is told of the image that is left, and that it is gone on with.
-use crate::harness::{
-    NO_CALL, image_after, make, make_plain, must_hold, numbered, plain, runs, store_with,
-};
-use line_memory::ConstantChance;
-use std::alloc::{AllocError, Global};
+use crate::harness::{make_numbered, make_turn, must_hold};
+use crate::session::{play, store_of};
 use std::process::Abort;
 use std::test::Fail;
 use std::thread::Threads;
-use tool_ports::{Chances, FailedPut, MapStore, OpenGate, SeededChances};
+use tool_ports::MapStore;
 
-/// How a run is stopped: its line, without the step, and how far the steps that are tried lie apart
-/// behind the first ones.
-#[derive(Clone, Copy)]
-struct Stops {
-    line: &'static str,
-    apart: u64,
-}
+/// What the heap of two superblocks went through before the run that is stopped.
+const BEFORE: &str = "
+$ run h --workers 1
+< put 0 aa
+>* run closed";
 
-/// A run by one worker.
-const BY_ONE: Stops = Stops {
-    line: "run h --workers 1 --stop ",
-    apart: 509,
-};
+/// A put by one worker that is stopped at step N, by each of the chances.
+const BY_ONE: [&str; 3] = [
+    "run h --workers 1 --stop N
+< put 0 bb
+% 0",
+    "run h --workers 1 --stop N
+< put 0 bb
+% 1",
+    "run h --workers 1 --stop N
+< put 0 bb",
+];
 
-/// A run by two workers, of which the second has no request here and so takes no step.
-const BY_TWO: Stops = Stops {
-    line: "run h --workers 2 --stop ",
-    apart: 37,
-};
+/// The same by two workers, of which the second has no request here and so takes no step.
+const BY_TWO: &str = "run h --workers 2 --stop N
+< put 0 bb
+% 0";
 
-/// A stopped run of a trace over the image of the store: what it prints.
-fn stopped_run<C: Chances>(
-    rt: &(impl AllocGlobal + Threads + Sync),
-    images: &mut MapStore,
-    (line, trace): (&str, &str),
-    budget: u64,
-    chances: &mut C,
-) -> Result<Vec<u8>, AllocError> {
-    let line = numbered(rt.alloc(), line, budget)?;
-    let call = plain(&line, trace.as_bytes());
-    Ok(make(rt, call, images, &OpenGate, chances)?.1)
-}
-
-/// What is told of a put that replaces a value, stopped before the step at which it does so.
+/// What is told of the put that replaces a value, stopped before the step at which it does so.
 const OLD: &str = "unanswered
 run stopped
 heap 2 dirty
@@ -78,142 +65,132 @@ held 32 1
 held 1024 1
 ";
 
-#[derive(Clone, Copy, PartialEq, Eq)]
-enum Seen {
-    Old,
-    New,
-    Answered,
-    Closed,
-}
+/// The four in the order in which they are seen at later and later steps.
+const SEEN: [&str; 4] = [OLD, NEW, ANSWERED, CLOSED];
 
-/// Which of the four is printed.
-fn seen_in(printed: &[u8]) -> Result<Seen, Fail> {
-    if printed == OLD.as_bytes() {
-        Ok(Seen::Old)
-    } else if printed == NEW.as_bytes() {
-        Ok(Seen::New)
-    } else if printed == ANSWERED.as_bytes() {
-        Ok(Seen::Answered)
-    } else if printed == CLOSED.as_bytes() {
-        Ok(Seen::Closed)
-    } else {
-        Err("another text is printed".into())
+/// The put once more, on what was left.
+const AGAIN: &str = "
+$ run h --workers 1
+< put 0 bb
+> ok
+> run closed
+> heap 2 clean
+> key 0 bb
+> held 32 1
+> held 1024 1";
+
+/// Which of the four is printed, by its number.
+fn seen_in(printed: &str) -> Result<usize, Fail> {
+    for (number, text) in SEEN.iter().enumerate() {
+        if printed == *text {
+            return Ok(number);
+        }
     }
+    Err("another text is printed".into())
 }
 
-/// Which of the four is printed where the put is stopped at this step.
-fn seen_at<C: Chances>(
+/// Stops the put at this step: which of the four is printed.
+fn stop_put(
     rt: &(impl AllocGlobal + Threads + Sync),
     images: &mut MapStore,
-    line: &str,
+    stop: &str,
     budget: u64,
-    chances: &mut C,
-) -> Result<Seen, Fail> {
-    let printed = stopped_run(rt, images, (line, "put 0 bb"), budget, chances)?;
-    seen_in(&printed)
+) -> Result<usize, Fail> {
+    let ended = make_numbered(rt, images, stop, budget)?;
+    seen_in(ended.text())
 }
 
 /// Stops the put at this step, and does it on what is left.
-fn stop_put<C: Chances>(
+fn put_twice(
     rt: &(impl Abort + AllocGlobal + Threads + Sync),
-    image: &[u8],
-    line: &str,
+    images: &mut MapStore,
+    stop: &str,
     budget: u64,
-    chances: &mut C,
-) -> Result<Seen, Fail> {
-    let mut images = store_with(rt.alloc(), image, NO_CALL, FailedPut::LeavesOld)?;
-    let seen = seen_at(rt, &mut images, line, budget, chances)?;
-    if seen != Seen::Closed {
-        let trace = b"put 0 bb".as_slice();
-        runs(rt, &mut images, "run h --workers 1", trace, 0, CLOSED);
+) -> Result<usize, Fail> {
+    play(rt, images, BEFORE)?;
+    let seen = stop_put(rt, images, stop, budget)?;
+    if seen != 3 {
+        play(rt, images, AGAIN)?;
     }
     Ok(seen)
 }
 
-/// Whether the one may be seen at a step behind the other: the old value, then the new one, then
-/// the answer, and then the end.
-fn may_follow(before: Seen, seen: Seen) -> bool {
-    match seen {
-        Seen::Old => before == Seen::Old,
-        Seen::New => before == Seen::Old || before == Seen::New,
-        Seen::Answered => before == Seen::New || before == Seen::Answered,
-        Seen::Closed => before == Seen::Answered,
-    }
+/// The same over a heap of its own.
+fn seen_at(
+    rt: &(impl Abort + AllocGlobal + Threads + Sync),
+    stop: &str,
+    budget: u64,
+) -> Result<usize, Fail> {
+    let mut images = store_of(rt.alloc(), "2")?;
+    put_twice(rt, &mut images, stop, budget)
 }
 
 /// The next step that is tried: each of so many first ones, and few of those behind, in which a
 /// worker empties its caches.
-fn next_step(budget: u64, each: u64, stops: &Stops) -> u64 {
-    budget.saturating_add(if budget < each { 1 } else { stops.apart })
+fn next_step(budget: u64, each: u64, apart: u64) -> u64 {
+    budget.saturating_add(if budget < each { 1 } else { apart })
 }
 
 /// Stops the put at one step after the other until it is closed: the old value is there up to some
 /// step, and from there on the new one.
-fn replaces_at_one_step<C: Chances>(
+fn replaces_at_one_step(
     rt: &(impl Abort + AllocGlobal + Threads + Sync),
-    image: &[u8],
-    stops: &Stops,
-    chances: &mut C,
+    stop: &str,
+    apart: u64,
 ) -> Result<(), Fail> {
-    let mut before = Seen::Old;
+    let mut before = 0usize;
     let mut budget = 0u64;
     for _ in 0..1_000 {
-        let seen = stop_put(rt, image, stops.line, budget, chances)?;
-        must_hold(rt, may_follow(before, seen), "old, new, answered, closed");
-        if seen == Seen::Closed {
+        let seen = seen_at(rt, stop, budget)?;
+        must_hold(rt, seen == before || seen == before.saturating_add(1), stop);
+        if seen == 3 {
             must_hold(rt, 40 < budget, "it takes steps");
             return Ok(());
         }
         before = seen;
-        budget = next_step(budget, 40, stops);
+        budget = next_step(budget, 40, apart);
     }
     Err("it never closes".into())
 }
 
-#[test]
-fn a_replaced_value_is_old_or_new_at_each_stop(rt: HostRuntime) -> Result<(), Fail> {
-    let image = image_after(&rt, "2", "put 0 aa")?;
-    replaces_at_one_step(&rt, &image, &BY_ONE, &mut ConstantChance(0))?;
-    replaces_at_one_step(&rt, &image, &BY_ONE, &mut ConstantChance(1))?;
-    replaces_at_one_step(&rt, &image, &BY_ONE, &mut SeededChances::new())
-}
+/// A run of three requests, stopped at step N, with N as its chance.
+const REQUESTS: &str = "run h --workers 1 --stop N
+< put 8 bb
+< put 0 cc
+< del 8
+<
+% N";
 
-#[test]
-fn a_value_is_replaced_by_one_of_two_workers(rt: HostRuntime) -> Result<(), Fail> {
-    let image = image_after(&rt, "2", "put 0 aa")?;
-    replaces_at_one_step(&rt, &image, &BY_TWO, &mut ConstantChance(0))
-}
+/// A run of those of them that are left, where none was answered, one, two or all.
+const REST: [&str; 4] = [
+    "run h --workers 1
+< put 8 bb
+< put 0 cc
+< del 8
+<",
+    "run h --workers 1
+< put 0 cc
+< del 8
+<",
+    "run h --workers 1
+< del 8
+<",
+    "run h --workers 1",
+];
+
+const REPORT: &str = "heap 2 clean\nkey 0 cc\nheld 32 1\nheld 1024 1\n";
 
 /// How many lines of the text come before the first that begins with `run`, and how many of these
 /// are replies.
-fn answered(text: &[u8]) -> usize {
+fn answered(text: &str) -> usize {
     let mut count = 0usize;
-    for line in text.split(|byte| *byte == b'\n') {
-        if line.starts_with(b"run") || line == b"unanswered".as_slice() {
+    for line in text.split('\n') {
+        if line.starts_with("run") || line == "unanswered" {
             return count;
         }
         count = count.wrapping_add(1);
     }
     count
-}
-
-const REPORT: &[u8] = b"heap 2 clean\nkey 0 cc\nheld 32 1\nheld 1024 1\n";
-
-const REQUESTS: &str = "put 8 bb
-put 0 cc
-del 8
-";
-
-/// The requests behind so many first ones.
-fn requests_behind(count: usize) -> &'static str {
-    let mut rest = REQUESTS;
-    for _ in 0..count {
-        rest = match rest.split_once('\n') {
-            Some((_, behind)) => behind,
-            None => "",
-        };
-    }
-    rest
 }
 
 /// Runs the requests behind so many first ones on what a stop left.
@@ -222,46 +199,72 @@ fn runs_rest(
     images: &mut MapStore,
     count: usize,
 ) -> Result<(), Fail> {
-    let rest = requests_behind(count);
-    let (status, told) = make_plain(rt, images, "run h --workers 1", rest.as_bytes())?;
-    must_hold(rt, status == 0 && told.ends_with(REPORT), "the rest is run");
+    let ended = make_turn(rt, images, REST.get(count).unwrap_or(&""))?;
+    must_hold(
+        rt,
+        ended.status == 0 && ended.text().ends_with(REPORT),
+        "the rest is run",
+    );
     Ok(())
 }
 
-/// Stops a run of the requests at this step: how many are answered, and whether none was left.
+/// Stops a run of the requests at this step: how many are answered. Where it is closed, all are.
 fn stop_requests(
-    rt: &(impl AllocGlobal + Threads + Sync),
+    rt: &(impl Abort + AllocGlobal + Threads + Sync),
     images: &mut MapStore,
     budget: u64,
-) -> Result<(usize, bool), AllocError> {
-    let mut chance = ConstantChance(budget);
-    let printed = stopped_run(rt, images, (BY_ONE.line, REQUESTS), budget, &mut chance)?;
-    Ok((answered(&printed), printed.ends_with(REPORT)))
+) -> Result<(usize, bool), Fail> {
+    let ended = make_numbered(rt, images, REQUESTS, budget)?;
+    let count = answered(ended.text());
+    let is_closed = ended.text().ends_with(REPORT);
+    must_hold(rt, !is_closed || count == 3, "all are answered in the end");
+    Ok((count, is_closed))
 }
 
 /// Stops a run of the requests at this step, and runs those left unanswered on what is left. The
 /// answer is whether none was.
 fn go_on(
     rt: &(impl Abort + AllocGlobal + Threads + Sync),
-    image: &[u8],
+    images: &mut MapStore,
     budget: u64,
 ) -> Result<bool, Fail> {
-    let mut images = store_with(rt.alloc(), image, NO_CALL, FailedPut::LeavesOld)?;
-    let (count, is_closed) = stop_requests(rt, &mut images, budget)?;
-    runs_rest(rt, &mut images, count)?;
-    must_hold(rt, !is_closed || count == 3, "all are answered in the end");
+    play(rt, images, BEFORE)?;
+    let (count, is_closed) = stop_requests(rt, images, budget)?;
+    runs_rest(rt, images, count)?;
     Ok(is_closed)
 }
 
-#[test]
-fn requests_left_unanswered_are_run_on_what_a_stop_left(rt: HostRuntime) -> Result<(), Fail> {
-    let image = image_after(&rt, "2", "put 0 aa")?;
+/// The same over a heap of its own.
+fn is_closed_at(
+    rt: &(impl Abort + AllocGlobal + Threads + Sync),
+    budget: u64,
+) -> Result<bool, Fail> {
+    let mut images = store_of(rt.alloc(), "2")?;
+    go_on(rt, &mut images, budget)
+}
+
+/// Goes on from one step after the other, until no request is left.
+fn goes_on_from_each(rt: &(impl Abort + AllocGlobal + Threads + Sync)) -> Result<(), Fail> {
     let mut budget = 0u64;
     for _ in 0..1_000 {
-        if go_on(&rt, &image, budget)? {
+        if is_closed_at(rt, budget)? {
             return Ok(());
         }
-        budget = next_step(budget, 100, &BY_ONE);
+        budget = next_step(budget, 100, 509);
     }
     Err("it never closes".into())
+}
+
+/// Replaces the value at one step by each chance, and by two workers.
+fn replaces_by_each(rt: &(impl Abort + AllocGlobal + Threads + Sync)) -> Result<(), Fail> {
+    for stop in &BY_ONE {
+        replaces_at_one_step(rt, stop, 509)?;
+    }
+    replaces_at_one_step(rt, BY_TWO, 37)
+}
+
+#[test]
+fn what_a_stop_leaves_is_gone_on_with(rt: HostRuntime) -> Result<(), Fail> {
+    replaces_by_each(&rt)?;
+    goes_on_from_each(&rt)
 }

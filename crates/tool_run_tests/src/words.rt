@@ -1,11 +1,10 @@
 //! The words of a call: which ask for a command, and which for none.
-use crate::harness::{must_hold, runs, store};
-use crate::session::play;
-use std::process::Abort;
-use std::thread::Threads;
+use crate::session::{Table, plays};
+use std::test::Fail;
 
 /// Words that ask for nothing, a call a line; the first call has one empty word.
-const NO_FORM: &str = "''
+const NO_COMMAND: &str = "
+''
 run h --workers 9
 format h
 format h 0
@@ -32,9 +31,8 @@ help
 help show
 --version
 --map show h
--- show h";
-
-const NO_CLASS: &str = "drain
+-- show h
+drain
 drain h
 drain h 0
 drain h 21
@@ -43,27 +41,49 @@ drain h 4x
 drain h 4 4
 drain h --map
 drain -h 4
-drain 4 h";
+drain 4 h
+show --par
+show h --parr
+show h --pa
+show h --par 1
+show h --par=1
+show h --par --par
+show h h --par
+drain h 4 --par
+rebuild h --par
+run h --workers 1 --par
+conservative
+conservative -h
+conservative h h
+conservative h --mapp
+conservative h --map 1
+conservative h --map=1
+conservative h --map --map
+conservative h --par
+conservative h --seed 1
+conservative --help
+conservatively h
+Conservative h
+conserv h
+count
+count -h
+count h h
+count h --mapp
+count h --map 1
+count h --map=1
+count h --map --map
+count h --par
+count h --seed 1
+count --help
+counts h
+Count h
+coun h
+.";
 
-/// Makes the calls, which ask for nothing.
-pub fn are_usage(rt: &(impl Abort + AllocGlobal + Threads + Sync), lines: &str) {
-    let mut images = store(rt.alloc());
-    for line in lines.split('\n') {
-        runs(rt, &mut images, line, b"", 2, "usage\n");
-    }
-    must_hold(rt, images.image("h").is_none(), "no image is put");
-}
+/// Makes a call of each line but the last, and tells that no image is put.
+const USAGE: [(&str, &str); 2] = [("\n", "\n= 2\n> usage\n~ none\n$ "), ("\n$ .", "")];
 
-#[test]
-fn words_of_another_form_are_usage(rt: HostRuntime) {
-    are_usage(&rt, NO_FORM);
-}
-
-#[test]
-fn words_that_name_no_class_are_usage(rt: HostRuntime) {
-    are_usage(&rt, NO_CLASS);
-}
-
+/// Options stand anywhere behind the command.
 const OPTIONS: &str = "
 $ format h +1
 > formatted 1 bytes 82304
@@ -83,11 +103,7 @@ $ show --map -- h
 > used 0 free 0 fresh 1
 ";
 
-#[test]
-fn options_stand_anywhere_behind_the_command(rt: HostRuntime) {
-    play(&rt, &mut store(rt.alloc()), OPTIONS);
-}
-
+/// An image that is not there is named.
 const NO_IMAGE: &str = "
 $ show none.img
 ! 9
@@ -113,11 +129,7 @@ $ drain none.img 12
 > no image none.img
 ";
 
-#[test]
-fn an_image_that_is_not_there_is_named(rt: HostRuntime) {
-    play(&rt, &mut store(rt.alloc()), NO_IMAGE);
-}
-
+/// A failing sink is told behind what it took.
 const FAILING_SINK: &str = "
 $ format h 1
 ! 0
@@ -159,7 +171,14 @@ $ drain h 20
 ~ 82304
 ";
 
+const TABLES: [Table; 4] = [
+    (NO_COMMAND, &USAGE),
+    (OPTIONS, &[]),
+    (NO_IMAGE, &[]),
+    (FAILING_SINK, &[]),
+];
+
 #[test]
-fn a_failing_sink_is_told_behind_what_it_took(rt: HostRuntime) {
-    play(&rt, &mut store(rt.alloc()), FAILING_SINK);
+fn words_ask_for_a_command_or_for_none(rt: HostRuntime) -> Result<(), Fail> {
+    plays(&rt, &TABLES)
 }

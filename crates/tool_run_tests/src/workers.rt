@@ -1,11 +1,6 @@
 //! Runs by several workers: what is told whatever their steps come to.
-use crate::harness::{joined, make_plain, must_hold, runs, store};
-use crate::session::play;
-use std::alloc::AllocError;
-use std::process::Abort;
+use crate::session::{Table, plays};
 use std::test::Fail;
-use std::thread::Threads;
-use tool_ports::MapStore;
 
 /// Requests to all shards, with so many workers in place of N. Only the map tells how many there
 /// were.
@@ -118,38 +113,12 @@ $ run h --workers N
 > held 1024 1
 ";
 
-/// Plays the session with so many workers.
-fn play_with(
-    rt: &(impl Abort + AllocGlobal + Threads + Sync),
-    session: &str,
-    workers: &str,
-) -> Result<(), AllocError> {
-    let session = session.replace(rt.alloc(), "workers N", workers)?;
-    play(rt, &mut store(rt.alloc()), &session);
-    Ok(())
-}
+/// One worker, two or eight.
+pub const BY_ONE: [(&str, &str); 1] = [("workers N", "workers 1")];
 
-/// Plays the session with one worker, with two, and with eight.
-pub fn play_with_each(
-    rt: &(impl Abort + AllocGlobal + Threads + Sync),
-    session: &str,
-) -> Result<(), AllocError> {
-    play_with(rt, session, "workers 1")?;
-    play_with(rt, session, "workers 2")?;
-    play_with(rt, session, "workers 8")
-}
+pub const BY_TWO: [(&str, &str); 1] = [("workers N", "workers 2")];
 
-#[test]
-fn any_number_of_workers_answers_the_same(rt: HostRuntime) -> Result<(), Fail> {
-    play_with_each(&rt, EVERY_SHARD)?;
-    Ok(())
-}
-
-#[test]
-fn the_requests_to_one_shard_are_one_workers(rt: HostRuntime) -> Result<(), Fail> {
-    play_with_each(&rt, ONE_SHARD)?;
-    Ok(())
-}
+pub const BY_EIGHT: [(&str, &str); 1] = [("workers N", "workers 8")];
 
 /// A put that finds no room, a deletion, and the same put, by one of two workers; and the same with
 /// a deletion by the other worker, in a run of its own.
@@ -210,64 +179,84 @@ $ run h --workers 2 --sum
 > held 14336 4
 ";
 
-#[test]
-fn a_put_finds_the_room_of_a_deletion(rt: HostRuntime) {
-    play(&rt, &mut store(rt.alloc()), ROOM_AGAIN);
-}
-
-/// Runs over one heap, each with its options and its requests. What a stopped one was asked for is
-/// asked once more by the next number of workers.
+/// Runs by several numbers of workers over one heap. What a stopped one was asked for is asked once
+/// more by the next.
 const CHAIN: &str = "
-1: put 0 aa, put 1 bb, put 2 cc, put 11 dd, put 20 ee
-8 --stop 3000: put 0 -, del 1, put 3 0102, put 4 ff, put 14 03, del 20, put 7 04, put 9 05
-2: put 0 -, del 1, put 3 0102, put 4 ff, put 14 03, del 20, put 7 04, put 9 05, put 12 06
-4 --stop 3000: del 2, put 1 07, put 3 -, put 12 08, del 7, put 18446744073709551615 09
-3: del 2, put 1 07, put 3 -, put 12 08, del 7, put 18446744073709551615 09, del 11, put 8 0a";
-
-/// The map that is left.
-const CHAINED: &str = "
-heap 24 clean
-key 0 -
-key 1 07
-key 3 -
-key 4 ff
-key 8 0a
-key 9 05
-key 12 08
-key 14 03
-key 18446744073709551615 09
-held 32 9
-held 1024 7
+$ format h 24
+> formatted 24 bytes 1591104
+$ run h --workers 1
+< put 0 aa
+< put 1 bb
+< put 2 cc
+< put 11 dd
+< put 20 ee
+>* run closed
+$ run h --workers 8 --stop 3000
+< put 0 -
+< del 1
+< put 3 0102
+< put 4 ff
+< put 14 03
+< del 20
+< put 7 04
+< put 9 05
+>* run stopped
+$ run h --workers 2
+< put 0 -
+< del 1
+< put 3 0102
+< put 4 ff
+< put 14 03
+< del 20
+< put 7 04
+< put 9 05
+< put 12 06
+>* run closed
+$ run h --workers 4 --stop 3000
+< del 2
+< put 1 07
+< put 3 -
+< put 12 08
+< del 7
+< put 18446744073709551615 09
+>* run stopped
+$ run h --workers 3
+< del 2
+< put 1 07
+< put 3 -
+< put 12 08
+< del 7
+< put 18446744073709551615 09
+< del 11
+< put 8 0a
+>* run closed
+$ show h
+> heap 24 clean
+> key 0 -
+> key 1 07
+> key 3 -
+> key 4 ff
+> key 8 0a
+> key 9 05
+> key 12 08
+> key 14 03
+> key 18446744073709551615 09
+> held 32 9
+> held 1024 7
 ";
 
-/// Makes a run of the chain.
-fn go_on(
-    rt: &(impl Abort + AllocGlobal + Threads + Sync),
-    images: &mut MapStore,
-    row: &str,
-) -> Result<(), Fail> {
-    let (options, requests) = row.split_once(": ").unwrap_or((row, ""));
-    let line = joined(rt.alloc(), &["run h --workers ", options])?;
-    let trace = requests.replace(rt.alloc(), ", ", "\n")?;
-    let (_, printed) = make_plain(rt, images, &line, trace.as_bytes())?;
-    let printed = String::from_utf8(printed).map_err(|_| "no text")?;
-    let wanted = if options.contains("stop") {
-        "run stopped\n"
-    } else {
-        "run closed\n"
-    };
-    must_hold(rt, printed.contains(wanted), row);
-    Ok(())
-}
+const TABLES: [Table; 8] = [
+    (EVERY_SHARD, &BY_ONE),
+    (EVERY_SHARD, &BY_TWO),
+    (EVERY_SHARD, &BY_EIGHT),
+    (ONE_SHARD, &BY_ONE),
+    (ONE_SHARD, &BY_TWO),
+    (ONE_SHARD, &BY_EIGHT),
+    (ROOM_AGAIN, &[]),
+    (CHAIN, &[]),
+];
 
 #[test]
-fn runs_by_other_numbers_of_workers_follow_one_another(rt: HostRuntime) -> Result<(), Fail> {
-    let mut images = store(rt.alloc());
-    let made = "formatted 24 bytes 1591104\n";
-    runs(&rt, &mut images, "format h 24", b"", 0, made);
-    for row in CHAIN.trim().split('\n') {
-        go_on(&rt, &mut images, row)?;
-    }
-    runs(&rt, &mut images, "show h", b"", 0, CHAINED.trim_start());
-    Ok(())
+fn any_number_of_workers_answers_the_same(rt: HostRuntime) -> Result<(), Fail> {
+    plays(&rt, &TABLES)
 }
