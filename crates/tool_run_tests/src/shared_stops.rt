@@ -6,7 +6,7 @@ use std::alloc::{AllocError, Global};
 use std::process::Abort;
 use std::test::Fail;
 use std::thread::Threads;
-use tool_ports::MapStore;
+use tool_ports::{ImageStore, MapStore};
 
 /// What is in the shards before, in an image of four superblocks with what belongs to no shard:
 /// words that have no meaning, a block to which root 8 points, and a kind of a root that is null.
@@ -173,37 +173,41 @@ fn run_again(
     Ok(())
 }
 
-/// Stops a run at this step, and runs all requests on what it left. The answer is whether it was
-/// stopped.
+/// Stops a run at this step, over the image, and runs all requests on what it left. The answer is
+/// whether it was stopped.
 fn stop_at(
     rt: &(impl Abort + AllocGlobal + Threads + Sync),
-    before: &[u8],
+    images: &mut MapStore,
+    image: &[u8],
     long: &str,
     budget: u64,
 ) -> Result<bool, Fail> {
-    let mut images = played(rt, BEFORE)?;
-    let is_stopped = stop_run(rt, &mut images, before, long, budget)?;
-    run_again(rt, &mut images, long, budget)?;
+    images.put(rt.alloc(), "h", image)?;
+    let is_stopped = stop_run(rt, images, image, long, budget)?;
+    run_again(rt, images, long, budget)?;
     Ok(is_stopped)
 }
 
 /// Stops a run at each 37th step, until it isn't stopped.
 fn stop_at_each(
     rt: &(impl Abort + AllocGlobal + Threads + Sync),
-    before: &[u8],
+    images: &mut MapStore,
+    image: &[u8],
 ) -> Result<(), Fail> {
     let long = long_value(rt.alloc())?;
     for budget in (0..37_000).step_by(37) {
-        if !stop_at(rt, before, &long, budget)? {
+        if !stop_at(rt, images, image, &long, budget)? {
             return Ok(());
         }
     }
     Err("it never closes".into())
 }
 
+/// Does so over the image that is left before.
 fn stops(rt: &(impl Abort + AllocGlobal + Threads + Sync)) -> Result<(), Fail> {
-    let images = played(rt, BEFORE)?;
-    stop_at_each(rt, image_in(&images))
+    let mut images = played(rt, BEFORE)?;
+    let image = Vec::from_slice(rt.alloc(), image_in(&images))?;
+    stop_at_each(rt, &mut images, &image)
 }
 
 #[test]

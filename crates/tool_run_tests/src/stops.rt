@@ -1,13 +1,13 @@
 //! Runs stopped at their steps: what is told of the image that is left, and that it is gone on with.
 use crate::harness::{make_numbered, make_turn, must_hold};
-use crate::session::{play, store_of};
+use crate::session::{image_in, play, played};
 use std::process::Abort;
 use std::test::Fail;
 use std::thread::Threads;
-use tool_ports::MapStore;
+use tool_ports::{ImageStore, MapStore};
 
 /// What the heap of two superblocks went through before the run that is stopped.
-const BEFORE: &str = "
+const BEFORE: &str = "+ 2
 $ run h --workers 1
 < put 0 aa
 >* run closed";
@@ -100,29 +100,20 @@ fn stop_put(
     seen_in(ended.text())
 }
 
-/// Stops the put at this step, and does it on what is left.
+/// Stops the put at this step, over the image, and does it on what is left.
 fn put_twice(
     rt: &(impl Abort + AllocGlobal + Threads + Sync),
     images: &mut MapStore,
+    image: &[u8],
     stop: &str,
     budget: u64,
 ) -> Result<usize, Fail> {
-    play(rt, images, BEFORE)?;
+    images.put(rt.alloc(), "h", image)?;
     let seen = stop_put(rt, images, stop, budget)?;
     if seen != 3 {
         play(rt, images, AGAIN)?;
     }
     Ok(seen)
-}
-
-/// The same over a heap of its own.
-fn seen_at(
-    rt: &(impl Abort + AllocGlobal + Threads + Sync),
-    stop: &str,
-    budget: u64,
-) -> Result<usize, Fail> {
-    let mut images = store_of(rt.alloc(), "2")?;
-    put_twice(rt, &mut images, stop, budget)
 }
 
 /// The next step that is tried: each of so many first ones, and few of those behind, in which a
@@ -135,13 +126,14 @@ fn next_step(budget: u64, each: u64, apart: u64) -> u64 {
 /// step, and from there on the new one.
 fn replaces_at_one_step(
     rt: &(impl Abort + AllocGlobal + Threads + Sync),
-    stop: &str,
-    apart: u64,
+    images: &mut MapStore,
+    image: &[u8],
+    (stop, apart): (&str, u64),
 ) -> Result<(), Fail> {
     let mut before = 0usize;
     let mut budget = 0u64;
     for _ in 0..1_000 {
-        let seen = seen_at(rt, stop, budget)?;
+        let seen = put_twice(rt, images, image, stop, budget)?;
         must_hold(rt, seen == before || seen == before.saturating_add(1), stop);
         if seen == 3 {
             must_hold(rt, 40 < budget, "it takes steps");
@@ -221,33 +213,29 @@ fn stop_requests(
     Ok((count, is_closed))
 }
 
-/// Stops a run of the requests at this step, and runs those left unanswered on what is left. The
-/// answer is whether none was.
+/// Stops a run of the requests at this step, over the image, and runs those left unanswered on what
+/// is left. The answer is whether none was.
 fn go_on(
     rt: &(impl Abort + AllocGlobal + Threads + Sync),
     images: &mut MapStore,
+    image: &[u8],
     budget: u64,
 ) -> Result<bool, Fail> {
-    play(rt, images, BEFORE)?;
+    images.put(rt.alloc(), "h", image)?;
     let (count, is_closed) = stop_requests(rt, images, budget)?;
     runs_rest(rt, images, count)?;
     Ok(is_closed)
 }
 
-/// The same over a heap of its own.
-fn is_closed_at(
-    rt: &(impl Abort + AllocGlobal + Threads + Sync),
-    budget: u64,
-) -> Result<bool, Fail> {
-    let mut images = store_of(rt.alloc(), "2")?;
-    go_on(rt, &mut images, budget)
-}
-
 /// Goes on from one step after the other, until no request is left.
-fn goes_on_from_each(rt: &(impl Abort + AllocGlobal + Threads + Sync)) -> Result<(), Fail> {
+fn goes_on_from_each(
+    rt: &(impl Abort + AllocGlobal + Threads + Sync),
+    images: &mut MapStore,
+    image: &[u8],
+) -> Result<(), Fail> {
     let mut budget = 0u64;
     for _ in 0..1_000 {
-        if is_closed_at(rt, budget)? {
+        if go_on(rt, images, image, budget)? {
             return Ok(());
         }
         budget = next_step(budget, 100, 509);
@@ -255,16 +243,37 @@ fn goes_on_from_each(rt: &(impl Abort + AllocGlobal + Threads + Sync)) -> Result
     Err("it never closes".into())
 }
 
-/// Replaces the value at one step by each chance, and by two workers.
-fn replaces_by_each(rt: &(impl Abort + AllocGlobal + Threads + Sync)) -> Result<(), Fail> {
-    for stop in &BY_ONE {
-        replaces_at_one_step(rt, stop, 509)?;
-    }
-    replaces_at_one_step(rt, BY_TWO, 37)
+/// Replaces the value at one step, over the image that is left before.
+fn replaces(
+    rt: &(impl Abort + AllocGlobal + Threads + Sync),
+    stop: (&str, u64),
+) -> Result<(), Fail> {
+    let mut images = played(rt, BEFORE)?;
+    let image = Vec::from_slice(rt.alloc(), image_in(&images))?;
+    replaces_at_one_step(rt, &mut images, &image, stop)
+}
+
+/// Goes on from each step over that image.
+fn goes_on(rt: &(impl Abort + AllocGlobal + Threads + Sync)) -> Result<(), Fail> {
+    let mut images = played(rt, BEFORE)?;
+    let image = Vec::from_slice(rt.alloc(), image_in(&images))?;
+    goes_on_from_each(rt, &mut images, &image)
 }
 
 #[test]
-fn what_a_stop_leaves_is_gone_on_with(rt: HostRuntime) -> Result<(), Fail> {
-    replaces_by_each(&rt)?;
-    goes_on_from_each(&rt)
+fn a_replaced_value_is_old_or_new_at_each_stop(rt: HostRuntime) -> Result<(), Fail> {
+    for stop in &BY_ONE {
+        replaces(&rt, (stop, 509))?;
+    }
+    Ok(())
+}
+
+#[test]
+fn a_value_is_replaced_by_one_of_two_workers(rt: HostRuntime) -> Result<(), Fail> {
+    replaces(&rt, (BY_TWO, 37))
+}
+
+#[test]
+fn requests_left_unanswered_are_run_on_what_a_stop_left(rt: HostRuntime) -> Result<(), Fail> {
+    goes_on(&rt)
 }
