@@ -16,9 +16,6 @@ adds_then b v u w adds held roots = record {
   roots = roots ∙ adds.roots;
 }
 
-pub roots_then : (b : Block) (v w : View) (root : ℕ) → Adds b v w → Contains v.roots root → Contains w.roots root
-roots_then b v w root adds there = subst (λ (roots : List ℕ). Contains roots root) (sym adds.roots) there
-
 -- what is so of each of three blocks
 pub each_of : (P : Block → Type 0) (x y z : Block) → P x → P y → P z → (b : Block) → Contains (x ∷ y ∷ z ∷ []) b → P b
 each_of P x y z p q r b there = by_index there.0 there.1 there.2 where

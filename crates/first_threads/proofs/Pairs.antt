@@ -1,6 +1,6 @@
 -- Two seats are all seats of a heap that was opened for two.
-use Rattle.std.proofs.Common.{◌≡◌, ◌<◌, ◌+◌, ℕ, zero, suc, List, [], ◌∷◌, ◌++◌, refl, inl, inr, ◌⊎◌, length, length-append, get_or, ap, sym, subst, ◌∙◌, arith, None}
-use Rattle.std.specs.Prelude.{Contains, slice_index, slice_set}
+use Rattle.std.proofs.Common.{◌≡◌, ◌<◌, ◌+◌, ℕ, zero, suc, List, [], ◌∷◌, ◌++◌, refl, inl, inr, ◌⊎◌, length, length-append, get_or, ap, sym, subst, ◌∙◌, arith}
+use Rattle.std.specs.Prelude.{slice_index, slice_set}
 use Rattle.std.proofs.lemmas.List.{get_or-set_other, get_or-set_same}
 use Rattle.heap_model.specs.declared.block.Block.{Block}
 use Rattle.heap_model.specs.Durability.{IsClosedImage}

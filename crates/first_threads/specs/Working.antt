@@ -1,5 +1,5 @@
 -- What the threads begin with, and what they leave.
-use Rattle.std.specs.Prelude.{◌≡◌, ◌⊎◌, ℕ, None, [], Contains, IsOkAnd, List, OnOk, Result}
+use Rattle.std.specs.Prelude.{◌≡◌, ℕ, None, [], Contains, IsOkAnd, List, OnOk, Result}
 use Rattle.heap_model.specs.declared.block.Block.{Block}
 use Rattle.heap_model.specs.Sizes.{IsClass}
 use Rattle.heap_seat.specs.declared.fault.AllocFault.{AllocFault}

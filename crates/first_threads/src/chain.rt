@@ -1,6 +1,6 @@
 //! A chain of blocks behind a root: the first word of each block leads to the next one.
 
-ghost use Rattle.std.specs.Prelude.{◌≡◌, ◌≢◌, IfOk, Contains};
+ghost use Rattle.std.specs.Prelude.{◌≢◌, IfOk, Contains};
 ghost use Rattle.heap_model.specs.declared.block.Block.{Block};
 ghost use Rattle.heap_seat.specs.Alloc.{Adds};
 

@@ -1,4 +1,3 @@
-use Rattle.std.proofs.Common.{◌∙◌}
 use Rattle.heap_seat.proofs.CallerLemmas.{held_in}
 use Rattle.seat_view.specs.CacheState.{heap_view}
 use Rattle.first_threads.proofs.threads.build.Goals as goal

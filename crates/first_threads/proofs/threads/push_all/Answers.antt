@@ -1,6 +1,6 @@
 use Rattle.std.proofs.Common.{◌≢◌, Contains}
 use Rattle.heap_model.specs.declared.block.Block.{Block}
-use Rattle.first_threads.proofs.Chains.{each_of, held_beside, roots_then}
+use Rattle.first_threads.proofs.Chains.{each_of, held_beside}
 use Rattle.first_threads.proofs.threads.push_all.Goals as goal
 
 pub returns-clause-others : goal.returns-clause-others
