@@ -8,6 +8,7 @@ ghost use Rattle.dictionary.specs.Reading.{AreMaps};
 ghost use Rattle.run_model.specs.Opened.{HasMaps};
 ghost use Rattle.worker_run.specs.Said.{requests_of};
 ghost use Rattle.worker_run.specs.Rooms.{AreLongest};
+ghost use Rattle.tool_ports.specs.Chances.{ComesFrom};
 ghost use Rattle.shared_run.specs.Jobs.{IsJobOf};
 ghost use Rattle.shared_run.specs.Dealing.{AreFresh, AreInTurn};
 
@@ -47,6 +48,7 @@ pub(crate) fn deal<C: Chances>(
     ensures turns { IfOk result (λ jobs. AreInTurn (λ job. job.worker) (length seats.items)
         jobs.items) }
     ensures count { IfOk result (λ jobs. length jobs.items ≡ length seats.items) }
+    ensures chances { ComesFrom C.chance_gives C.word_gives chances.old chances.new }
 {
     let workers = seats.len();
     let mut jobs = Vec::with_capacity(alloc, workers)?;

@@ -11,6 +11,7 @@ ghost use Rattle.run_model.specs.Opened.{IsDictionary};
 ghost use Rattle.run_model.specs.Runs.{AnswerInOrder, IsFullRightly, answered, LeavesHeader, LeavesMaps, LeavesOthers, LeavesState, LeavesUsed, RepliesRightly, StopsRightly};
 ghost use Rattle.worker_run.specs.Left.{AreWholeImage};
 ghost use Rattle.worker_run.specs.Said.{requests_of, replies_of, ValuesAreShort};
+ghost use Rattle.tool_ports.specs.Chances.{ComesFrom};
 ghost use Rattle.shared_run.specs.Closed.{LeavesOrderly};
 ghost use Rattle.shared_run.specs.Dealing.{AreInTurn};
 ghost use Rattle.shared_run.specs.Following.{AreAfter, FollowMapsOf};
@@ -64,6 +65,7 @@ fn image_left<C: Chances>(
     requires same { geometry.capacity ≡ capacity_of (slice_index closed.kept) }
     ensures left { IsLeftOf stopped closed.now closed.kept result.items }
     ensures long { length closed.kept ≡ length closed.now → length result.items ≡ length closed.now }
+    ensures chances { ComesFrom C.chance_gives C.word_gives chances.old chances.new }
 {
     let Closed { now, kept } = closed;
     if stopped {
@@ -110,6 +112,7 @@ fn open<C: Chances>(
     ensures count { IfOk result (λ r. length r.jobs.items ≡ workers) }
     ensures maps { IfOk result (λ r.
         AreMaps (slice_index mapped.words) shards r.maps.items) }
+    ensures chances { ComesFrom C.chance_gives C.word_gives chances.old chances.new }
 {
     let longest = longest_puts(alloc, requests)?;
     let owners = owners_by_trace(alloc, &mapped, workers)?;
@@ -198,6 +201,7 @@ fn run_workers<R: Threads + Sync, G: Gate + Sync, C: Chances>(
         (slice_index mapped.words)
         (answered (requests_of requests.now) (replies_of o.replies.items)) new.items)) }
     ensures known { IfOk result (λ o. IsSome o.maps ↔ (o.stopped ≡ false)) }
+    ensures chances { ComesFrom C.chance_gives C.word_gives chances.old chances.new }
 {
     let geometry = mapped.heap().geometry();
     let mut replies = Vec::with_capacity(alloc, requests.len())?;
@@ -272,6 +276,9 @@ pub fn run_trace<R: Threads + Sync, G: Gate + Sync, C: Chances>(
     ensures known { IfOk result (λ o. IsSome o.maps ↔ (o.stopped ≡ false)) }
     ensures orderly { IfOk result (λ o. LeavesOrderly o.stopped (length o.image.items)
         (slice_index o.image.items)) }
+
+    // What the chances were asked for.
+    ensures chances { ComesFrom C.chance_gives C.word_gives chances.old chances.new }
 {
     let outcome = run_workers(rt, alloc, mapped, requests, workers, budget, gate, chances)?;
     Ok(outcome)

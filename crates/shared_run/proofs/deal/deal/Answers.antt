@@ -3,6 +3,7 @@ use Rattle.std.proofs.lemmas.List.Elements.{All-push, All-same}
 use Rattle.heap_table.specs.Rule.{setup_for}
 use Rattle.run_model.specs.Workers.{worker_requests}
 use Rattle.run_model.specs.Working.{HaveRoom}
+use Rattle.tool_ports.specs.Chances.{unasked, by_chance}
 use Rattle.worker_run.specs.Said.{requests_of}
 use Rattle.shared_run.specs.Jobs.{IsJobOf, IsOpenedFor}
 use Rattle.shared_run.proofs.DealLemmas.{fresh_last, fresh_rest, rooms_long, turn_push}
@@ -42,4 +43,8 @@ loop-seat-preserved g c =
       count = omega arith;
       workers = was.workers;
       room = c.push_reserved.ensures.capacity ∙ was.room;
+      comes = by_chance _ _ _ _ was.comes c.chance.ensures;
     }
+
+pub returns-in_err-jobs-clause-chances : goal.returns-in_err-jobs-clause-chances
+returns-in_err-jobs-clause-chances g c = unasked

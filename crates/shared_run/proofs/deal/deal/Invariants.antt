@@ -1,4 +1,5 @@
 use Rattle.std.proofs.Common.{◌≡◌, ◌+◌, All, length}
+use Rattle.tool_ports.specs.Chances.{ComesFrom}
 use Rattle.worker_run.specs.Said.{requests_of}
 use Rattle.shared_run.specs.Jobs.{IsJobOf}
 use Rattle.shared_run.specs.Dealing.{AreFresh, AreInTurn}
@@ -13,6 +14,7 @@ invariant-loop-seat g l = record {
   count : length l.jobs.items + length l.seats.items ≡ l.workers;
   workers : l.workers ≡ length l.fn.seats.items;
   room : vec_capacity l.jobs ≡ l.workers;
+  comes : ComesFrom g.C.Chances.chance_gives g.C.Chances.word_gives l.fn.chances l.chances;
 }
 
 abbrev pub decreases-loop-seat : goal.decreases-loop-seat

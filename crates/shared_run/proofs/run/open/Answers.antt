@@ -7,6 +7,7 @@ use Rattle.heap_rule.specs.Seats.{AreOpenedSeats}
 use Rattle.dict_model.specs.Links.{shards}
 use Rattle.dictionary.specs.Reading.{AreMaps}
 use Rattle.run_model.specs.Opened.{HasMaps}
+use Rattle.tool_ports.specs.Chances.{unasked}
 use Rattle.shared_run.proofs.OpeningLemmas.{opened_fresh}
 use Rattle.shared_run.proofs.run.open.Goals as goal
 
@@ -38,3 +39,12 @@ returns-clause-opening g c = (
   c.in_ok-owners.ensures,
   c.in_ok-shared.ensures.opening ∙ ap (λ (heap : Contents). opening_of heap c.in_ok-owners.owners c.args.workers c.args.budget) c.into_parts-heap.ensures.heap,
 )
+
+pub returns-in_err-longest-clause-chances : goal.returns-in_err-longest-clause-chances
+returns-in_err-longest-clause-chances g c = unasked
+
+pub returns-in_err-owners-clause-chances : goal.returns-in_err-owners-clause-chances
+returns-in_err-owners-clause-chances g c = unasked
+
+pub returns-in_err-shared-clause-chances : goal.returns-in_err-shared-clause-chances
+returns-in_err-shared-clause-chances g c = unasked

@@ -9,6 +9,8 @@ use Rattle.heap_table.specs.Rule.{setup_for}
 use Rattle.heap_rule.specs.Seats.{views_of}
 use Rattle.worker_run.specs.Said.{Told, request_of, requests_of, reply_of, replies_of}
 use Rattle.run_model.specs.Runs.{answered}
+use Rattle.tool_ports.specs.Chances.{unasked}
+use Rattle.tool_ports.proofs.ChanceLemmas.{comes_then}
 use Rattle.shared_run.specs.Dealing.{AreParts}
 use Rattle.shared_run.specs.Following.{AreAfter}
 use Rattle.shared_run.proofs.ClosedLemmas.{both_long, first_of, kept_capacity, kept_whole, now_capacity, now_long, now_whole, parts_back}
@@ -79,3 +81,12 @@ returns-clause-after g c = IfSome_then c.in_ok-maps.maps c.in_ok-maps.ensures.af
   were = c.in_ok-shared.ensures.maps;
   after = subst (λ (rs : List Told). AreAfter (answered (requests_of c.args.requests.now) (replies_of rs)) c.in_ok-shared.field-0.maps.items new.items) c.deref.ensures.value after;
 })
+
+pub returns-in_err-replies-clause-chances : goal.returns-in_err-replies-clause-chances
+returns-in_err-replies-clause-chances g c = unasked
+
+pub returns-in_err-maps-clause-chances : goal.returns-in_err-maps-clause-chances
+returns-in_err-maps-clause-chances g c = comes_then _ _ _ _ _ c.open.ensures.chances c.image_left-image.ensures.chances
+
+pub returns-clause-chances : goal.returns-clause-chances
+returns-clause-chances g c = comes_then _ _ _ _ _ c.open.ensures.chances c.image_left-image.ensures.chances
