@@ -6,3 +6,7 @@ pub mod LeftLemmas
 pub mod PutLemmas
 pub mod OneRecoveryLemmas
 pub mod OneThreadLemmas
+mod RebuiltLemmas
+mod LineLemmas
+mod CrashLemmas
+pub mod OutcomeLemmas

@@ -1,3 +1,6 @@
 pub mod Reporting
 pub mod Running
+pub mod Rebuilding
+pub mod Replaying
 pub mod Examples
+pub mod ReplayExamples

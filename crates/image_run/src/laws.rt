@@ -1,10 +1,13 @@
-//! What follows of runs, as functions with nothing to run.
-ghost use Rattle.std.specs.Prelude.{◌≡◌, ℕ, ◌+◌, ◌≤◌, false, List, None, length, slice_index};
+//! What follows of runs, rebuilds and replays, as functions with nothing to run.
+ghost use Rattle.std.specs.Prelude.{◌≡◌, ℕ, ◌+◌, ◌≤◌, false, List, Some, None, length, slice_index};
 ghost use Rattle.std.specs.BTreeMap.{BTreeMap};
 ghost use Rattle.heap_model.specs.declared.block.Block.{Block};
 ghost use Rattle.heap_model.specs.Image.{Image};
 ghost use Rattle.heap_model.specs.Header.{capacity_of, used_of};
-ghost use Rattle.dict_model.specs.Links.{shards};
+ghost use Rattle.heap_recover.specs.InPlace.{RecoversAlike};
+ghost use Rattle.core_model.specs.declared.answer.StepAnswer.{StepAnswer};
+ghost use Rattle.core_model.specs.declared.event.Event.{Event};
+ghost use Rattle.dict_model.specs.Links.{dict_links, kind_count, shards};
 ghost use Rattle.dict_model.specs.Requests.{Request};
 ghost use Rattle.dict_model.specs.Shards.{Map};
 ghost use Rattle.dictionary.specs.Reading.{RecoversTo, AreMaps};
@@ -14,6 +17,8 @@ ghost use Rattle.run_model.specs.Opened.{HasMaps};
 ghost use Rattle.worker_run.specs.Said.{replies_of};
 ghost use Rattle.image_run.specs.Reporting.{fault_of, image_in, PointsOutside, Recovers};
 ghost use Rattle.image_run.specs.Running.{Options, RunsRequests};
+ghost use Rattle.image_run.specs.Rebuilding.{Rebuilds};
+ghost use Rattle.image_run.specs.Replaying.{IsReplayed, Replays, LeavesOutside};
 
 /// A run over what recovery leaves of an image is one over the image itself.
 pub fn a_run_over_what_recovery_leaves_is_one_over_the_image()
@@ -93,4 +98,37 @@ pub fn runs_without_a_refusal_are_alike()
         → NoneIsFull (replies_of run.told) → NoneIsFull (replies_of other.told)
         → (whole : Map) → IsWholeMap (slice_index run.left) whole
         → IsWholeMap (slice_index other.left) whole }
+{}
+
+/// What recovery in place puts can be recovered: its bytes are not malformed, nothing in it is
+/// outside, and recovery of it keeps what that of the image keeps.
+pub fn what_a_rebuild_puts_can_be_recovered()
+    ensures well_formed { (image : Image) (count budget : ℕ) (put text : List ℕ)
+        → Rebuilds image count budget put text → fault_of put ≡ None }
+    ensures alike { (image : Image) (count budget : ℕ) (put text : List ℕ)
+        → Rebuilds image count budget put text
+        → RecoversAlike (Some kind_count) (length put) image (image_in put) dict_links }
+{}
+
+/// A replay of a schedule has one outcome, whatever a crash then leaves at random: each event has
+/// one answer, as many tickets are drawn, and the same words of what the crash leaves point
+/// outside, with the same values. So it prints one text, or leaves a word that points outside, and
+/// never both.
+pub fn a_replay_has_one_outcome()
+    ensures answers { (words : List ℕ) (held : List Block) (seats : ℕ) (lines : List (ℕ × Event))
+        (answers again : List StepAnswer) (tickets drawn : ℕ) (left other : List ℕ)
+        → IsReplayed words held seats lines answers tickets left
+        → IsReplayed words held seats lines again drawn other
+        → (again ≡ answers) × (drawn ≡ tickets) }
+    ensures outside { (words : List ℕ) (held : List Block) (seats : ℕ) (lines : List (ℕ × Event))
+        (at value : ℕ) → LeavesOutside words held seats lines at value
+        → (answers : List StepAnswer) (tickets : ℕ) (left : List ℕ)
+        → IsReplayed words held seats lines answers tickets left
+        → PointsOutside (slice_index left) at × (slice_index left at ≡ value) }
+    ensures text { (words : List ℕ) (held : List Block) (seats : ℕ) (lines : List (ℕ × Event))
+        (text other : List ℕ) → Replays words held seats lines text
+        → Replays words held seats lines other → other ≡ text }
+    ensures never_both { (words : List ℕ) (held : List Block) (seats : ℕ)
+        (lines : List (ℕ × Event)) (text : List ℕ) (at value : ℕ)
+        → Replays words held seats lines text → LeavesOutside words held seats lines at value → ⊥ }
 {}

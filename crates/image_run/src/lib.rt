@@ -1,17 +1,28 @@
-//! A run of a trace over a recovered image: the image that is put, and the text that is printed.
+//! What the commands over a recovered image come to: a run of a trace, recovery made in place, a
+//! replay of a schedule. Each makes the image that is put, if any, and the text that is printed.
 #![tactic(auto)]
 
+mod fault;
 mod laws;
+mod left;
+mod lines;
 mod options;
+mod product;
+mod rebuilding;
+mod replaying;
 mod reporting;
 mod running;
 
+pub use fault::ReplayFault;
 pub use laws::{
-    a_run_over_what_recovery_leaves_is_one_over_the_image,
+    a_replay_has_one_outcome, a_run_over_what_recovery_leaves_is_one_over_the_image,
     a_run_without_a_refusal_is_that_of_one_thread, an_image_is_recovered_in_one_way,
     enough_budget_and_room_are_known, runs_without_a_refusal_are_alike,
-    what_a_run_puts_can_be_run_again,
+    what_a_rebuild_puts_can_be_recovered, what_a_run_puts_can_be_run_again,
 };
 pub use options::{MOST_BUDGET, MOST_WORKERS, RunOptions};
+pub use product::Product;
+pub use rebuilding::rebuild_image;
+pub use replaying::replay_image;
 pub use reporting::recovered_text;
-pub use running::{RunProduct, run_image};
+pub use running::run_image;

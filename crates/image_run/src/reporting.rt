@@ -1,6 +1,7 @@
 //! The text on a recovered heap.
 ghost use Rattle.std.specs.Prelude.{IfOk};
-ghost use Rattle.image_run.specs.Reporting.{IsTextOf};
+ghost use Rattle.heap_model.specs.Image.{Image};
+ghost use Rattle.image_run.specs.Reporting.{IsRecoveredHeap, IsTextOf, TellsHeap};
 
 use heap_recover::Recovered;
 use region_header::Bytes;
@@ -26,4 +27,12 @@ pub fn recovered_text(
     let mut text = report.into_vec();
     text.extend_from_slice(map_text(alloc, recovered)?.as_slice())?;
     Ok(Bytes::from_vec(text))
+}
+
+/// The report on a recovered heap, without its keys.
+pub(crate) fn heap_text(alloc: Global, recovered: &Recovered) -> Result<Bytes, AllocError>
+    ensures { IfOk result (λ text. (image : Image) → IsRecoveredHeap image recovered.now
+        → TellsHeap image text) }
+{
+    report_text(alloc, recovered, None, false)
 }

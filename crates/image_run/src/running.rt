@@ -1,16 +1,17 @@
 //! Runs a trace over a recovered heap, and makes what is put and printed.
-ghost use Rattle.std.specs.Prelude.{◌≡◌, length, IfOk, IfSome, Contains, slice_index};
+ghost use Rattle.std.specs.Prelude.{◌≡◌, length, IfOk, IfSome, IsSomeAnd, Contains, slice_index};
 ghost use Rattle.dict_model.specs.Links.{shards};
 ghost use Rattle.dictionary.specs.Reading.{AreMaps};
 ghost use Rattle.run_model.specs.Opened.{IsDictionary, CanBeRun};
 ghost use Rattle.worker_run.specs.Said.{requests_of, ValuesAreShort};
-ghost use Rattle.image_run.specs.Reporting.{Reports, IsRecoveredHeap};
+ghost use Rattle.image_run.specs.Reporting.{Reports};
 ghost use Rattle.image_run.specs.Running.{RunsRequests, options_of};
 
+use crate::left::recover_inside;
 use crate::options::RunOptions;
+use crate::product::Product;
 use crate::reporting::recovered_text;
-use dictionary::{DictFilter, MapFault, MappedHeap, read_maps, root_kinds};
-use heap_recover::{RecoverFault, Recovered, recover_owned};
+use dictionary::{MapFault, MappedHeap, read_maps};
 use region_header::{Bytes, words_to_bytes};
 use shared_run::run_trace;
 use std::alloc::{AllocError, Global};
@@ -18,15 +19,6 @@ use std::collections::BTreeMap;
 use std::thread::Threads;
 use tool_ports::{Chances, Gate};
 use trace_text::{Request, reply_text};
-
-/// What a run puts and prints.
-#[derive(Drop)]
-pub struct RunProduct {
-    /// The bytes of the image that is left.
-    pub image: Bytes,
-    /// The replies, and then the report on that image once it is recovered.
-    pub text: Bytes,
-}
 
 /// Runs the requests over a recovered heap in which nothing is outside and each shard has a map,
 /// and makes all that is to be put and printed. The chances begin anew by the options' seed. The
@@ -39,12 +31,13 @@ pub fn run_image<R: Threads + Sync, G: Gate + Sync, C: Chances>(
     options: RunOptions,
     gate: &G,
     chances: &mut C,
-) -> Result<RunProduct, AllocError>
+) -> Result<Product, AllocError>
     requires dictionary { IsDictionary (slice_index mapped.words)
         (Contains mapped.held) }
     requires short { ValuesAreShort (requests_of requests.now) }
-    ensures ok { IfOk result (λ product. RunsRequests (slice_index mapped.words)
-        (requests_of requests.now) (options_of options) product.image product.text) }
+    ensures ok { IfOk result (λ product. IsSomeAnd product.image (λ image. RunsRequests
+        (slice_index mapped.words) (requests_of requests.now) (options_of options) image
+        product.text)) }
 {
     chances.seed(options.seed);
     let workers = options.workers as usize;
@@ -55,8 +48,8 @@ pub fn run_image<R: Threads + Sync, G: Gate + Sync, C: Chances>(
     let report = left_text(alloc, outcome.image, outcome.maps, options)?;
     let mut text = replies.into_vec();
     text.extend_from_slice(report.as_slice())?;
-    Ok(RunProduct {
-        image,
+    Ok(Product {
+        image: Some(image),
         text: Bytes::from_vec(text),
     })
 }
@@ -73,7 +66,7 @@ fn left_text(
     requires maps { IfSome known (λ maps. AreMaps (slice_index words.items) shards maps.items) }
     ensures { IfOk result (Reports (slice_index words.items) options.with_sum options.with_map) }
 {
-    let recovered = recover_left(alloc, words)?;
+    let recovered = recover_inside(alloc, words)?;
     if let Some(maps) = known {
         return recovered_text(alloc, &recovered, &maps, options.with_sum, options.with_map);
     }
@@ -83,17 +76,4 @@ fn left_text(
         Err(MapFault::BadShard { shard: _, at: _ }) => unreachable!(),
     };
     recovered_text(alloc, &recovered, &maps, options.with_sum, options.with_map)
-}
-
-// Recovers such an image, which is never refused.
-fn recover_left(alloc: Global, words: Vec<u64>) -> Result<Recovered, AllocError>
-    requires { CanBeRun (length words.items) (slice_index words.items) }
-    ensures { IfOk result (IsRecoveredHeap (slice_index words.items)) }
-{
-    match recover_owned(alloc, words, &root_kinds(), &DictFilter) {
-        Ok(recovered) => Ok(recovered),
-        Err(RecoverFault::Memory) => Err(AllocError),
-        Err(RecoverFault::Header(_)) => unreachable!(),
-        Err(RecoverFault::Outside { at: _, value: _ }) => unreachable!(),
-    }
 }

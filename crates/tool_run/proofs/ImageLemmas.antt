@@ -156,14 +156,16 @@ is_not_got contents name get_failed GetMemory fault is lacks failed command gets
 
 -- an image that was recovered
 pub is_recovered : (contents : Contents) (name got shown : List ℕ) (recovered : Recovered) → IsGoodImage (Some kind_count) contents name got → shown ≡ got
-    → IsRecoveredHeap (image_in shown) recovered → ((at : ℕ) → PointsOutside (image_in shown) at → ⊥) → HoldsImage shown → IsRecoveredHeapOf contents name recovered
-is_recovered contents name got shown recovered whole are is inside formed = record {
+    → IsRecoveredHeap (image_in shown) recovered → ((at : ℕ) → PointsOutside (image_in shown) at → ⊥) → HoldsImage shown
+    → length recovered.heap.words ≡ length (current_words (words_in_bytes shown) first_kinds) → IsRecoveredHeapOf contents name recovered
+is_recovered contents name got shown recovered whole are is inside formed long = record {
   bytes = got;
   is_there = whole.is_there;
   good = whole.good;
   inside = subst (λ (l : List ℕ). (at : ℕ) → PointsOutside (image_in l) at → ⊥) are inside;
   formed = subst (λ (l : List ℕ). HoldsImage l) are formed;
   is = subst (λ (l : List ℕ). IsRecoveredHeap (image_in l) recovered) are is;
+  long = subst (λ (l : List ℕ). length recovered.heap.words ≡ length (current_words (words_in_bytes l) first_kinds)) are long;
 }
 
 -- and its words beside it
@@ -172,9 +174,8 @@ pub is_recovered_from : (contents : Contents) (name got shown words : List ℕ) 
     → words ≡ current_words (words_in_bytes shown) first_kinds → length recovered.heap.words ≡ length words → IsRecoveredFrom contents name words recovered
 unfolding is_recovered
 is_recovered_from contents name got shown words recovered whole are is inside formed words_are long = record {
-  image = is_recovered contents name got shown recovered whole are is inside formed;
+  image = is_recovered contents name got shown recovered whole are is inside formed (long ∙ ap (λ (ws : List ℕ). length ws) words_are);
   words_are = subst (λ (l : List ℕ). words ≡ current_words (words_in_bytes l) first_kinds) are words_are;
-  long = long;
 }
 
 -- the report on it

@@ -8,7 +8,7 @@ use Rattle.tool_run.specs.Making.{image_in}
 use Rattle.core_model.specs.declared.event.Event.{Event}
 use Rattle.image_run.specs.Reporting.{Recovers}
 use Rattle.image_run.proofs.OneRecoveryLemmas.{one_held, one_recovered}
-use Rattle.image_replay.proofs.OutcomeLemmas.{never_both}
+use Rattle.image_run.proofs.OutcomeLemmas.{never_both}
 use Rattle.tool_ports.specs.Contents.{Contents}
 use Rattle.trace_text.specs.declared.schedule.Schedule.{Schedule}
 use Rattle.trace_text.specs.Schedule.{IsSchedule}

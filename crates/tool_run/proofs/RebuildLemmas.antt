@@ -1,5 +1,5 @@
 -- An image that was recovered, with its words beside it, can be rebuilt, and what that gives is said of its bytes.
-use Rattle.std.proofs.Common.{◌≡◌, ℕ, ◌*◌, List, length, Some, slice_index, inl, inr, refl, sym, ap, subst, arith}
+use Rattle.std.proofs.Common.{◌≡◌, ℕ, ◌*◌, List, length, Option, Some, None, IsSomeAnd, slice_index, inl, inr, refl, sym, ap, subst, ◌∙◌, arith}
 use Rattle.heap_model.specs.declared.block.Block.{Block}
 use Rattle.heap_model.specs.Geometry.{image_words, kind_word, capacity_word}
 use Rattle.heap_model.specs.Header.{IsWellFormed, HasKindsBelow, capacity_of}
@@ -18,7 +18,7 @@ module _ (contents : Contents) (name words : List ℕ) (recovered : Recovered) (
   same : image_in is.image.bytes ≡ slice_index words
   same = ap (λ (ws : List ℕ). slice_index ws) (sym is.words_are)
 
-  pub count : length words ≡ image_words (capacity_of (image_in is.image.bytes))
+  count : length words ≡ image_words (capacity_of (image_in is.image.bytes))
   count =
       let whole = is.image.formed.length_is in
       let same_length = ap (λ (ws : List ℕ). length ws) is.words_are in omega arith
@@ -44,13 +44,14 @@ module _ (contents : Contents) (name words : List ℕ) (recovered : Recovered) (
     below = kinds;
     none_outside = subst (λ (image : Image). (at : ℕ) → PointsOutside image at → ⊥) same is.image.inside;
     held_are = subst (λ (image : Image). AreAscending (λ (b : Block). b.first_word) (IsKept image) recovered.heap.held) same is.image.is.recovers.held_are;
-    long = is.long;
+    long = is.image.long ∙ sym (ap (λ (ws : List ℕ). length ws) is.words_are);
     words_are = words_are;
   }
 
-  pub rebuilds_named : (budget : ℕ) (image text : List ℕ) → Rebuilds (slice_index words) (length words) budget image text
-      → RebuildsNamed contents name budget (Some image) text
-  rebuilds_named budget image text rebuilds = record {
+  pub rebuilds_named : (budget : ℕ) (put : Option (List ℕ)) (text : List ℕ) → IsSomeAnd put (λ image. Rebuilds (slice_index words) (length words) budget image text)
+      → RebuildsNamed contents name budget put text
+  rebuilds_named budget None text rebuilds = absurd rebuilds
+  rebuilds_named budget (Some image) text rebuilds = record {
     bytes = is.image.bytes;
     is_there = is.image.is_there;
     good = is.image.good;

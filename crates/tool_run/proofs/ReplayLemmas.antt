@@ -1,21 +1,20 @@
 -- A heap that was recovered can be replayed over, and what that gives is said of the image.
-use Rattle.std.proofs.Common.{◌≡◌, ℕ, ◌<◌, ◌∙◌, List, Option, inr, sym, subst}
+use Rattle.std.proofs.Common.{◌≡◌, ℕ, ◌<◌, List, Option, inr, sym, subst, arith}
 use Rattle.std.proofs.lemmas.List.Elements.{All-contains}
 use Rattle.heap_recover.specs.declared.answer.Recovered.{Recovered}
-use Rattle.image_replay.specs.declared.fault.ReplayFault.{ReplayFault}
-use Rattle.image_replay.specs.declared.fault.ReplayFault.TheVariants.{Outside as OutsideLeft, Memory as ReplayMemory}
+use Rattle.image_run.specs.declared.fault.ReplayFault.{ReplayFault}
+use Rattle.image_run.specs.declared.fault.ReplayFault.TheVariants.{Outside as OutsideLeft, Memory as ReplayMemory}
 use Rattle.core_model.specs.declared.event.Event.{Event}
-use Rattle.image_replay.specs.Replaying.{CanBeReplayed, StopsReplay}
+use Rattle.image_run.specs.Replaying.{CanBeReplayed, StopsReplay}
 use Rattle.tool_ports.specs.Contents.{Contents}
 use Rattle.trace_text.specs.declared.schedule.Schedule.{Schedule}
 use Rattle.trace_text.proofs.ScheduleLemmas.{steps_of_seats}
 use Rattle.tool_run.specs.declared.fault.Fault.{Fault}
 use Rattle.tool_run.specs.declared.fault.Fault.TheVariants.{Usage, Memory, ReadFault, WriteFault, Absent, Malformed, Outside, BadShard, BadLine, BadStep, TooLong}
 use Rattle.tool_command.specs.Command.{replay_image}
-use Rattle.tool_run.proofs.RebuildLemmas.{count}
 use Rattle.tool_run.specs.Inside.{IsReplayFault, IsBeforeReading, RefusesEither, fault_of_replay}
 use Rattle.tool_run.specs.Making.{HasHeap, HasSchedule}
-use Rattle.tool_run.specs.Recovering.{IsRecoveredFrom}
+use Rattle.tool_run.specs.Recovering.{IsRecoveredHeapOf}
 
 -- a schedule can be replayed
 pub can_be_replayed : (left : Option (List ℕ)) (schedule : Schedule) → HasSchedule left schedule → CanBeReplayed schedule.seats schedule.lines.items
@@ -39,13 +38,13 @@ was_read contents left name seed B (BadLine line) why before = why
 was_read contents left name seed B (BadStep line) why before = before
 was_read contents left name seed B TooLong why before = before
 
-module _ (contents : Contents) (name words : List ℕ) (recovered : Recovered) (is : IsRecoveredFrom contents name words recovered) where
+module _ (contents : Contents) (name : List ℕ) (recovered : Recovered) (is : IsRecoveredHeapOf contents name recovered) where
   pub heap_of : HasHeap contents name recovered.heap.words recovered.heap.held
   heap_of = record {
-    image = record { bytes = is.image.bytes; is_there = is.image.is_there; good = is.image.good; inside = is.image.inside };
+    image = record { bytes = is.bytes; is_there = is.is_there; good = is.good; inside = is.inside };
     free = recovered.free.items;
-    recovers = is.image.is.recovers;
-    long = is.long ∙ count contents name words recovered is;
+    recovers = is.is.recovers;
+    long = let whole = is.formed.length_is in let same = is.long in omega arith;
   }
 
   -- what was refused once the image was good

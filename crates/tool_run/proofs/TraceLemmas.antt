@@ -1,8 +1,15 @@
--- What the source had left.
-use Rattle.std.proofs.Common.{◌≡◌, ℕ, ◌≤◌, ◌<◌, List, ◌++◌, ◌+◌, length, Option, Some, None, IfSome, sym, subst, arith, length-append}
+-- What the source had left, and a run of the trace that this was.
+use Rattle.std.proofs.Common.{◌≡◌, ℕ, ◌≤◌, ◌<◌, List, ◌++◌, ◌+◌, length, slice_index, Option, Some, None, IfSome, IsSomeAnd, refl, sym, subst, arith, length-append}
 use Rattle.std.proofs.lemmas.List.{append-nil}
+use Rattle.heap_model.specs.declared.block.Block.{Block}
+use Rattle.worker_run.specs.Said.{Line, requests_of}
+use Rattle.image_run.specs.Running.{Options, RunsRequests}
+use Rattle.image_run.proofs.CarryLemmas.{runs_carried}
+use Rattle.tool_ports.specs.Contents.{Contents}
 use Rattle.tool_ports.specs.Left.{left_before, IsAtEnd, Gives}
-use Rattle.tool_run.specs.Making.{HasLeft, HasTrace, HasTooMuch, longest_trace}
+use Rattle.tool_run.specs.Inside.{IsTraceLeft}
+use Rattle.tool_run.specs.Making.{HasLeft, HasTrace, HasTooMuch, RunsTrace, image_in, longest_trace}
+use Rattle.tool_run.specs.Recovering.{IsMapped}
 
 -- what holds of what a source has left, where it tells
 pub of_left : (P : List ℕ → Type 0) (left : Option (List ℕ)) (all : List ℕ) → left ≡ Some all → IfSome left P → P all
@@ -25,3 +32,19 @@ pub gave_too_much : (old now : Option (List ℕ)) → Gives (longest_trace + 1) 
 gave_too_much old now gives =
     let counted = gives.counted in
     subst HasTooMuch (sym gives.given) (gave_more gives.bytes now (omega arith))
+
+-- a run over what recovery makes of a named image is one over that image
+pub runs_trace : (contents : Contents) (left : Option (List ℕ)) (name words : List ℕ) (held : List Block) → IsMapped contents name words held → (lines : List Line) → IsTraceLeft left lines
+    → (options : Options) (put : Option (List ℕ)) (text : List ℕ) → IsSomeAnd put (λ image. RunsRequests (slice_index words) (requests_of lines) options image text)
+    → RunsTrace contents left name options put text
+runs_trace contents left name words held heap lines trace options None text runs = absurd runs
+runs_trace contents left name words held heap lines trace options (Some image) text runs = record {
+  mapped = heap.image;
+  trace = trace.trace;
+  has_trace = trace.has_trace;
+  lines = lines;
+  lines_are = trace.lines_are;
+  image = image;
+  put_is = refl;
+  runs = runs_carried (image_in heap.image.bytes) (slice_index words) heap.to heap.maps heap.are (requests_of lines) options image text runs;
+}

@@ -16,8 +16,8 @@ use Rattle.worker_run.specs.Said.{Line}
 use Rattle.trace_text.specs.declared.request.TraceError.{TraceError}
 use Rattle.trace_text.specs.declared.request.TraceError.TheVariants.{BadLine as BadTraceLine, Memory as TraceMemory}
 use Rattle.trace_text.specs.Trace.{lines_of, AreLines}
-use Rattle.image_replay.specs.declared.fault.ReplayFault.{ReplayFault}
-use Rattle.image_replay.specs.declared.fault.ReplayFault.TheVariants.{Outside as OutsideLeft, Memory as ReplayMemory}
+use Rattle.image_run.specs.declared.fault.ReplayFault.{ReplayFault}
+use Rattle.image_run.specs.declared.fault.ReplayFault.TheVariants.{Outside as OutsideLeft, Memory as ReplayMemory}
 use Rattle.dictionary.specs.declared.fault.MapFault.{MapFault}
 use Rattle.dictionary.specs.declared.fault.MapFault.TheVariants.{BadShard as NoMap, Memory as MapMemory}
 use Rattle.tool_command.specs.Command.{Command, image_name}

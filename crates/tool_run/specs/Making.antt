@@ -13,8 +13,8 @@ use Rattle.heap_model.specs.Sizes.{size_of}
 use Rattle.heap_model.specs.Header.{capacity_of, empty_words, header_fault, first_kinds}
 use Rattle.region_header.specs.Migration.{current_words}
 pub use Rattle.image_run.specs.Reporting.{fault_of, words_in_bytes, image_in, IsKept, PointsOutside, Recovers, IsEntryOf, shown_text, Reports}
-pub use Rattle.image_rebuild.specs.Rebuilding.{Rebuilds}
-pub use Rattle.image_replay.specs.Replaying.{Replays, LeavesOutside}
+pub use Rattle.image_run.specs.Rebuilding.{Rebuilds}
+pub use Rattle.image_run.specs.Replaying.{Replays, LeavesOutside}
 pub use Rattle.image_run.specs.Running.{Options, RunsRequests}
 use Rattle.image_conservative.specs.Telling.{TellsByWords}
 use Rattle.image_count.specs.Telling.{IsOrderlyImage, TellsOpened}

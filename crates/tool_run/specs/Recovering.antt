@@ -34,12 +34,12 @@ pub record IsRecoveredHeapOf (contents : Contents) (name : List ℕ) (recovered 
   pub inside : (at : ℕ) → PointsOutside (image_in bytes) at → ⊥
   pub formed : HoldsImage bytes
   pub is : IsRecoveredHeap (image_in bytes) recovered
+  pub long : length recovered.heap.words ≡ length (current_words (words_in_bytes bytes) first_kinds)
 
 -- and these are the words of that image, in the new version
 pub record IsRecoveredFrom (contents : Contents) (name words : List ℕ) (recovered : Recovered) : Type 0 where
   pub image : IsRecoveredHeapOf contents name recovered
   pub words_are : words ≡ current_words (words_in_bytes image.bytes) first_kinds
-  pub long : length recovered.heap.words ≡ length words
 
 -- the heap is what recovery makes of the image of this name, and each shard of it has a map
 pub record IsMapped (contents : Contents) (name words : List ℕ) (held : List Block) : Type 0 where

@@ -12,10 +12,10 @@ ghost use Rattle.tool_run.specs.Inside.{Refuses};
 ghost use Rattle.tool_run.specs.Making.{ShowsByWords, image_without_kinds};
 
 use crate::fault::Fault;
-use crate::making::Product;
 use crate::recovering::{good_image, words_in};
 use heap_recover::RecoverFault;
 use image_conservative::conservative_text;
+use image_run::Product;
 use region_header::Bytes;
 use std::alloc::Global;
 use tool_ports::ImageStore;

@@ -15,12 +15,12 @@ ghost use Rattle.tool_run.specs.Making.{Counts, IsOrderlyIn, image_in};
 ghost use Rattle.tool_run.specs.Recovering.{IsRecoveryFault, words_in_bytes};
 
 use crate::fault::Fault;
-use crate::making::Product;
 use crate::recovering::{good_image, words_in};
 use dictionary::DictFilter;
 use filter_trace::Filter;
 use heap_recover::RecoverFault;
 use image_count::count_text;
+use image_run::Product;
 use region_header::Bytes;
 use std::alloc::Global;
 use tool_ports::ImageStore;

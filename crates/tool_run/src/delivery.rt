@@ -6,7 +6,7 @@ ghost use Rattle.tool_run.specs.Inside.{IsDelivered, DeliveryFails, PutFails};
 ghost use Rattle.tool_run.specs.Outcome.{Puts};
 
 use crate::fault::Fault;
-use crate::making::Product;
+use image_run::Product;
 use region_header::Bytes;
 use std::alloc::Global;
 use tool_ports::{ImageStore, Sink, write_all};

@@ -10,10 +10,10 @@ ghost use Rattle.tool_run.specs.Recovering.{IsDrainableAtRest, IsGivenText};
 
 use crate::drained::drain_heap;
 use crate::fault::Fault;
-use crate::making::Product;
 use crate::recovering::recover_image;
 use block_heap::Chance;
 use heap_recover::Recovered;
+use image_run::Product;
 use region_header::Bytes;
 use size_table::{SizeClass, size_of};
 use std::alloc::{AllocError, Global};

@@ -13,7 +13,7 @@ use crate::status::Status;
 use dictionary::MapFault;
 use heap_model::BadHeader;
 use heap_recover::RecoverFault;
-use image_replay::ReplayFault;
+use image_run::ReplayFault;
 use itoa::Buffer;
 use std::alloc::AllocError;
 use tool_ports::{Failed, GetFault, PutImageFault, ReadAllFault, Sink, write_all};

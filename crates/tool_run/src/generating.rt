@@ -2,7 +2,7 @@
 ghost use Rattle.std.specs.Prelude.{◌≡◌, IfOk};
 ghost use Rattle.trace_text.specs.Generated.{made_trace};
 
-use crate::making::Product;
+use image_run::Product;
 use std::alloc::{AllocError, Global};
 use tool_command::TracePlan;
 use trace_text::gen_text;

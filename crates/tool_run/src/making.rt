@@ -20,20 +20,13 @@ use crate::recovering::recover_shown;
 use crate::replaying::replay_named;
 use crate::working::work_named;
 use dictionary::read_maps;
-use image_run::recovered_text;
+use image_run::{Product, recovered_text};
 use region_header::{Bytes, format, words_to_bytes};
 use std::alloc::{AllocError, Global};
 use std::thread::Threads;
 use super_block::{Geometry, WORD_BYTES};
 use tool_command::Invocation;
 use tool_ports::{Chances, Gate, ImageStore, Source};
-
-/// What a command has made: the image that is to be put, if any, and the text to be printed.
-#[derive(Drop)]
-pub struct Product {
-    pub image: Option<Bytes>,
-    pub text: Bytes,
-}
 
 /// Makes what the command is to put and to print.
 pub fn make<R: Threads + Sync, I: ImageStore, T: Source, G: Gate + Sync, C: Chances>(

@@ -8,9 +8,8 @@ ghost use Rattle.tool_run.specs.Inside.{Refuses};
 ghost use Rattle.tool_run.specs.Making.{RebuildsNamed, FollowsLinks};
 
 use crate::fault::Fault;
-use crate::making::Product;
 use crate::recovering::recover_words;
-use image_rebuild::rebuild_image;
+use image_run::{Product, rebuild_image};
 use std::alloc::Global;
 use tool_ports::{Chances, ImageStore};
 
@@ -35,8 +34,5 @@ pub fn rebuild_named<I: ImageStore, C: Chances>(
 {
     let (words, recovered) = recover_words(alloc, name, images)?;
     let product = rebuild_image(alloc, &words, &recovered.heap, budget, seed, chances)?;
-    Ok(Product {
-        image: Some(product.image),
-        text: product.text,
-    })
+    Ok(product)
 }

@@ -126,6 +126,8 @@ fn recover_bytes(alloc: Global, bytes: Vec<u8>) -> Result<Recovered, RecoverFaul
     requires { HasGoodHeader (Some kind_count) (length bytes.items) (image_of_bytes bytes.items) }
     ensures ok { IfOk result (IsRecoveredHeap (image_in bytes.items)) }
     ensures formed { OnOk result (HoldsImage bytes.items) }
+    ensures long { IfOk result (λ recovered. length recovered.heap.words
+        ≡ length (current_words (words_in_bytes bytes.items) first_kinds)) }
     ensures none { OnOk result ((at : ℕ) → PointsOutside (image_in bytes.items) at → ⊥) }
     ensures err { IfErr result (IsRecoveryFault (image_in bytes.items)) }
 {
@@ -143,6 +145,8 @@ fn recover_bytes_par<R: Threads + Sync>(
     requires { HasGoodHeader (Some kind_count) (length bytes.items) (image_of_bytes bytes.items) }
     ensures ok { IfOk result (IsRecoveredHeap (image_in bytes.items)) }
     ensures formed { OnOk result (HoldsImage bytes.items) }
+    ensures long { IfOk result (λ recovered. length recovered.heap.words
+        ≡ length (current_words (words_in_bytes bytes.items) first_kinds)) }
     ensures none { OnOk result ((at : ℕ) → PointsOutside (image_in bytes.items) at → ⊥) }
     ensures err { IfErr result (IsRecoveryFault (image_in bytes.items)) }
 {

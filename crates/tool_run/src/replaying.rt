@@ -11,10 +11,9 @@ ghost use Rattle.tool_run.specs.Making.{HasSchedule, ReplaysNamed};
 ghost use Rattle.tool_run.specs.Outcome.{HoldsOutside};
 
 use crate::fault::Fault;
-use crate::making::Product;
-use crate::recovering::recover_words;
+use crate::recovering::recover_image;
 use crate::working::LONGEST_TRACE;
-use image_replay::replay_image;
+use image_run::{Product, replay_image};
 use std::alloc::Global;
 use tool_ports::{Chances, ImageStore, Source, read_all};
 use trace_text::{Schedule, TraceError, parse_schedule};
@@ -44,10 +43,10 @@ pub fn replay_named<I: ImageStore, T: Source, C: Chances>(
     ensures later { I.faults images.old ≤ I.faults images.new }
     ensures calls { I.calls images.new ≡ with_get get_limit (I.calls images.old) }
 {
-    let (_, recovered) = recover_words(alloc, name, images)?;
+    let recovered = recover_image(alloc, name, images)?;
     let schedule = read_schedule(alloc, source)?;
-    let text = replay_image(alloc, &recovered.heap, &schedule, seed, chances)?;
-    Ok(Product { image: None, text })
+    let product = replay_image(alloc, &recovered.heap, &schedule, seed, chances)?;
+    Ok(product)
 }
 
 // The schedule that the source has left.

@@ -12,10 +12,9 @@ ghost use Rattle.tool_run.specs.Outcome.{HoldsOutside};
 ghost use Rattle.tool_run.specs.Recovering.{IsMapped};
 
 use crate::fault::Fault;
-use crate::making::Product;
 use crate::recovering::recover_image;
 use dictionary::MappedHeap;
-use image_run::{RunOptions, run_image};
+use image_run::{Product, RunOptions, run_image};
 use std::alloc::Global;
 use std::thread::Threads;
 use tool_ports::{Chances, Gate, ImageStore, Source, read_all};
@@ -55,10 +54,7 @@ pub fn work_named<R: Threads + Sync, I: ImageStore, T: Source, G: Gate + Sync, C
     let mapped = mapped_heap(alloc, name, images)?;
     let requests = read_trace(alloc, trace)?;
     let product = run_image(rt, alloc, mapped, &requests, options, gate, chances)?;
-    Ok(Product {
-        image: Some(product.image),
-        text: product.text,
-    })
+    Ok(product)
 }
 
 // The image of this name, recovered: each shard of it has a map.

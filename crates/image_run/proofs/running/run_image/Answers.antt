@@ -12,8 +12,8 @@ left_text-requires-clause-run g c =
     can_be_run (slice_index c.args.mapped.words) (slice_index c.in_ok-outcome.outcome.image.items) _ _ _ _ _ c.requires.dictionary.maps c.in_ok-outcome.ensures.maps
     c.in_ok-outcome.ensures.header c.in_ok-outcome.ensures.others
 
-pub returns : goal.returns
-returns g c =
+pub returns-clause-ok : goal.returns-clause-ok
+returns-clause-ok g c =
     let outcome = c.in_ok-outcome.outcome in
     let replies_are : c.in_ok-replies.replies ≡ replies_text outcome.replies.items outcome.stopped c.args.options.with_sum =
     c.in_ok-replies.ensures.ok ∙ ap (λ (rs : List Told). replies_text rs outcome.stopped c.args.options.with_sum) c.deref.ensures.value in
@@ -22,34 +22,32 @@ returns g c =
     joined ∙ ap (λ (l : List ℕ). l ++ c.in_ok-report.report) replies_are in
     let image_is : c.in_ok-image.image ≡ bytes_of_words outcome.image.items = search rules in
     record {
-      ok = record {
-        told = outcome.replies.items;
-        stopped = outcome.stopped;
-        left = outcome.image.items;
-        leaves = record {
-          worked = record {
-            words = c.args.mapped.words;
-            opened = as_they_are;
-            held = c.args.mapped.held;
-            now = c.in_ok-outcome.ensures.worked.0;
-            kept = c.in_ok-outcome.ensures.worked.1;
-            worked = c.in_ok-outcome.ensures.worked.2;
-          };
-          answers = c.in_ok-outcome.ensures.answers;
-          stops = c.in_ok-outcome.ensures.stops;
-          replies = c.in_ok-outcome.ensures.replies;
-          full = c.in_ok-outcome.ensures.full;
-          maps = c.in_ok-outcome.ensures.maps;
-          header = c.in_ok-outcome.ensures.header;
-          others = c.in_ok-outcome.ensures.others;
-          used = c.in_ok-outcome.ensures.used;
-          state = c.in_ok-outcome.ensures.state;
-          orderly = c.in_ok-outcome.ensures.orderly;
+      told = outcome.replies.items;
+      stopped = outcome.stopped;
+      left = outcome.image.items;
+      leaves = record {
+        worked = record {
+          words = c.args.mapped.words;
+          opened = as_they_are;
+          held = c.args.mapped.held;
+          now = c.in_ok-outcome.ensures.worked.0;
+          kept = c.in_ok-outcome.ensures.worked.1;
+          worked = c.in_ok-outcome.ensures.worked.2;
         };
-        put_is = image_is;
-        words_are = subst (λ (l : List ℕ). AreWordsOf l c.in_ok-image.image) c.deref-2.ensures.value c.in_ok-image.ensures.words;
-        report = c.in_ok-report.report;
-        reports = c.in_ok-report.ensures;
-        text_is = text_is;
+        answers = c.in_ok-outcome.ensures.answers;
+        stops = c.in_ok-outcome.ensures.stops;
+        replies = c.in_ok-outcome.ensures.replies;
+        full = c.in_ok-outcome.ensures.full;
+        maps = c.in_ok-outcome.ensures.maps;
+        header = c.in_ok-outcome.ensures.header;
+        others = c.in_ok-outcome.ensures.others;
+        used = c.in_ok-outcome.ensures.used;
+        state = c.in_ok-outcome.ensures.state;
+        orderly = c.in_ok-outcome.ensures.orderly;
       };
+      put_is = image_is;
+      words_are = subst (λ (l : List ℕ). AreWordsOf l c.in_ok-image.image) c.deref-2.ensures.value c.in_ok-image.ensures.words;
+      report = c.in_ok-report.report;
+      reports = c.in_ok-report.ensures;
+      text_is = text_is;
     }

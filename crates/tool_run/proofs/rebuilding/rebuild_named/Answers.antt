@@ -1,4 +1,4 @@
-use Rattle.std.proofs.Common.{List, ℕ, Some, sym, subst, slice_index, length}
+use Rattle.std.proofs.Common.{List, ℕ, Some, IsSomeAnd, sym, subst, slice_index, length}
 use Rattle.dict_model.specs.Links.{dict_links, kind_count}
 use Rattle.heap_recover.specs.InPlace.{IsRecoveryOf}
 use Rattle.tool_run.specs.Making.{Rebuilds}
@@ -15,4 +15,5 @@ pub returns-clause-ok : goal.returns-clause-ok
 returns-clause-ok g c =
     let both = c.in_ok-words in
     rebuilds_named (g.I.ImageStore.contents c.args.images.now) c.args.name.now both.words.items both.recovered both.ensures.ok c.args.budget c.in_ok-product.product.image c.in_ok-product.product.text
-    (subst (λ (ws : List ℕ). Rebuilds (slice_index ws) (length ws) c.args.budget c.in_ok-product.product.image c.in_ok-product.product.text) c.deref.ensures.value c.in_ok-product.ensures.ok)
+    (subst (λ (ws : List ℕ). IsSomeAnd c.in_ok-product.product.image (λ image. Rebuilds (slice_index ws) (length ws) c.args.budget image c.in_ok-product.product.text))
+    c.deref.ensures.value c.in_ok-product.ensures.ok)

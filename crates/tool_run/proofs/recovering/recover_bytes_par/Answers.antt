@@ -1,10 +1,10 @@
-use Rattle.std.proofs.Common.{ℕ, Err, slice_index, subst}
+use Rattle.std.proofs.Common.{ℕ, Err, List, length, slice_index, ap, subst, ◌∙◌}
 use Rattle.heap_model.specs.Image.{Image}
 use Rattle.std.proofs.lemmas.Result.{err_from_is_err_and}
 use Rattle.heap_recover.specs.declared.answer.Recovered.{Recovered}
 use Rattle.region_header.specs.Migration.{current_words}
 use Rattle.tool_run.specs.Making.{image_in, PointsOutside}
-use Rattle.tool_run.proofs.RecoveryLemmas.{recovered_heap, image_is, formed_in, recovery_fault}
+use Rattle.tool_run.proofs.RecoveryLemmas.{recovered_heap, current_in, image_is, formed_in, recovery_fault}
 use Rattle.tool_run.proofs.recovering.recover_bytes_par.Goals as goal
 
 pub returns-clause-ok : goal.returns-clause-ok
@@ -20,6 +20,11 @@ pub returns-clause-formed : goal.returns-clause-formed
 returns-clause-formed g c =
     formed_in c.in_ok-words.words.items c.root_kinds.result c.args.bytes.items c.root_kinds.ensures.list c.in_ok-words.ensures.ok
     c.in_ok-recovered.ensures.formed
+
+pub returns-clause-long : goal.returns-clause-long
+returns-clause-long g c =
+    c.in_ok-recovered.ensures.ok.long
+    ∙ ap (λ (ws : List ℕ). length ws) (current_in c.in_ok-words.words.items c.root_kinds.result c.args.bytes.items c.root_kinds.ensures.list c.in_ok-words.ensures.ok)
 
 pub returns-clause-none : goal.returns-clause-none
 returns-clause-none g c =

@@ -16,9 +16,8 @@ returns-in_err-recovered-clause-err g c =
 pub returns-in_err-schedule-clause-err : goal.returns-in_err-schedule-clause-err
 returns-in_err-schedule-clause-err g c =
     let contents = g.I.ImageStore.contents c.args.images.now in
-    let both = c.in_ok-recovered in
     at_cause _ c.from_residual-in_err-schedule.result c.from_residual-in_err-schedule.ensures
-    (λ fault is. refused_later contents c.args.name.now both.field-0-0.items both.recovered both.ensures.ok (g.T.Source.left c.args.source.now) c.args.seed _ _ fault _ is
+    (λ fault is. refused_later contents c.args.name.now c.in_ok-recovered.recovered c.in_ok-recovered.ensures.ok (g.T.Source.left c.args.source.now) c.args.seed _ _ fault _ is
     (c.in_err-schedule.ensures.err contents c.args.name.now))
 
 pub returns-in_err-schedule-clause-unread : goal.returns-in_err-schedule-clause-unread
@@ -33,45 +32,42 @@ pub replay_image-requires-clause-schedule : goal.replay_image-requires-clause-sc
 replay_image-requires-clause-schedule g c = λ lifetimes live. can_be_replayed _ _ c.in_ok-schedule.ensures.ok
 
 pub replay_image-requires-clause-kinds : goal.replay_image-requires-clause-kinds
-replay_image-requires-clause-kinds g c = λ lifetimes live. c.in_ok-recovered.ensures.ok.image.is.kinds
+replay_image-requires-clause-kinds g c = λ lifetimes live. c.in_ok-recovered.ensures.ok.is.kinds
 
-pub returns-in_err-text-clause-err : goal.returns-in_err-text-clause-err
-returns-in_err-text-clause-err g c =
+pub returns-in_err-product-clause-err : goal.returns-in_err-product-clause-err
+returns-in_err-product-clause-err g c =
     let contents = g.I.ImageStore.contents c.args.images.now in
     let left = g.T.Source.left c.args.source.now in
-    let both = c.in_ok-recovered in
-    at_cause _ c.from_residual-in_err-text.result c.from_residual-in_err-text.ensures
-    (λ fault is. refused_later contents c.args.name.now both.field-0-0.items both.recovered both.ensures.ok left c.args.seed _ _ fault _ is
-    (replay_fault contents c.args.name.now both.field-0-0.items both.recovered both.ensures.ok left _ c.in_ok-schedule.schedule c.in_ok-schedule.ensures.ok _ c.in_err-text.ensures.err))
+    let recovered = c.in_ok-recovered.recovered in
+    let is = c.in_ok-recovered.ensures.ok in
+    at_cause _ c.from_residual-in_err-product.result c.from_residual-in_err-product.ensures
+    (λ fault same. refused_later contents c.args.name.now recovered is left c.args.seed _ _ fault _ same
+    (replay_fault contents c.args.name.now recovered is left _ c.in_ok-schedule.schedule c.in_ok-schedule.ensures.ok _ c.in_err-product.ensures.err))
 
 pub returns-clause-ok : goal.returns-clause-ok
-returns-clause-ok g c =
-    let both = c.in_ok-recovered in (
-      refl,
-      record {
-        words = both.recovered.heap.words;
-        held = both.recovered.heap.held;
-        heap = heap_of (g.I.ImageStore.contents c.args.images.now) c.args.name.now both.field-0-0.items both.recovered both.ensures.ok;
-        schedule = c.in_ok-schedule.schedule;
-        has_schedule = c.in_ok-schedule.ensures.ok;
-        replays = c.in_ok-text.ensures.ok;
-      },
-    )
+returns-clause-ok g c = (
+  c.in_ok-product.ensures.no_image,
+  record {
+    words = c.in_ok-recovered.recovered.heap.words;
+    held = c.in_ok-recovered.recovered.heap.held;
+    heap = heap_of (g.I.ImageStore.contents c.args.images.now) c.args.name.now c.in_ok-recovered.recovered c.in_ok-recovered.ensures.ok;
+    schedule = c.in_ok-schedule.schedule;
+    has_schedule = c.in_ok-schedule.ensures.ok;
+    replays = c.in_ok-product.ensures.ok;
+  },
+)
 
 pub returns-in_err-schedule-clause-image_first : goal.returns-in_err-schedule-clause-image_first
 returns-in_err-schedule-clause-image_first g c at has =
-    let both = c.in_ok-recovered in
-    let heap = heap_of (g.I.ImageStore.contents c.args.images.now) c.args.name.now both.field-0-0.items both.recovered both.ensures.ok in
+    let heap = heap_of (g.I.ImageStore.contents c.args.images.now) c.args.name.now c.in_ok-recovered.recovered c.in_ok-recovered.ensures.ok in
     absurd (good_inside (g.I.ImageStore.contents c.args.images.now) c.args.name.now c.args.name.now at refl heap.image has)
 
-pub returns-in_err-text-clause-image_first : goal.returns-in_err-text-clause-image_first
-returns-in_err-text-clause-image_first g c at has =
-    let both = c.in_ok-recovered in
-    let heap = heap_of (g.I.ImageStore.contents c.args.images.now) c.args.name.now both.field-0-0.items both.recovered both.ensures.ok in
+pub returns-in_err-product-clause-image_first : goal.returns-in_err-product-clause-image_first
+returns-in_err-product-clause-image_first g c at has =
+    let heap = heap_of (g.I.ImageStore.contents c.args.images.now) c.args.name.now c.in_ok-recovered.recovered c.in_ok-recovered.ensures.ok in
     absurd (good_inside (g.I.ImageStore.contents c.args.images.now) c.args.name.now c.args.name.now at refl heap.image has)
 
 pub returns-clause-image_first : goal.returns-clause-image_first
 returns-clause-image_first g c at has =
-    let both = c.in_ok-recovered in
-    let heap = heap_of (g.I.ImageStore.contents c.args.images.now) c.args.name.now both.field-0-0.items both.recovered both.ensures.ok in
+    let heap = heap_of (g.I.ImageStore.contents c.args.images.now) c.args.name.now c.in_ok-recovered.recovered c.in_ok-recovered.ensures.ok in
     absurd (good_inside (g.I.ImageStore.contents c.args.images.now) c.args.name.now c.args.name.now at refl heap.image has)

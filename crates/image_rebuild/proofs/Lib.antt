@@ -1,2 +1,0 @@
-mod RebuiltLemmas
-mod PutLemmas

@@ -1,3 +1,0 @@
-mod LineLemmas
-mod CrashLemmas
-pub mod OutcomeLemmas

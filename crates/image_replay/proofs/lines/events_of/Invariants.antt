@@ -1,7 +1,0 @@
-use Rattle.std.proofs.Common.{◌≡◌, take}
-use Rattle.image_replay.specs.Replaying.{events_of}
-use Rattle.image_replay.proofs.lines.events_of.Given as goal
-
--- the events of the lines before this one are there
-abbrev pub invariant-loop-seat : goal.invariant-loop-seat
-invariant-loop-seat l = l.events.items ≡ events_of (take l.seat-index l.lines)

@@ -1,0 +1,56 @@
+use Rattle.std.proofs.Common.{ℕ, List, ◌∙◌, sym, ap, subst, slice_index, length}
+use Rattle.heap_model.specs.Header.{capacity_of}
+use Rattle.line_memory.specs.View.{View}
+use Rattle.line_memory.specs.Plain.{view_of}
+use Rattle.line_memory.specs.ClosedWords.{volatile_words, durable_words}
+use Rattle.tool_ports.specs.Chances.{unasked, by_chance}
+use Rattle.tool_ports.proofs.ChanceLemmas.{comes_then}
+use Rattle.worker_run.specs.Left.{AreWholeImage}
+use Rattle.image_run.proofs.RebuiltLemmas.{durable_capacity, durable_whole, capacity_new, rebuilt_done, rebuilt_cut}
+use Rattle.image_run.proofs.rebuilding.rebuild_words.Goals as goal
+
+pub returns-in-Ok-clause-ok : goal.returns-in-Ok-clause-ok
+returns-in-Ok-clause-ok g c =
+    let v = view_of c.rebuild-end.new.memory in
+    rebuilt_done c.args.words.now c.args.heap.now.words c.args.heap.now.held c.requires c.args.budget c.now.inside.now.items v
+    (sym c.finish.ensures.volatile ∙ sym (ap volatile_words c.now.view_is)) c.in-Ok.ensures.ok
+    c.in-Ok.ensures.mixed
+
+pub crash_image-requires-clause-whole : goal.crash_image-requires-clause-whole
+crash_image-requires-clause-whole g c _ _ =
+    let v = view_of c.rebuild-end.new.memory in
+    subst AreWholeImage (sym c.finish.ensures.durable ∙ sym (ap durable_words c.now.view_is))
+    (durable_whole c.args.words.now c.args.heap.now.words c.args.heap.now.held c.requires v
+    (ap (λ (ws : List ℕ). length ws) (sym c.finish.ensures.durable ∙ sym (ap durable_words c.now.view_is)) ∙ c.now.invariant
+    ∙ sym (ap (λ (ws : List ℕ). length ws) (sym c.finish.ensures.volatile ∙ sym (ap volatile_words c.now.view_is)))) c.in-Err.ensures.between)
+
+pub crash_image-requires-clause-layout : goal.crash_image-requires-clause-layout
+crash_image-requires-clause-layout g c _ _ =
+    let v = view_of c.rebuild-end.new.memory in
+    c.geometry-geometry.ensures ∙ capacity_new c.args.words.now c.args.heap.now.words c.args.heap.now.held c.requires
+    ∙ sym (durable_capacity c.args.words.now c.args.heap.now.words c.args.heap.now.held c.requires v c.in-Err.ensures.between)
+    ∙ ap (λ (ws : List ℕ). capacity_of (slice_index ws)) (sym c.finish.ensures.durable ∙ sym (ap durable_words c.now.view_is))
+
+pub returns-in-Err-clause-ok : goal.returns-in-Err-clause-ok
+returns-in-Err-clause-ok g c =
+    let v = view_of c.in_ok-memory.memory in
+    let w = view_of c.rebuild-end.new.memory in
+    rebuilt_cut c.args.words.now c.args.heap.now.words c.args.heap.now.held c.requires c.args.budget c.in-Err.field-0.step c.now.inside.kept.items c.crash_image.result.items v w
+    (sym c.finish.ensures.durable ∙ sym (ap durable_words c.now.view_is)) c.in-Err.ensures.between (ap (λ (u : View). u.budget) c.in_ok-memory.ensures.ok)
+    (ap (λ (u : View). u.drawn) c.in_ok-memory.ensures.ok) c.in-Err.ensures.stopped
+    c.in-Err.ensures.crash
+    c.crash_image.ensures.image c.crash_image.ensures.long
+    (ap (λ (ws : List ℕ). length ws) (sym c.finish.ensures.durable ∙ sym (ap durable_words c.now.view_is)) ∙ c.now.invariant
+    ∙ sym (ap (λ (ws : List ℕ). length ws) (sym c.finish.ensures.volatile ∙ sym (ap volatile_words c.now.view_is))))
+
+pub returns-in_err-copy-clause-chances : goal.returns-in_err-copy-clause-chances
+returns-in_err-copy-clause-chances g c = unasked
+
+pub returns-in_err-memory-clause-chances : goal.returns-in_err-memory-clause-chances
+returns-in_err-memory-clause-chances g c = by_chance _ _ 0 _ unasked c.chance.ensures
+
+pub returns-in-Ok-clause-chances : goal.returns-in-Ok-clause-chances
+returns-in-Ok-clause-chances g c = by_chance _ _ 0 _ unasked c.chance.ensures
+
+pub returns-in-Err-clause-chances : goal.returns-in-Err-clause-chances
+returns-in-Err-clause-chances g c = comes_then _ _ _ _ _ (by_chance _ _ 0 _ unasked c.chance.ensures) c.crash_image.ensures.chances

@@ -1,0 +1,39 @@
+use Rattle.std.proofs.Common.{◌≡◌, ◌∙◌, ℕ, ◌<◌, List, length, replicate, ap, sym, subst}
+use Rattle.std.specs.Prelude.{Contains}
+use Rattle.core_model.specs.declared.event.Event.{Event}
+use Rattle.core_model.specs.Opening.{AreOwners}
+use Rattle.image_run.specs.Replaying.{events_of}
+use Rattle.image_run.proofs.LineLemmas.{seats_below}
+use Rattle.image_run.proofs.CrashLemmas.{first_owns, replayed, left_good, left_new}
+use Rattle.image_run.proofs.replaying.replay_lines.Goals as goal
+
+pub of-requires-clause-owners : goal.of-requires-clause-owners
+of-requires-clause-owners g c =
+    let held = c.args.heap.now.held in
+    let seats = c.args.schedule.now.seats in
+    let blocks_are = c.in_ok-owners.ensures.held ∙ ap (λ (bs : List _). replicate (length bs) 0) c.held.ensures.held in
+    subst (λ (l : List ℕ). AreOwners held seats l c.in_ok-owners.owners.roots) (sym blocks_are)
+    (subst (λ (l : List ℕ). AreOwners held seats (replicate (length held) 0) l) (sym c.in_ok-owners.ensures.roots) (first_owns held seats c.requires.schedule.some))
+
+pub replay-requires : goal.replay-requires
+replay-requires g c =
+    let lines = c.args.schedule.now.lines.items in
+    let events_are : c.deref-2.result.now ≡ events_of lines = c.deref-2.ensures.value ∙ c.in_ok-events.ensures ∙ ap events_of c.deref.ensures.value in
+    record {
+      seats = λ e has. subst (λ n. e.0 < n) (sym c.in_ok-core.ensures.seats)
+          (seats_below c.args.schedule.now.seats lines c.requires.schedule.below e (subst (λ (es : List (ℕ × Event)). Contains es e) events_are has));
+    }
+
+pub returns-clause-replayed : goal.returns-clause-replayed
+returns-clause-replayed g c =
+    let lines = c.args.schedule.now.lines.items in
+    let events_are : c.deref-2.result.now ≡ events_of lines = c.deref-2.ensures.value ∙ c.in_ok-events.ensures ∙ ap events_of c.deref.ensures.value in
+    let blocks_are = c.in_ok-owners.ensures.held ∙ ap (λ (bs : List _). replicate (length bs) 0) c.held.ensures.held in
+    replayed _ _ _ lines _ _ c.deref-2.result.now _ _ _ _ _ blocks_are c.in_ok-owners.ensures.roots events_are
+    c.in_ok-core.ensures.ok c.in_ok-answers.ensures.runs c.tickets-tickets.ensures c.in_ok-left.ensures.ok c.in_ok-left.ensures.length
+
+pub returns-clause-good : goal.returns-clause-good
+returns-clause-good g c = left_good _ _ _ _ _ _ _ c.held.ensures.ready c.requires.kinds c.requires.schedule.some (returns-clause-replayed g c)
+
+pub returns-clause-version : goal.returns-clause-version
+returns-clause-version g c = left_new _ _ (returns-clause-replayed g c).long (returns-clause-good g c)

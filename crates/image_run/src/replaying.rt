@@ -1,0 +1,125 @@
+//! Replays a schedule over a heap at rest, and makes what is printed.
+ghost use Rattle.std.specs.Prelude.{◌≡◌, ◌*◌, ◌++◌, Some, None, length, replicate, slice_index, IfOk, IfErr, IsErr, ℕ};
+ghost use Rattle.heap_model.specs.Geometry.{roots, version, version_word};
+ghost use Rattle.heap_model.specs.Header.{header_fault, HasKindsBelow};
+ghost use Rattle.dict_model.specs.Links.{kind_count};
+ghost use Rattle.trace_text.specs.Answered.{answers_text_of, tickets_line_of};
+ghost use Rattle.image_run.specs.Replaying.{CanBeReplayed, IsReplayed, LeavesOutside, Replays, StopsReplay};
+
+use crate::fault::ReplayFault;
+use crate::left::recover_left;
+use crate::lines::{events_of, last_answers};
+use crate::options::MOST_BUDGET;
+use crate::product::Product;
+use crate::reporting::heap_text;
+use core_model::StepAnswer;
+use crash_core::{Core, Owners};
+use line_memory::Chance;
+use region_header::Bytes;
+use std::alloc::{AllocError, Global};
+use super_block::{ROOTS, Ready};
+use tool_ports::Chances;
+use trace_text::{Schedule, answers_text, tickets_line};
+
+// What the seats come to: the answer to each event, and of a crash then the image that it leaves.
+#[derive(Drop)]
+struct Replayed {
+    answers: Vec<StepAnswer>,
+    tickets: u64,
+    left: Vec<u64>,
+}
+
+/// Takes the steps of a schedule over a heap, all of whose blocks and roots belong to seat 0, and
+/// gives the text on them and on the image that a crash then leaves. The chances begin anew by the
+/// seed.
+pub fn replay_image<C: Chances>(
+    alloc: Global,
+    heap: &Ready,
+    schedule: &Schedule,
+    seed: u64,
+    chances: &mut C,
+) -> Result<Product, ReplayFault>
+    requires schedule { CanBeReplayed schedule.now.seats schedule.now.lines.items }
+    requires kinds { HasKindsBelow (Some kind_count) (slice_index heap.now.words) }
+    ensures ok { IfOk result (λ product. Replays heap.now.words heap.now.held
+        schedule.now.seats schedule.now.lines.items product.text) }
+    ensures no_image { IfOk result (λ product. product.image ≡ None) }
+    ensures err { IfErr result (StopsReplay heap.now.words heap.now.held
+        schedule.now.seats schedule.now.lines.items) }
+    ensures always_outside { (at value : ℕ) → LeavesOutside heap.now.words heap.now.held
+        schedule.now.seats schedule.now.lines.items at value → IsErr result }
+{
+    chances.seed(seed);
+    let replayed = replay_lines(alloc, heap, schedule, chances)?;
+    let recovered = recover_left(alloc, replayed.left)?;
+    let report = heap_text(alloc, &recovered)?;
+    let answers = last_answers(alloc, &schedule.lines, &replayed.answers)?;
+    let text = replayed_text(alloc, &answers, replayed.tickets, &report)?;
+    Ok(Product { image: None, text })
+}
+
+// Takes the steps, and crashes.
+fn replay_lines<C: Chances>(
+    alloc: Global,
+    heap: &Ready,
+    schedule: &Schedule,
+    chances: &mut C,
+) -> Result<Replayed, AllocError>
+    requires schedule { CanBeReplayed schedule.now.seats schedule.now.lines.items }
+    requires kinds { HasKindsBelow (Some kind_count) (slice_index heap.now.words) }
+    ensures replayed { IfOk result (λ r. IsReplayed heap.now.words heap.now.held
+        schedule.now.seats schedule.now.lines.items r.answers.items r.tickets r.left.items) }
+    ensures good { IfOk result (λ r. header_fault (Some kind_count) (8 * length r.left.items)
+        (slice_index r.left.items) ≡ None) }
+    ensures version { IfOk result (λ r. slice_index r.left.items version_word ≡ version) }
+{
+    let owners = owned_by_the_first(alloc, heap.held().len())?;
+    let mut core = Core::of(alloc, heap, &owners, schedule.seats, MOST_BUDGET)?;
+    let events = events_of(alloc, &schedule.lines)?;
+    let answers = core.replay(alloc, &events)?;
+    let left = core.image(alloc, &mut CrashWords { chances })?;
+    let tickets = core.tickets();
+    Ok(Replayed {
+        answers,
+        tickets,
+        left,
+    })
+}
+
+// The words for what a crash leaves at random.
+#[derive(Drop)]
+struct CrashWords<'a, C: Chances> {
+    chances: &'a mut C,
+}
+
+impl<'a, C: Chances> Chance for CrashWords<'a, C> {
+    fn draw(&mut self) -> u64 {
+        self.chances.word()
+    }
+}
+
+// So many blocks, and all roots, are seat 0's.
+fn owned_by_the_first(alloc: Global, blocks: usize) -> Result<Owners, AllocError>
+    ensures held { IfOk result (λ owners. owners.held ≡ replicate blocks 0) }
+    ensures roots { IfOk result (λ owners. owners.roots ≡ replicate roots 0) }
+{
+    let held = vec![in alloc; 0; blocks]?;
+    let roots = vec![in alloc; 0; ROOTS as usize]?;
+    Ok(Owners::new(held, roots))
+}
+
+// A line for each answer, the line of the tickets, and the report.
+fn replayed_text(
+    alloc: Global,
+    answers: &[StepAnswer],
+    tickets: u64,
+    report: &Bytes,
+) -> Result<Bytes, AllocError>
+    ensures { IfOk result (λ text. text
+        ≡ answers_text_of answers.now ++ tickets_line_of tickets ++ report.now) }
+{
+    let mut text = answers_text(alloc, answers)?.into_vec();
+    text.extend_from_slice(tickets_line(alloc, tickets)?.as_slice())?;
+    text.extend_from_slice(report.as_slice())?;
+    Ok(Bytes::from_vec(text))
+}
