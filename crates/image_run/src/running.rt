@@ -4,6 +4,7 @@ ghost use Rattle.dict_model.specs.Links.{shards};
 ghost use Rattle.dictionary.specs.Reading.{AreMaps};
 ghost use Rattle.run_model.specs.Opened.{IsDictionary, CanBeRun};
 ghost use Rattle.worker_run.specs.Said.{requests_of, ValuesAreShort};
+ghost use Rattle.tool_ports.specs.Chances.{ComesFromSeed};
 ghost use Rattle.image_run.specs.Reporting.{Reports};
 ghost use Rattle.image_run.specs.Running.{RunsRequests, options_of};
 
@@ -38,6 +39,8 @@ pub fn run_image<R: Threads + Sync, G: Gate + Sync, C: Chances>(
     ensures ok { IfOk result (λ product. IsSomeAnd product.image (λ image. RunsRequests
         (slice_index mapped.words) (requests_of requests.now) (options_of options) image
         product.text)) }
+    ensures seeded { ComesFromSeed C.seed_gives C.chance_gives C.word_gives
+        chances.old options.seed chances.new }
 {
     chances.seed(options.seed);
     let workers = options.workers as usize;
