@@ -1,4 +1,3 @@
-pub mod Crash
 pub mod OwnWords
 pub mod Standing
 pub mod Opened

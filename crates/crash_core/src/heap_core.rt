@@ -9,15 +9,16 @@ ghost use Rattle.core_model.specs.Memory.{memory_of};
 ghost use Rattle.core_model.specs.Opening.{AreOwners, setup_of, opened_state};
 ghost use Rattle.core_model.specs.Steps.{TableState};
 ghost use Rattle.core_model.specs.View.{Setup};
-ghost use Rattle.crash_core.specs.Crash.{GivesAll, transient_words};
+ghost use Rattle.crash_image.specs.Crash.{GivesAll, transient_words};
 ghost use Rattle.crash_core.specs.Standing.{StandsFor, Follows, RunsOn};
 
-use crate::crash::crash_image;
+use crate::crash::durable_words;
 use crate::opened::opened_core;
 use crate::runs::run;
 use crate::state::CoreState;
 use crate::steps::step;
 use core_model::{Event, StepAnswer};
+use crash_image::crash_image;
 use line_memory::Chance;
 use seat_notes::Owners;
 use std::alloc::{AllocError, Global};
@@ -115,7 +116,8 @@ impl Core {
             → StandsFor self.now.state k s → GivesAll C.draw_gives scramble.old
             (map (slice_index image.items) (transient_words k.capacity)) scramble.new) }
     {
-        crash_image(alloc, &self.state.words, self.state.geometry, scramble)
+        let words = durable_words(alloc, &self.state.words, self.state.geometry)?;
+        Ok(crash_image(words, self.state.geometry, scramble))
     }
 
     /// What loads see of a word of the image; 0 beyond.

@@ -26,7 +26,6 @@ mod usages;
 mod words;
 
 pub use core_model::{Event, Shift, StepAnswer};
-pub use crash::crash_image;
 pub use heap_core::Core;
 pub use laws::a_core_stands_for_a_sound_state;
 pub use owners::{BlockOwner, BlockPlace};

@@ -15,7 +15,7 @@ use std::test::Fail;
 use super_block::{Geometry, Ready};
 use tool_ports::{Chances, Gate, OpenGate, SeededChances};
 use trace_text::{Reply, Request, parse_trace};
-use worker_run::{Worker, closed_image, crash_image, longest_puts, make_rooms, work_off};
+use worker_run::{Worker, closed_image, left_by_crash, longest_puts, make_rooms, work_off};
 
 /// What a run of a trace gives.
 #[derive(Drop)]
@@ -42,7 +42,7 @@ fn image_left<C: Chances>(
 {
     let Closed { now, kept } = closed;
     if stopped {
-        crash_image(kept, geometry, chances)
+        left_by_crash(kept, geometry, chances)
     } else {
         closed_image(now)
     }

@@ -15,7 +15,7 @@ use region_header::{Bytes, words_to_bytes};
 use std::alloc::{AllocError, Global};
 use super_block::Ready;
 use tool_ports::Chances;
-use worker_run::crash_image;
+use worker_run::left_by_crash;
 
 // The words that are left, and whether recovery was stopped.
 #[derive(Drop)]
@@ -76,7 +76,7 @@ fn rebuild_words<C: Chances>(
             stopped: false,
         }),
         Err(_) => Ok(Rebuilt {
-            words: crash_image(kept, geometry, chances),
+            words: left_by_crash(kept, geometry, chances),
             stopped: true,
         }),
     }

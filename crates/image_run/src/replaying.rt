@@ -14,12 +14,12 @@ use crate::product::Product;
 use crate::reporting::heap_text;
 use core_model::StepAnswer;
 use crash_core::{Core, Owners};
-use line_memory::Chance;
 use region_header::Bytes;
 use std::alloc::{AllocError, Global};
 use super_block::{ROOTS, Ready};
 use tool_ports::Chances;
 use trace_text::{Schedule, answers_text, tickets_line};
+use worker_run::CrashWords;
 
 // What the seats come to: the answer to each event, and of a crash then the image that it leaves.
 #[derive(Drop)]
@@ -84,18 +84,6 @@ fn replay_lines<C: Chances>(
         tickets,
         left,
     })
-}
-
-// The words for what a crash leaves at random.
-#[derive(Drop)]
-struct CrashWords<'a, C: Chances> {
-    chances: &'a mut C,
-}
-
-impl<'a, C: Chances> Chance for CrashWords<'a, C> {
-    fn draw(&mut self) -> u64 {
-        self.chances.word()
-    }
 }
 
 // So many blocks, and all roots, are seat 0's.

@@ -35,7 +35,7 @@ use std::thread::Threads;
 use super_block::Geometry;
 use tool_ports::{Chances, Gate};
 use trace_text::{Reply, Request};
-use worker_run::{closed_image, crash_image, longest_puts};
+use worker_run::{closed_image, left_by_crash, longest_puts};
 
 /// What a run of a trace gives.
 #[derive(Drop)]
@@ -69,7 +69,7 @@ fn image_left<C: Chances>(
 {
     let Closed { now, kept } = closed;
     if stopped {
-        crash_image(kept, geometry, chances)
+        left_by_crash(kept, geometry, chances)
     } else {
         closed_image(now)
     }

@@ -1,5 +1,6 @@
 pub mod AgainLemmas
 pub mod AnsweringLemmas
+pub mod ChanceLemmas
 pub mod KeyLemmas
 pub mod LeftLemmas
 pub mod MineLemmas
@@ -8,7 +9,6 @@ pub mod ProgressLemmas
 pub mod RecoveredLemmas
 pub mod RoomLemmas
 pub mod SaidLemmas
-pub mod ScrambleLemmas
 pub mod SpendLemmas
 pub mod StandsLemmas
 pub mod TakenLemmas

@@ -14,7 +14,7 @@ pub use laws::{
     each_shard_of_a_seat_may_be_asked, what_a_run_leaves_can_be_run_again,
     what_a_run_leaves_is_a_dictionary, what_a_seat_kept_is_as_it_was,
 };
-pub use left::{closed_image, crash_image};
+pub use left::{CrashWords, closed_image, left_by_crash};
 pub use room::{longest_puts, make_rooms};
 pub use work::work_off;
 pub use worker::{Worker, worker_of};

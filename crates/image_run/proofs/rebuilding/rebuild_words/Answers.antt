@@ -16,16 +16,16 @@ returns-in-Ok-clause-ok g c =
     (sym c.finish.ensures.volatile ∙ sym (ap volatile_words c.now.view_is)) c.in-Ok.ensures.ok
     c.in-Ok.ensures.mixed
 
-pub crash_image-requires-clause-whole : goal.crash_image-requires-clause-whole
-crash_image-requires-clause-whole g c _ _ =
+pub left_by_crash-requires-clause-whole : goal.left_by_crash-requires-clause-whole
+left_by_crash-requires-clause-whole g c _ _ =
     let v = view_of c.rebuild-end.new.memory in
     subst AreWholeImage (sym c.finish.ensures.durable ∙ sym (ap durable_words c.now.view_is))
     (durable_whole c.args.words.now c.args.heap.now.words c.args.heap.now.held c.requires v
     (ap (λ (ws : List ℕ). length ws) (sym c.finish.ensures.durable ∙ sym (ap durable_words c.now.view_is)) ∙ c.now.invariant
     ∙ sym (ap (λ (ws : List ℕ). length ws) (sym c.finish.ensures.volatile ∙ sym (ap volatile_words c.now.view_is)))) c.in-Err.ensures.between)
 
-pub crash_image-requires-clause-layout : goal.crash_image-requires-clause-layout
-crash_image-requires-clause-layout g c _ _ =
+pub left_by_crash-requires-clause-layout : goal.left_by_crash-requires-clause-layout
+left_by_crash-requires-clause-layout g c _ _ =
     let v = view_of c.rebuild-end.new.memory in
     c.geometry-geometry.ensures ∙ capacity_new c.args.words.now c.args.heap.now.words c.args.heap.now.held c.requires
     ∙ sym (durable_capacity c.args.words.now c.args.heap.now.words c.args.heap.now.held c.requires v c.in-Err.ensures.between)
@@ -35,11 +35,11 @@ pub returns-in-Err-clause-ok : goal.returns-in-Err-clause-ok
 returns-in-Err-clause-ok g c =
     let v = view_of c.in_ok-memory.memory in
     let w = view_of c.rebuild-end.new.memory in
-    rebuilt_cut c.args.words.now c.args.heap.now.words c.args.heap.now.held c.requires c.args.budget c.in-Err.field-0.step c.now.inside.kept.items c.crash_image.result.items v w
+    rebuilt_cut c.args.words.now c.args.heap.now.words c.args.heap.now.held c.requires c.args.budget c.in-Err.field-0.step c.now.inside.kept.items c.left_by_crash.result.items v w
     (sym c.finish.ensures.durable ∙ sym (ap durable_words c.now.view_is)) c.in-Err.ensures.between (ap (λ (u : View). u.budget) c.in_ok-memory.ensures.ok)
     (ap (λ (u : View). u.drawn) c.in_ok-memory.ensures.ok) c.in-Err.ensures.stopped
     c.in-Err.ensures.crash
-    c.crash_image.ensures.image c.crash_image.ensures.long
+    c.left_by_crash.ensures.image c.left_by_crash.ensures.long
     (ap (λ (ws : List ℕ). length ws) (sym c.finish.ensures.durable ∙ sym (ap durable_words c.now.view_is)) ∙ c.now.invariant
     ∙ sym (ap (λ (ws : List ℕ). length ws) (sym c.finish.ensures.volatile ∙ sym (ap volatile_words c.now.view_is))))
 
@@ -53,4 +53,4 @@ pub returns-in-Ok-clause-chances : goal.returns-in-Ok-clause-chances
 returns-in-Ok-clause-chances g c = by_chance _ _ 0 _ unasked c.chance.ensures
 
 pub returns-in-Err-clause-chances : goal.returns-in-Err-clause-chances
-returns-in-Err-clause-chances g c = comes_then _ _ _ _ _ (by_chance _ _ 0 _ unasked c.chance.ensures) c.crash_image.ensures.chances
+returns-in-Err-clause-chances g c = comes_then _ _ _ _ _ (by_chance _ _ 0 _ unasked c.chance.ensures) c.left_by_crash.ensures.chances

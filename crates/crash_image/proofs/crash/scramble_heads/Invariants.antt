@@ -1,6 +1,6 @@
 use Rattle.std.proofs.Common.{ℕ, map, slice_index}
-use Rattle.crash_core.specs.Crash.{GivesAll, IsLeft, heads_below}
-use Rattle.crash_core.proofs.crash.scramble_heads.Given as goal
+use Rattle.crash_image.specs.Crash.{GivesAll, IsLeft, heads_below}
+use Rattle.crash_image.proofs.crash.scramble_heads.Given as goal
 
 abbrev pub invariant-loop-list : goal.invariant-loop-list
 invariant-loop-list g l = ((capacity : ℕ) → IsLeft capacity l.initial.image.items l.image.items)

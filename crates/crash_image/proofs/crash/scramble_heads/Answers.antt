@@ -1,7 +1,7 @@
 use Rattle.std.proofs.Common.{◌+◌, refl, arith}
 use Rattle.heap_model.specs.Durability.{is_head}
-use Rattle.crash_core.proofs.CrashLemmas.{head_drawn, left_set, left_same}
-use Rattle.crash_core.proofs.crash.scramble_heads.Goals as goal
+use Rattle.crash_image.proofs.CrashLemmas.{head_drawn, left_set, left_same}
+use Rattle.crash_image.proofs.crash.scramble_heads.Goals as goal
 
 pub loop-list-init : goal.loop-list-init
 loop-list-init g c = (λ capacity. left_same capacity c.args.image.now.items, refl)

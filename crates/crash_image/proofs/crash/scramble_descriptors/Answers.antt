@@ -1,8 +1,8 @@
 use Rattle.std.proofs.Common.{◌∙◌, ◌+◌, refl, arith}
 use Rattle.std.proofs.lemmas.List.{get_or-set_other}
 use Rattle.heap_model.specs.Durability.{is_anchor, is_link}
-use Rattle.crash_core.proofs.CrashLemmas.{descriptor_drawn, left_set, left_same}
-use Rattle.crash_core.proofs.crash.scramble_descriptors.Goals as goal
+use Rattle.crash_image.proofs.CrashLemmas.{descriptor_drawn, left_set, left_same}
+use Rattle.crash_image.proofs.crash.scramble_descriptors.Goals as goal
 
 pub loop-d-init : goal.loop-d-init
 loop-d-init g c = (left_same c.args.geometry.capacity c.args.image.now.items, λ word below. refl, refl)
