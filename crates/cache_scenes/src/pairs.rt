@@ -45,11 +45,13 @@ fn last_holder<'a>(
     ensures rest { All (IsFreshSeatOf shared.now) seats.new.items }
     ensures holds { IfSome result (λ h. Holds (heap_view h.seat).held h.given.items) }
 {
-    let seat = seats.pop()?;
-    Some(Holder {
-        seat: CacheSeat::new(shared, seat, Turn::new(None, true, drawn)),
-        given: Vec::new(alloc),
-    })
+    let Some(seat) = seats.pop() else {
+        return None;
+    };
+    let turn = Turn::new(None, true, drawn);
+    let given = Vec::new(alloc);
+    let seat = CacheSeat::new(shared, seat, turn);
+    Some(Holder { seat, given })
 }
 
 /// What a line tells: whether it is the first seat's, and the act.

@@ -55,18 +55,24 @@ fn work(job: Job, shared: &Shared, acts: &str, turn: Turn<'_>) -> Worked
     requires { IsJobOf shared.now job.roots.items job.seat }
     ensures { IsSeatOf shared.now result.seat }
 {
-    let mut given = Vec::new(job.alloc);
+    let Job {
+        seat,
+        alloc,
+        number,
+        roots,
+    } = job;
+    let mut given = Vec::new(alloc);
     let mut done = 0;
     let dealt = Dealt {
-        number: job.number,
-        roots: &job.roots,
+        number,
+        roots: &roots,
     };
-    let mut seat = CacheSeat::new(shared, job.seat, turn);
+    let mut seat = CacheSeat::new(shared, seat, turn);
     let told = follow(&mut seat, &mut given, dealt, acts, &mut done);
     Worked {
         seat: seat.into_seat(),
         given,
-        number: job.number,
+        number,
         done,
         told,
     }

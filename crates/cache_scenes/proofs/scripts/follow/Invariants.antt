@@ -4,7 +4,7 @@ use Rattle.cache_scenes.specs.Holding.{Holds}
 use Rattle.cache_scenes.proofs.scripts.follow.Given as goal
 
 abbrev pub invariant-loop-told : goal.invariant-loop-told
-invariant-loop-told g l = record {
+invariant-loop-told l = record {
   holds : Holds (heap_view l.seat).held l.given.items;
   kept : KeepsHeap l.fn.seat l.seat;
 }
