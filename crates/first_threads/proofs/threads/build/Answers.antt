@@ -4,7 +4,7 @@ use Rattle.first_threads.proofs.threads.build.Goals as goal
 
 pub returns-clause-held : goal.returns-clause-held
 returns-clause-held c = λ b there.
-    let pushed = c.in_ok.ensures.others b there in
+    let pushed = c.in_ok-chain.ensures.others b there in
     held_in (heap_view c.pop.new.seat) (heap_view c.quiet.new.self) b c.quiet.ensures.unchanged.held (c.pop.ensures.others b pushed.0 pushed.1)
 
 pub returns-clause-quiet : goal.returns-clause-quiet
