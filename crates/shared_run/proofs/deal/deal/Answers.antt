@@ -1,10 +1,11 @@
-use Rattle.std.proofs.Common.{◌≡◌, [], ◌∷◌, length, length-append, slice_index, refl, subst, sym, ap, ◌∙◌, arith}
+use Rattle.std.proofs.Common.{◌≡◌, ◌<◌, [], ◌∷◌, length, length-append, slice_index, refl, subst, sym, ap, ◌∙◌, arith}
 use Rattle.std.proofs.lemmas.List.Elements.{All-push, All-same}
 use Rattle.heap_table.specs.Rule.{setup_for}
 use Rattle.run_model.specs.Workers.{worker_requests}
 use Rattle.run_model.specs.Working.{HaveRoom}
 use Rattle.tool_ports.specs.Chances.{unasked, by_chance}
 use Rattle.worker_run.specs.Said.{requests_of}
+use Rattle.shared_run.specs.Dealing.{AreFresh}
 use Rattle.shared_run.specs.Jobs.{IsJobOf, IsOpenedFor}
 use Rattle.shared_run.proofs.DealLemmas.{fresh_last, fresh_rest, rooms_long, turn_push}
 use Rattle.shared_run.proofs.deal.deal.Goals as goal
@@ -48,3 +49,15 @@ loop-seat-preserved g c =
 
 pub returns-in_err-jobs-clause-chances : goal.returns-in_err-jobs-clause-chances
 returns-in_err-jobs-clause-chances g c = unasked
+
+pub loop-seat-init : goal.loop-seat-init
+loop-seat-init g c =
+    let none = ap length c.in_ok-jobs.ensures.items in let workers : c.len-workers.result ≡ length c.args.seats.items = omega arith in record {
+      fresh = subst (λ n. AreFresh c.args._shared.now n c.args.seats.items) (sym workers) c.requires.fresh;
+      jobs = λ k d less. absurd (let n = none in omega arith);
+      turns = record { each = λ i any less. absurd (let n = none in omega arith) };
+      count = (let n = none in let l = workers in omega arith);
+      workers = workers;
+      room = (let k = c.in_ok-jobs.ensures.exact in let l = c.in_ok-jobs.ensures.capacity in omega arith);
+      comes = unasked;
+    }
