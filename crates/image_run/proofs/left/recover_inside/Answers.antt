@@ -7,4 +7,4 @@ pub unreachable-requires : goal.unreachable-requires
 unreachable-requires c =
     let words = slice_index c.args.words.items in
     let why = subst (λ (f : ReplayFault). StopsReport words f) c.in-Err-Outside.field-0-is c.in-Err-Outside.ensures.err in
-    c.requires.inside c.in-Err-Outside.field-0-0 why.1
+    c.requires.inside c.in-Err-Outside.field-0-0 why.0
