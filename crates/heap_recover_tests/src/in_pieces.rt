@@ -1,6 +1,5 @@
 //! Images recovered in pieces by threads, beside the same in one thread: the same heap, or the same
-//! fault. An image that is cut into pieces has more than one superblock; a machine of one processor
-//! cuts none.
+//! fault. Threads are started where many blocks are expected, and not on a machine of one processor.
 
 use crate::asserts::must_hold;
 use crate::pairs::{Pairs, kinds};
@@ -108,21 +107,39 @@ fn threads_recover_what_one_thread_does(rt: HostRuntime) -> Result<(), Fail> {
     Ok(())
 }
 
-/// An image of 40 superblocks, in turn of each class, and of every third the first block is kept.
+/// An image of 320 superblocks: in turn of each class, then a large block of two, and then so many of
+/// the smallest class that threads are started. Of every third the first block is kept.
 #[tactic(auto, unfolding(heap_model::specs::Geometry::largest_capacity))]
 fn of_each_class(alloc: Global) -> Result<Vec<u64>, Fail> {
-    let mut image = image_of(alloc, 40, "used 40")?;
-    for d in 0..40u64 {
-        write(&mut image, &[(info_word(d) as usize, d % 20 + 1)]);
+    let mut image = image_of(alloc, 320, "used 320")?;
+    for d in 0..320u64 {
+        write(&mut image, &[(info_word(d) as usize, info_at(d))]);
         if d % 3 == 0 {
-            let pointer = 0x5250_0000_0000_0000 + 8 * (1_384 + 8_192 * d);
+            let pointer = 0x5250_0000_0000_0000 + 8 * (3_624 + 8_192 * d);
             write(&mut image, &[(48 + d as usize, pointer)]);
         }
     }
     Ok(image)
 }
 
+/// The info of superblock `d` there.
+fn info_at(d: u64) -> u64 {
+    match d {
+        0..=39 => d % 20 + 1,
+        42 => 767,
+        40..=43 => 0,
+        _ => 1,
+    }
+}
+
 #[test]
 fn threads_recover_a_heap_of_all_classes(rt: HostRuntime) -> Result<(), Fail> {
     must_agree(&rt, &of_each_class(rt.alloc())?, "all classes")
+}
+
+#[test]
+fn threads_tell_a_word_outside_as_one_thread_does(rt: HostRuntime) -> Result<(), Fail> {
+    let mut image = of_each_class(rt.alloc())?;
+    write(&mut image, &[(49, 7)]);
+    must_agree(&rt, &image, "a word outside")
 }

@@ -26,8 +26,9 @@ use std::alloc::Global;
 use std::cell::Cell;
 use std::thread::{Threads, join};
 
-/// Where fewer blocks than these are expected, one thread recovers the image.
-const FEW_BLOCKS: usize = 16_384;
+/// Where fewer blocks than these are expected, one thread recovers the image: threads would cost more
+/// than they bring.
+const FEW_BLOCKS: usize = 1_048_576;
 
 /// Recovers an image as `heap_recover::recover` does, with the same heap, the same answers and the
 /// same causes. The trace runs in one thread; then each processor looks through a piece of the
