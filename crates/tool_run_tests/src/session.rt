@@ -60,19 +60,24 @@ fn behind_line<'a>(printed: &'a str, line: &str) -> Option<&'a str> {
     }
 }
 
+/// What is printed behind what the turn tells, if it begins with that.
+fn behind_turn<'a>(printed: &'a str, turn: &str) -> Option<&'a str> {
+    let mut left = printed;
+    for line in turn.split('\n') {
+        left = behind_line(left, line)?;
+    }
+    Some(left)
+}
+
 /// Whether this is what the turn prints.
 fn prints(turn: &str, printed: &str) -> bool {
     if let Some(text) = first_behind(turn, ">*") {
         return printed.contains(text);
     }
-    let mut left = printed;
-    for line in turn.split('\n') {
-        match behind_line(left, line) {
-            Some(behind) => left = behind,
-            None => return false,
-        }
+    match behind_turn(printed, turn) {
+        Some(left) => left.is_empty(),
+        None => false,
     }
-    left.is_empty()
 }
 
 /// Whether a call ended as the turn tells.
