@@ -20,7 +20,7 @@ use crate::steps::step;
 use core_model::{Event, StepAnswer};
 use crash_image::crash_image;
 use line_memory::Chance;
-use seat_notes::Owners;
+use seat_notes::{Owners, ticket_place};
 use std::alloc::{AllocError, Global};
 use std::marker::Model;
 use super_block::Ready;
@@ -136,7 +136,7 @@ impl Core {
         ensures { (k : Setup) (s : TableState) → StandsFor self.now.state k s
             → result ≡ (memory_of k.capacity s.words).drawn }
     {
-        self.state.words[(2 * self.state.geometry.length()) as usize]
+        self.state.words[ticket_place(self.state.geometry) as usize]
     }
 
     /// How many seats there are.

@@ -12,7 +12,7 @@ use crate::spans::{hold_large, may_hold_large, may_split, split};
 use crate::state::CoreState;
 use crate::words::draw;
 use core_model::{Shift, StepAnswer};
-use seat_notes::SeatNotes;
+use seat_notes::{SeatNotes, ticket_place};
 
 /// Draws a ticket, and changes the seat's parts where there is something to change, and the
 /// ticket is below the budget.
@@ -37,7 +37,7 @@ fn draw_with(core: &mut CoreState, seat: usize, shift: Shift) -> StepAnswer
     if !may_shift(core, seat, shift) {
         return StepAnswer::NotNow;
     }
-    let at = (2 * core.geometry.length()) as usize;
+    let at = ticket_place(core.geometry) as usize;
     let ticket = core.words[at];
     if ticket >= core.budget {
         core.words[at] = ticket + 1;

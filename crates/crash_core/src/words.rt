@@ -7,7 +7,7 @@ ghost use Rattle.crash_core.specs.Standing.{IsCore, Takes};
 use crate::own_words::is_own;
 use crate::state::CoreState;
 use core_model::StepAnswer;
-use seat_notes::SeatNotes;
+use seat_notes::{SeatNotes, ticket_place};
 
 /// Loads a word of its own.
 pub(crate) fn load(core: &mut CoreState, seat: usize, word: u64) -> StepAnswer
@@ -50,7 +50,7 @@ pub(crate) fn draw(core: &mut CoreState, seat: usize) -> StepAnswer
     ensures { Takes core.old seat (Tick None) result core.new }
 {
     let notes = core.seats[seat];
-    let at = (2 * core.geometry.length()) as usize;
+    let at = ticket_place(core.geometry) as usize;
     let ticket = core.words[at];
     core.words[at] = ticket + 1;
     if ticket >= core.budget {

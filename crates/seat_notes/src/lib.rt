@@ -14,6 +14,6 @@ pub use anchors::{anchor_after_give, anchor_after_take_all, first_free};
 pub use heads::{head_after_pop, head_after_push, head_first};
 pub use notes::{BatchEnds, Cache, NEW_SEAT, NO_BATCH, SeatNotes, Seen};
 pub use opened_superblocks::{give_range, superblock_owners};
-pub use opening::{Owners, opened_table};
+pub use opening::{Owners, opened_table, ticket_place};
 pub use part::{Part, part_at};
 pub use superblocks::{SuperblockOwner, SuperblockUsage};

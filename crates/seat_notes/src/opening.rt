@@ -2,11 +2,12 @@
 
 ghost use Rattle.std.specs.Prelude.{◌≡◌, ◌++◌, ◌∷◌, [], ℕ, List, IfOk};
 ghost use Rattle.seat_notes.specs.OwnerLists.{OwnerLists};
+ghost use Rattle.core_model.specs.Memory.{table_index, tickets};
 ghost use Rattle.core_model.specs.Opening.{setup_of, opened_state};
 
 use std::alloc::{AllocError, Global};
 use std::marker::Model;
-use super_block::Ready;
+use super_block::{Geometry, Ready};
 
 /// A seat for each held block of a heap at rest, in the order of its `held()`, and for each root.
 #[derive(Drop)]
@@ -45,6 +46,14 @@ impl Owners {
     {
         &self.roots
     }
+}
+
+/// Where the shared table has the word that counts drawn tickets: behind the image's words as
+/// volatile words and as durable words.
+pub fn ticket_place(geometry: Geometry) -> u64
+    ensures { result ≡ table_index geometry.capacity tickets }
+{
+    2 * geometry.length()
 }
 
 /// The words of the shared table of a heap at rest: the words of its image as volatile words, the
