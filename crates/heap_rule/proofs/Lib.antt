@@ -6,6 +6,7 @@ pub mod GuardLemmas
 pub mod GuardShiftLemmas
 pub mod ShownLemmas
 pub mod SeatLemmas
+pub mod ForgottenLemmas
 pub mod FreshLemmas
 pub mod HeadLemmas
 pub mod StoredLemmas

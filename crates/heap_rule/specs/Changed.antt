@@ -1,9 +1,11 @@
 -- A change of what a seat keeps, which goes with a shift: to tell its own words, and in its notes.
-use Rattle.std.specs.Prelude.{◌≡◌, ℕ, ◌+◌, ◌-◌, ◌<◌, ◌≤◌, ⊤, true, cond, nat_eq, List, [], ◌∷◌, ◌++◌, get_or, set, length, Option}
+use Rattle.std.specs.Prelude.{◌≡◌, ℕ, ◌+◌, ◌-◌, ◌<◌, ◌≤◌, ⊤, true, cond, nat_eq, List, [], ◌∷◌, ◌++◌, get_or, set, length, Option, None}
 use Rattle.std.specs.Vec.{vec_capacity}
 use Rattle.heap_model.specs.Counting.{times}
 use Rattle.heap_model.specs.Geometry.{lists, start_word}
 use Rattle.heap_model.specs.Sizes.{blocks_of}
+use Rattle.core_model.specs.declared.event.Event.{Event}
+use Rattle.core_model.specs.declared.event.Event.TheVariants.{TakeFresh, Pop, Push, TakeAll, Give}
 use Rattle.core_model.specs.declared.event.Shift.{Shift}
 use Rattle.core_model.specs.Cells.{superblock_at}
 use Rattle.core_model.specs.Memory.{memory_of}
@@ -21,6 +23,15 @@ use Rattle.heap_rule.specs.Owned.{IsMarking, HaveOwnership, HasOwned, parts_of}
 use Rattle.heap_rule.specs.Seated.{IsKeptOf, FitsShift}
 use Rattle.heap_table.specs.Plays.{HasSoundState}
 use Rattle.heap_rule.specs.Stacks.{HasStack, IsRestacked}
+
+-- what a lost exchange leaves noted: nothing of the word that it was to change
+abbrev pub forgotten : Event → SeatNotes → SeatNotes
+forgotten Pop t = record t { seen_head = None }
+forgotten (Push d) t = record t { seen_head = None }
+forgotten (TakeAll d) t = record t { seen_anchor = None }
+forgotten (Give d) t = record t { seen_anchor = None }
+forgotten (TakeFresh n) t = record t { seen_used = None }
+forgotten event t = t
 
 -- a superblock of the image that may be cut for the class
 pub record CanCutIn (o : Owned) (capacity d class : ℕ) : Type 0 where

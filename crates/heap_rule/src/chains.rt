@@ -4,8 +4,7 @@
 //! seat's cache (take-all), or the batch is in front of the chain (give). The loads of first words
 //! after a take-all are of words that are the seat's own by then.
 //!
-//! A lost race changes nothing of the heap: the ticket and the look at the anchor are used up, the
-//! anchor that was found is told, and the caller draws and looks again.
+//! A lost race: as `exchange_seen` says.
 //!
 //! An anchor that came back may be taken for the old one: it names the first free block and how many
 //! there are, and the new anchor and the link of the batch depend on these alone. The chain behind
@@ -25,12 +24,13 @@ ghost use Rattle.heap_table.specs.AtTable.{IsAt};
 ghost use Rattle.heap_rule.specs.Seated.{KeepsStores, IsSeatOf, Tells};
 ghost use Rattle.heap_rule.specs.Shown.{Can};
 
+use crate::exchanges::exchange_seen;
 use crate::owned::{Ownership, mark_all};
 use crate::seat::Seat;
 use crate::stacks::Stack;
 use anchor_word::{anchor_count, unpack};
 use core_model::Event;
-use heap_table::{Shared, TableSeat, exchange, read};
+use heap_table::{Shared, TableSeat, read};
 use seat_notes::{
     BatchEnds, Cache, NO_BATCH, anchor_after_give, anchor_after_take_all, first_free,
 };
@@ -68,19 +68,14 @@ impl Seat {
         let place = self.geometry.anchor(d);
         let event = Event::TakeAll { d };
         let new = anchor_after_take_all();
-        let found = exchange(shared, &mut self.bare, place, anchor.word, new, event);
-        if found != anchor.word {
-            self.notes.ticket = None;
-            self.notes.seen_anchor = None;
-            return Err(found);
-        }
+        let (table_seat, notes) = (&mut self.table_seat, &mut self.notes);
+        exchange_seen(shared, table_seat, notes, place, anchor.word, new, event)?;
         let first = first_free(self.geometry, d, class, anchor.word);
         let count = anchor_count(anchor.word);
-        self.notes.ticket = None;
         self.notes.seen_anchor = None;
         self.notes.caches[class.number as usize] = Cache { first, count };
         let stack = &mut self.owned.stacks[class.number as usize];
-        load_cache(shared, &mut self.bare, stack, class, first, count);
+        load_cache(shared, &mut self.table_seat, stack, class, first, count);
         mark_all(&mut self.owned.blocks, stack.cached(), true);
         self.owned.classes[d as usize] = class.number as u64;
         self.owned.ownerships[d as usize] = Ownership::Nothing;
@@ -106,13 +101,8 @@ impl Seat {
         // A word with no room is stale: the exchange is lost, whatever it would leave.
         let given = anchor_with_batch(self.geometry, d, class, batch, anchor.word);
         let new = given.unwrap_or(anchor.word);
-        let found = exchange(shared, &mut self.bare, place, anchor.word, new, event);
-        if found != anchor.word {
-            self.notes.ticket = None;
-            self.notes.seen_anchor = None;
-            return Err(found);
-        }
-        self.notes.ticket = None;
+        let (table_seat, notes) = (&mut self.table_seat, &mut self.notes);
+        exchange_seen(shared, table_seat, notes, place, anchor.word, new, event)?;
         self.notes.seen_anchor = None;
         self.notes.batch = NO_BATCH;
         mark_all(&mut self.owned.blocks, &self.owned.batch, false);
@@ -128,23 +118,23 @@ impl Seat {
 /// Loads the blocks of a cache, along which their first words lead, into its stack.
 fn load_cache(
     shared: &Shared,
-    bare: &mut TableSeat,
+    table_seat: &mut TableSeat,
     stack: &mut Stack,
     class: SizeClass,
     first: u64,
     count: u64,
 )
-    requires at { IsAt shared.now bare.old.table_id bare.old.me (view_in bare.old.me.0) }
-    requires count { count ≡ length (of_class (view_in bare.old.me.0).caches class.number) }
+    requires at { IsAt shared.now table_seat.old.table_id table_seat.old.me (view_in table_seat.old.me.0) }
+    requires count { count ≡ length (of_class (view_in table_seat.old.me.0).caches class.number) }
     requires first { 1 ≤ count
-        → first ≡ first_of (of_class (view_in bare.old.me.0).caches class.number) }
+        → first ≡ first_of (of_class (view_in table_seat.old.me.0).caches class.number) }
     requires room { count ≤ length stack.old.blocks.items }
-    ensures same { bare.new.me ≡ bare.old.me }
-    ensures table { bare.new.table_id ≡ bare.old.table_id }
+    ensures same { table_seat.new.me ≡ table_seat.old.me }
+    ensures table { table_seat.new.table_id ≡ table_seat.old.table_id }
     ensures room { length stack.new.blocks.items ≡ length stack.old.blocks.items }
     ensures inside { stack.new.top ≤ length stack.new.blocks.items }
     ensures loaded { drop stack.new.top stack.new.blocks.items
-        ≡ of_class (view_in bare.old.me.0).caches class.number }
+        ≡ of_class (view_in table_seat.old.me.0).caches class.number }
 {
     let _class = class;
     let count = count as usize;
@@ -152,7 +142,7 @@ fn load_cache(
     let mut block = first;
     for step in 0..count {
         stack.blocks[top + step] = block as u32;
-        block = read(shared, bare, block);
+        block = read(shared, table_seat, block);
     }
     stack.top = top;
 }

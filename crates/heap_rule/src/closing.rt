@@ -32,7 +32,7 @@ fn gather(shared: &Shared, mut seats: Vec<Seat>) -> TableSeat
     let mut last = fresh_seat(shared);
     while let Some(seat) = seats.pop() {
         let Seat {
-            bare,
+            table_seat,
             notes: _,
             geometry: _,
             budget: _,
@@ -40,7 +40,7 @@ fn gather(shared: &Shared, mut seats: Vec<Seat>) -> TableSeat
             recent: _recent,
             pending: _pending,
         } = seat;
-        join(shared, &mut last, bare);
+        join(shared, &mut last, table_seat);
     }
     seats.destroy_empty();
     last

@@ -3,8 +3,7 @@
 //! Linearization point: the one exchange of the mark, from which on the superblocks are the seat's;
 //! for the durable mark its raise, which is never lost.
 //!
-//! A lost race changes nothing of the heap: the ticket and the mark that was read are used up, the
-//! mark that was found is told, and the caller draws and looks again.
+//! A lost race: as `exchange_seen` says.
 //!
 //! The mark only rises, so it never comes back: where it is as it was read, nothing was taken since.
 
@@ -15,10 +14,11 @@ ghost use Rattle.heap_table.specs.Plays.{IsEvent};
 ghost use Rattle.heap_rule.specs.Seated.{KeepsStores, IsSeatOf, Tells};
 ghost use Rattle.heap_rule.specs.Shown.{Can};
 
+use crate::exchanges::exchange_seen;
 use crate::owned::{Ownership, own_range};
 use crate::seat::Seat;
 use core_model::Event;
-use heap_table::{Shared, exchange, raise};
+use heap_table::{Shared, raise};
 use seat_notes::Seen;
 use super_block::USED_WORD;
 
@@ -36,14 +36,17 @@ impl Seat {
             unreachable!();
         };
         let event = Event::TakeFresh { n };
-        let found = exchange(shared, &mut self.bare, USED_WORD, used, used + n, event);
-        if found != used {
-            self.notes.ticket = None;
-            self.notes.seen_used = None;
-            return Err(found);
-        }
-        self.notes.ticket = None;
-        self.notes.seen_used = Some(used + n);
+        let new = used + n;
+        exchange_seen(
+            shared,
+            &mut self.table_seat,
+            &mut self.notes,
+            USED_WORD,
+            used,
+            new,
+            event,
+        )?;
+        self.notes.seen_used = Some(new);
         self.notes.seen_anchor = Seen::cleared(self.notes.seen_anchor, used, n);
         own_range(&mut self.owned.ownerships, used, n, Ownership::Unclassed);
         Ok(())
@@ -61,7 +64,7 @@ impl Seat {
             unreachable!();
         };
         let place = self.geometry.length() + USED_WORD;
-        raise(shared, &mut self.bare, place, used, Event::KeepUsed);
+        raise(shared, &mut self.table_seat, place, used, Event::KeepUsed);
         self.notes.ticket = None;
     }
 }

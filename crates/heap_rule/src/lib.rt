@@ -6,6 +6,7 @@ mod chains;
 mod closed_laws;
 mod closing;
 mod draws;
+mod exchanges;
 mod fences;
 mod fresh;
 mod image_laws;

@@ -3,8 +3,7 @@
 //! Linearization point: the one exchange of the head. From there on the descriptor is the seat's
 //! (pop), or in front of the list for all seats (push).
 //!
-//! A lost race changes nothing of the heap: the ticket and the look at the head are used up, the
-//! head that was found is told, and the caller draws and looks again.
+//! A lost race: as `exchange_seen` says.
 //!
 //! A head that came back: it counts its pops. With as many as were seen, no descriptor has left the
 //! list, so the first one is still in it and its link is as it was read. A push may take a head that
@@ -17,10 +16,11 @@ ghost use Rattle.heap_table.specs.Plays.{IsEvent};
 ghost use Rattle.heap_rule.specs.Seated.{KeepsStores, IsSeatOf, Tells};
 ghost use Rattle.heap_rule.specs.Shown.{Can};
 
+use crate::exchanges::exchange_seen;
 use crate::owned::Ownership;
 use crate::seat::Seat;
 use core_model::Event;
-use heap_table::{Shared, exchange};
+use heap_table::Shared;
 use seat_notes::{Seen, head_after_pop, head_after_push, head_first};
 use super_block::HEAD_WORD;
 
@@ -43,14 +43,17 @@ impl Seat {
         };
         let place = HEAD_WORD + head.of;
         let new = head_after_pop(head.word, link);
-        let found = exchange(shared, &mut self.bare, place, head.word, new, Event::Pop);
-        if found != head.word {
-            self.notes.ticket = None;
-            self.notes.seen_head = None;
-            return Err(found);
-        }
+        let event = Event::Pop;
+        exchange_seen(
+            shared,
+            &mut self.table_seat,
+            &mut self.notes,
+            place,
+            head.word,
+            new,
+            event,
+        )?;
         let d = head_first(head.word).saturating_sub(1);
-        self.notes.ticket = None;
         self.notes.seen_head = None;
         self.notes.seen_link = None;
         self.notes.seen_anchor = Seen::cleared(self.notes.seen_anchor, d, 1);
@@ -74,13 +77,15 @@ impl Seat {
         let place = HEAD_WORD + head.of;
         let new = head_after_push(head.word, d);
         let event = Event::Push { d };
-        let found = exchange(shared, &mut self.bare, place, head.word, new, event);
-        if found != head.word {
-            self.notes.ticket = None;
-            self.notes.seen_head = None;
-            return Err(found);
-        }
-        self.notes.ticket = None;
+        exchange_seen(
+            shared,
+            &mut self.table_seat,
+            &mut self.notes,
+            place,
+            head.word,
+            new,
+            event,
+        )?;
         self.notes.seen_head = None;
         self.notes.seen_anchor = Seen::cleared(self.notes.seen_anchor, d, 1);
         self.owned.ownerships[d as usize] = Ownership::Nothing;

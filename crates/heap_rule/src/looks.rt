@@ -20,7 +20,7 @@ impl Seat {
         ensures seat { IsSeatOf shared.now self.new }
         ensures stores { KeepsStores self.old self.new }
     {
-        let found = look(shared, &mut self.bare, USED_WORD, Event::LookUsed);
+        let found = look(shared, &mut self.table_seat, USED_WORD, Event::LookUsed);
         self.notes.ticket = None;
         self.notes.seen_used = Some(found);
         found
@@ -35,7 +35,7 @@ impl Seat {
         ensures stores { KeepsStores self.old self.new }
     {
         let event = Event::LookHead { list };
-        let found = look(shared, &mut self.bare, HEAD_WORD + list, event);
+        let found = look(shared, &mut self.table_seat, HEAD_WORD + list, event);
         self.notes.ticket = None;
         self.notes.seen_head = Some(Seen {
             of: list,
@@ -53,7 +53,7 @@ impl Seat {
         ensures seat { IsSeatOf shared.now self.new }
         ensures stores { KeepsStores self.old self.new }
     {
-        let found = look(shared, &mut self.bare, word, Event::Load { word });
+        let found = look(shared, &mut self.table_seat, word, Event::Load { word });
         self.notes.ticket = None;
         found
     }
@@ -70,7 +70,7 @@ impl Seat {
             unreachable!();
         };
         let place = self.geometry.link(head_first(head.word) - 1);
-        let found = look(shared, &mut self.bare, place, Event::LookLink);
+        let found = look(shared, &mut self.table_seat, place, Event::LookLink);
         self.notes.ticket = None;
         self.notes.seen_link = Some(found);
         found
@@ -85,7 +85,7 @@ impl Seat {
         ensures stores { KeepsStores self.old self.new }
     {
         let event = Event::LookAnchor { d };
-        let found = look(shared, &mut self.bare, self.geometry.anchor(d), event);
+        let found = look(shared, &mut self.table_seat, self.geometry.anchor(d), event);
         self.notes.ticket = None;
         self.notes.seen_anchor = Some(Seen { of: d, word: found });
         found

@@ -70,9 +70,9 @@ fn deal(
         let Some(room) = rooms.pop_front() else {
             unreachable!();
         };
-        let bare = split_first(shared, &mut dealer);
+        let table_seat = split_first(shared, &mut dealer);
         list.push_reserved(Seat {
-            bare,
+            table_seat,
             notes: NEW_SEAT,
             geometry,
             budget,

@@ -38,7 +38,7 @@ impl Seat {
         if let Some(second) = self.owned.stacks[class as usize].second() {
             return second;
         }
-        read(shared, &mut self.bare, cache.first)
+        read(shared, &mut self.table_seat, cache.first)
     }
 
     /// The class of a held block that may be freed.
@@ -66,7 +66,7 @@ impl Seat {
         ensures same { self.new ≡ self.old }
         ensures class { (can : CanCut self.old.view d) → result.number ≡ can.class }
     {
-        let class = read(shared, &mut self.bare, self.geometry.info(d));
+        let class = read(shared, &mut self.table_seat, self.geometry.info(d));
         SizeClass::new(class as u8)
     }
 }

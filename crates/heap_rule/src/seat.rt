@@ -10,7 +10,7 @@ use super_block::Geometry;
 /// A seat of a shared heap.
 #[derive(Drop)]
 pub struct Seat {
-    pub(crate) bare: TableSeat,
+    pub(crate) table_seat: TableSeat,
     pub(crate) notes: SeatNotes,
     pub(crate) geometry: Geometry,
     pub(crate) budget: u64,
@@ -26,12 +26,12 @@ impl Model for Seat {
     ghost Value = { SeatView };
 
     ghost view = { λ a. record {
-      table = a.bare.table_id;
-      view = view_in a.bare.me.0;
+      table = a.table_seat.table_id;
+      view = view_in a.table_seat.me.0;
       stores = a.recent;
       marks = a.pending;
     } };
 
     ghost invariant = { λ a.
-        IsWholeSeat a.bare.me a.notes a.owned a.pending a.geometry.capacity a.budget };
+        IsWholeSeat a.table_seat.me a.notes a.owned a.pending a.geometry.capacity a.budget };
 }

@@ -13,6 +13,7 @@ use crate::seat::Seat;
 use core_model::{Event, Shift};
 use heap_table::{Shared, draw};
 use line_memory::Stopped;
+use seat_notes::ticket_place;
 
 impl Seat {
     /// Draws a ticket, with a change of the seat's parts where there is one; a seat that has
@@ -46,8 +47,13 @@ impl Seat {
         ensures seat { IsSeatOf shared.now self.new }
         ensures stores { KeepsStores self.old self.new }
     {
-        let place = 2 * self.geometry.length();
-        let ticket = draw(shared, &mut self.bare, place, Event::Tick { shift: None });
+        let place = ticket_place(self.geometry);
+        let ticket = draw(
+            shared,
+            &mut self.table_seat,
+            place,
+            Event::Tick { shift: None },
+        );
         if ticket >= self.budget {
             self.notes.ticket = None;
             self.notes.stopped = Some(ticket);
@@ -88,9 +94,9 @@ impl Seat {
         ensures seat { IsSeatOf shared.now self.new }
         ensures stores { KeepsStores self.old self.new }
     {
-        let place = 2 * self.geometry.length();
+        let place = ticket_place(self.geometry);
         let event = Event::Tick { shift: Some(shift) };
-        let ticket = draw(shared, &mut self.bare, place, event);
+        let ticket = draw(shared, &mut self.table_seat, place, event);
         if ticket >= self.budget {
             self.notes.ticket = None;
             self.notes.stopped = Some(ticket);

@@ -20,7 +20,7 @@ impl Seat {
         ensures stores { HasNewStore word self.old self.new }
     {
         let event = Event::Store { word, value };
-        store(shared, &mut self.bare, word, value, event);
+        store(shared, &mut self.table_seat, word, value, event);
         self.notes.ticket = None;
         self.notes.batch = self.notes.batch.stored(word);
         self.recent.push(word);
@@ -35,9 +35,9 @@ impl Seat {
         ensures seat { IsSeatOf shared.now self.new }
         ensures stores { KeepsStores self.old self.new }
     {
-        let value = learn(shared, &mut self.bare, word);
+        let value = learn(shared, &mut self.table_seat, word);
         let place = self.geometry.length() + word;
         let event = Event::Settle { word };
-        store(shared, &mut self.bare, place, value, event);
+        store(shared, &mut self.table_seat, place, value, event);
     }
 }

@@ -18,6 +18,6 @@ pub loop-seat-preserved : goal.loop-seat-preserved
 loop-seat-preserved c = let seat = c.in-Some.seat in record {
   table = c.join.ensures.table ∙ c.loop-seat.invariant.table;
   seats = record { each = λ s p. c.loop-seat.invariant.seats.each s (subst (λ l. Contains l s) (sym c.in-Some.ensures.items) (Contains-append_left c.pop.new.self.items (seat ∷ []) s p)) };
-  views = one_joined c.loop-seat.seats.items c.pop.new.self.items seat c.seat.inside.bare.me.0 c.loop-seat.last.me.0 c.join.new.seat.me.0 _ c.in-Some.ensures.items
+  views = one_joined c.loop-seat.seats.items c.pop.new.self.items seat c.seat.inside.table_seat.me.0 c.loop-seat.last.me.0 c.join.new.seat.me.0 _ c.in-Some.ensures.items
       (c.seat.invariant.seat.single ∙ ap (λ (s : SeatView). s.view ∷ []) c.seat.view_is) (ap (λ (m : Me ℕ SeatViews). m.0) c.join.ensures.views) c.loop-seat.invariant.views;
 }
