@@ -12,6 +12,6 @@ pub mod KeptLemmas
 pub mod UnchangedLemmas
 pub mod LeavesLemmas
 pub mod OutcomeLemmas
-mod CurrentLemmas
+pub mod CurrentLemmas
 mod InPlaceLemmas
 pub mod AlikeLemmas

@@ -1,2 +1,1 @@
 pub mod MarkedLemmas
-pub mod StoredLemmas

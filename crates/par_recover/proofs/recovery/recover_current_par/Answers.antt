@@ -3,7 +3,7 @@ use Rattle.heap_model.specs.Header.{kinds_of}
 use Rattle.heap_model.specs.Reach.{IsReachedIn}
 use Rattle.filter_trace.specs.Reached.{AreReached}
 use Rattle.heap_recover.proofs.KeptLemmas.{made_of_reached, marked_blocks}
-use Rattle.par_recover.proofs.StoredLemmas.{kinds_left}
+use Rattle.heap_recover.proofs.CurrentLemmas.{kinds_left}
 use Rattle.par_recover.proofs.recovery.recover_current_par.Goals as goal
 
 pub keep_marked-requires-clause-keeps : goal.keep_marked-requires-clause-keeps

@@ -1,7 +1,7 @@
 use Rattle.std.proofs.Common.{Some, slice_index, arith}
 use Rattle.std.proofs.lemmas.Result.{err_from_is_err_and}
 use Rattle.region_header.proofs.KindLemmas.{below_stored}
-use Rattle.par_recover.proofs.StoredLemmas.{reached_stored, outside_traced, tells_stored}
+use Rattle.heap_recover.proofs.CurrentLemmas.{reached_stored, outside_traced, tells_stored}
 use Rattle.par_recover.proofs.recovery.trace_stored.Goals as goal
 
 pub kinds-stored-requires-clause-fit : goal.kinds-stored-requires-clause-fit
