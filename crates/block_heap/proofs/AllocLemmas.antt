@@ -1,9 +1,9 @@
 -- Which requests a class serves, what the answer to a request is, and which free a held block gets.
-use Rattle.std.proofs.Common.{◌≡◌, ◌≢◌, ℕ, ◌+◌, ◌*◌, ◌<◌, ◌≤◌, inl, inr, true, cond, nat_le, Option, None, Some, Result, Ok, Err, IfOk, OnOk, List, [], ◌∷◌, get_or, Contains, refl, ap, sym, subst, ◌∙◌, arith}
-use Rattle.std.proofs.lemmas.Bool.{agree_below, cases_eq, cond-true, le-leb, leb-true}
+use Rattle.std.proofs.Common.{◌≡◌, ◌≢◌, ℕ, ◌+◌, ◌*◌, ◌<◌, ◌≤◌, inl, inr, Option, None, Some, Result, Ok, Err, IfOk, OnOk, List, [], ◌∷◌, get_or, Contains, refl, ap, sym, subst, ◌∙◌, arith}
+use Rattle.std.proofs.lemmas.Bool.{cases_eq}
 use Rattle.heap_model.specs.declared.block.Block.{Block}
 use Rattle.heap_model.specs.Geometry.{link_word, superblock_words, largest_capacity}
-use Rattle.heap_model.specs.Sizes.{IsClass, IsLeastClassFor, class_sizes, size_of, words_of_class, blocks_of, largest_small, span_of, last_class}
+use Rattle.heap_model.specs.Sizes.{IsClass, IsLeastClassFor, size_of, words_of_class, blocks_of, largest_small, span_of}
 use Rattle.heap_model.specs.Words.{head_first}
 use Rattle.heap_model.specs.Blocks.{Begins, of_class, as_large}
 use Rattle.heap_model.specs.Chains.{Follows}

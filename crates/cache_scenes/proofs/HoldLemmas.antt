@@ -1,5 +1,5 @@
 -- What the seats of the tests are at first, and what each call leaves of what they hold.
-use Rattle.std.proofs.Common.{◌⊎◌, inl, inr, ◌≡◌, ◌<◌, ◌%◌, ◌+◌, ℕ, zero, suc, List, [], ◌∷◌, ◌++◌, Contains, length, get_or, ap, sym, subst, ◌∙◌, arith}
+use Rattle.std.proofs.Common.{inl, inr, ◌≡◌, ◌<◌, ◌%◌, ◌+◌, ℕ, List, [], ◌∷◌, ◌++◌, Contains, length, get_or, ap, sym, subst, ◌∙◌, arith}
 use Rattle.std.specs.List.{swap_remove}
 use Rattle.std.specs.List.Sorted.{IsPermutation}
 use Rattle.std.proofs.lemmas.List.Elements.{All-contains, Contains-append_cases}
@@ -9,9 +9,7 @@ use Rattle.heap_model.proofs.MemberLemmas.{head_or_rest, in_none, in_rest}
 use Rattle.heap_seat.specs.View.{View}
 use Rattle.heap_seat.specs.Alloc.{Adds}
 use Rattle.heap_seat.specs.Free.{MayHaveFreed}
-use Rattle.heap_rule.specs.Seated.{IsSeatOf, SeatView}
-use Rattle.heap_rule.specs.Seats.{AreSeatsOf}
-use Rattle.heap_table.specs.AtTable.{SharedView}
+use Rattle.heap_rule.specs.Seated.{SeatView}
 use Rattle.seat_view.specs.CacheState.{CacheState}
 use Rattle.thread_cache.specs.Keeps.{KeepsHeap}
 use Rattle.cache_scenes.specs.Holding.{AreRootsOf, HasRootsOf, HaveRoots, Holds, IsNoneOf, OwnsRoots}

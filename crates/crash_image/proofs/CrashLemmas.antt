@@ -1,5 +1,5 @@
 -- Heads, anchors and links change nothing else of an image.
-use Rattle.std.proofs.Common.{◌≡◌, ℕ, zero, suc, map, ap₂, ◌∷◌, ◌+◌, ◌*◌, ◌<◌, ◌≤◌, List, [], ◌++◌, length, slice_index, set, refl, ap, sym, subst, ◌∙◌, length-set, arith}
+use Rattle.std.proofs.Common.{◌≡◌, ℕ, zero, suc, map, ap₂, ◌∷◌, ◌+◌, ◌<◌, List, [], ◌++◌, length, slice_index, set, refl, ap, sym, subst, ◌∙◌, length-set, arith}
 use Rattle.std.proofs.lemmas.List.{map-append, get_or-set_same, get_or-set_other}
 use Rattle.heap_model.specs.Geometry.{image_words, fixed_words, lists, head_word, info_word, anchor_word, link_word}
 use Rattle.heap_model.specs.Header.{capacity_of}

@@ -1,5 +1,5 @@
 -- What is reached with no filter at all.
-use Rattle.std.specs.Prelude.{◌≡◌, ℕ, ◌*◌, ◌<◌, ◌^◌, List, [], length, replicate, slice_index, Some, None, Contains}
+use Rattle.std.specs.Prelude.{◌≡◌, ℕ, ◌*◌, ◌<◌, ◌^◌, List, [], length, replicate, slice_index, Some, None}
 use Rattle.std.proofs.Common.{arith}
 use Rattle.heap_model.specs.declared.block.Block.{Block}
 use Rattle.heap_model.specs.Geometry.{roots}
@@ -8,7 +8,6 @@ use Rattle.heap_model.specs.Header.{header_fault}
 use Rattle.heap_model.specs.Reach.{Links, AreInside}
 use Rattle.heap_recover.specs.declared.fault.RecoverFault.{RecoverFault}
 use Rattle.heap_recover.specs.declared.fault.RecoverFault.TheVariants.{Header, Outside, Memory}
-use Rattle.mixed_trace.specs.declared.mode.Mode.{Mode}
 use Rattle.mixed_trace.specs.declared.mode.Mode.TheVariants.{All}
 use Rattle.mixed_trace.specs.Reach.{IsReachedMixed}
 use Rattle.mixed_trace.specs.Recovery.{words_by_modes}

@@ -1,13 +1,13 @@
 -- What a request of any size, and the freeing of any block, leave.
-use Rattle.std.proofs.Common.{◌≡◌, ◌<◌, ◌≤◌, ℕ, ◌+◌, ◌-◌, ◌*◌, ◌⊎◌, inl, inr, true, false, Bool, nat_le, nat_lt, ◌&&◌, length, None, Result, Ok, Err, IfOk, OnOk, IfErr, OnErr, refl, ap, sym, subst, ◌∙◌, le-leb, lt-ltb, arith}
+use Rattle.std.proofs.Common.{◌≡◌, ◌<◌, ◌≤◌, ℕ, ◌+◌, ◌-◌, ◌*◌, inl, inr, true, nat_le, nat_lt, length, Result, Ok, Err, IfOk, OnOk, IfErr, OnErr, refl, ap, sym, subst, arith}
 use Rattle.std.specs.Bool.{⊤}
 use Rattle.std.proofs.lemmas.Bool.{cases_lt, leb-true}
 use Rattle.heap_model.specs.declared.block.Block.{Block}
 use Rattle.heap_model.specs.Blocks.{IsIn}
-use Rattle.heap_model.specs.Counting.{times, one_if}
+use Rattle.heap_model.specs.Counting.{times}
 use Rattle.heap_model.specs.Geometry.{largest_capacity, start_word, superblock_words, superblocks_end}
 use Rattle.heap_model.specs.Sizes.{IsClass, IsLeastClassFor, blocks_of, largest_small, span_of, words_of_class}
-use Rattle.heap_model.proofs.SizeLemmas.{few_blocks, few_words, four_blocks, size_of-words}
+use Rattle.heap_model.proofs.SizeLemmas.{few_blocks, few_words, size_of-words}
 use Rattle.size_table.proofs.ClassLemmas.{least_of_size, least_small, one_least}
 use Rattle.line_memory.specs.declared.memory.Stopped.{Stopped}
 use Rattle.heap_seat.specs.declared.fault.AllocFault.{AllocFault}
@@ -16,7 +16,7 @@ use Rattle.core_model.specs.Cells.{Cell, used_cell, head_cell, info_cell, anchor
 use Rattle.core_model.specs.Effects.{span_count, without_span}
 use Rattle.core_model.specs.Guards.{MaySplit}
 use Rattle.core_model.specs.Held.{IsHeld, a_small, a_large}
-use Rattle.core_model.specs.View.{Setup, View, of_class, times_block, times_large}
+use Rattle.core_model.specs.View.{View, of_class, times_large}
 use Rattle.core_model.proofs.OwnerLemmas.{in_lists_total}
 use Rattle.heap_model.proofs.PartLemmas.{same_fields}
 use Rattle.core_model.proofs.PlaceLemmas.{and_both}
@@ -27,15 +27,15 @@ use Rattle.heap_rule.proofs.HeldLemmas.{held_placed}
 use Rattle.heap_rule.proofs.SettleLemmas.{own_index, own_there}
 use Rattle.heap_rule.proofs.ViewLemmas.{block_class}
 use Rattle.large_block.specs.Splits.{MayHaveSplit}
-use Rattle.seat_rows.specs.Costs.{Costs, IsWithin, no_costs}
+use Rattle.seat_rows.specs.Costs.{IsWithin, no_costs}
 use Rattle.seat_rows.specs.Rows.{HoldingRow, IsHeldBoth, Parts, Row, RowBut}
 use Rattle.seat_rows.specs.Words.{IsHeldWord, times_held}
 use Rattle.seat_rows.proofs.RowLemmas.{but_fewer, holding_within, row_within}
 use Rattle.seat_rows.proofs.WordLemmas.{owns_held, still_held}
 use Rattle.seat_fill.specs.Refills.{IsFilledInOrder}
 use Rattle.seat_calls.specs.Large.{AllocatesNoLarge, HasAllocatedLarge, HasFreedLarge, large_costs, large_free_costs}
-use Rattle.seat_calls.specs.Requests.{Answers, IsGivenBack, IsGranted, IsRefused, IsSmallBlock, IsSpan, MayBeGivenBack, by_class, by_span, light_free_costs, light_request, most_free_costs, of_a_class, of_a_span, request_costs}
-use Rattle.seat_calls.specs.Small.{AllocatesNone, HasAllocated, HasFreed, IfGoing, IsHeldOutside, MayHoldLess, alloc_costs, block_of, free_costs, light_alloc}
+use Rattle.seat_calls.specs.Requests.{Answers, IsGivenBack, IsSmallBlock, IsSpan, by_class, by_span, light_free_costs, light_request, most_free_costs, of_a_class, of_a_span, request_costs}
+use Rattle.seat_calls.specs.Small.{AllocatesNone, HasAllocated, HasFreed, IfGoing, IsHeldOutside, alloc_costs, block_of, free_costs, light_alloc}
 
 -- a span has a superblock at least
 some_span : (bytes : ℕ) → 1 ≤ span_of bytes

@@ -3,7 +3,6 @@ use Rattle.std.proofs.Common.{◌≡◌, ◌<◌, ◌≤◌, ℕ, suc, ◌+◌, 
 use Rattle.std.proofs.lemmas.Bool.{cases_eq, cases_lt}
 use Rattle.std.proofs.lemmas.List.{get_or_default, get_or-set_other}
 use Rattle.heap_model.specs.Counting.{times, total}
-use Rattle.heap_model.specs.Geometry.{lists}
 use Rattle.heap_model.specs.Sizes.{IsClass, last_class}
 use Rattle.core_model.specs.View.{View, of_class}
 use Rattle.core_model.proofs.OwnerLemmas.{in_lists_total}

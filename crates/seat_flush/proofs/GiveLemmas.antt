@@ -6,14 +6,14 @@ use Rattle.std.specs.Result.{is_ok}
 use Rattle.heap_model.specs.Counting.{times}
 use Rattle.heap_model.specs.Geometry.{start_word, superblocks_end}
 use Rattle.heap_model.specs.Sizes.{IsClass, words_of_class}
-use Rattle.heap_model.specs.Words.{anchor_count, anchor_first, anchor_state, full_anchor}
+use Rattle.heap_model.specs.Words.{anchor_count, anchor_first, full_anchor}
 use Rattle.heap_model.proofs.SizeLemmas.{two_words}
-use Rattle.core_model.specs.declared.event.Event.TheVariants.{Give, LookAnchor, Store}
+use Rattle.core_model.specs.declared.event.Event.TheVariants.{Give, Store}
 use Rattle.core_model.specs.Cells.{Cell, data_cell, cell_at}
 use Rattle.core_model.specs.Effects.{claimed, given, last_of, learn, lost, seen_of, seen_word, stored, trimmed, used_up, won}
 use Rattle.core_model.specs.Guards.{IsOwn}
 use Rattle.core_model.specs.Memory.{memory_of, info, anchor}
-use Rattle.core_model.specs.View.{Setup, Snapshot, View, no_batch, one_if_some, times_block, times_classed}
+use Rattle.core_model.specs.View.{Setup, Snapshot, View, no_batch, one_if_some, times_block}
 use Rattle.core_model.proofs.PlaceLemmas.{and_is, cell_at_index, pick}
 use Rattle.seat_notes.proofs.EndLemmas.{last_there}
 use Rattle.seat_notes.proofs.BlockRanges.{within_word}
@@ -25,7 +25,7 @@ use Rattle.heap_rule.proofs.LeftLemmas.{give_lost, give_won}
 use Rattle.heap_rule.proofs.RawLemmas.{store_shown}
 use Rattle.heap_rule.proofs.ViewLemmas.{block_below, block_class, block_once, block_range}
 use Rattle.seat_lists.proofs.PopLemmas.{drawn_as}
-use Rattle.seat_lists.specs.Anchors.{HasSeenAnchor, anchor_seen}
+use Rattle.seat_lists.specs.Anchors.{anchor_seen}
 use Rattle.seat_flush.specs.Gives.{Gives, GivesSeen, HasGiven, HasLinkedLast, HasNotGiven, IsBatchOf, given_parts, with_linked}
 use Rattle.seat_rows.specs.Costs.{no_costs, one_draw, one_give}
 use Rattle.seat_rows.specs.Rows.{HasDrawn, Parts, Stops, ViewRow, parts}

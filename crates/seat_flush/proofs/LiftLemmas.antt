@@ -1,11 +1,9 @@
 -- A block that goes from a cache into the batch.
-use Rattle.std.proofs.Common.{◌≡◌, ◌≢◌, ◌<◌, ◌≤◌, ℕ, ◌+◌, ◌-◌, ◌/◌, true, set, length, List, [], ◌∷◌, ◌++◌, All, None, Some, refl, ap, sym, subst, ◌∙◌, length-append, arith}
+use Rattle.std.proofs.Common.{◌≡◌, ◌≢◌, ◌<◌, ◌≤◌, ℕ, ◌+◌, ◌-◌, ◌/◌, true, set, length, List, [], ◌∷◌, ◌++◌, None, Some, refl, ap, sym, subst, ◌∙◌, length-append, arith}
 use Rattle.std.specs.Bool.{⊤}
 use Rattle.std.specs.Prelude.{Result, Ok, Err, OnOk, IfErr}
 use Rattle.std.proofs.lemmas.List.{get_or-set_same, set-set}
 use Rattle.std.proofs.lemmas.List.Elements.{All-cons, All-nil, All-push}
-use Rattle.heap_model.specs.Counting.{times}
-use Rattle.heap_model.specs.Chains.{Walks}
 use Rattle.heap_model.specs.Geometry.{start_word}
 use Rattle.heap_model.specs.Sizes.{IsClass}
 use Rattle.heap_model.proofs.SizeLemmas.{two_words}
@@ -19,7 +17,6 @@ use Rattle.core_model.specs.Memory.{memory_of, next}
 use Rattle.core_model.specs.View.{Batch, View, Setup, no_batch, of_class, times_block}
 use Rattle.core_model.proofs.OwnerLemmas.{in_lists_total}
 use Rattle.core_model.proofs.PlaceLemmas.{cell_at_index}
-use Rattle.core_model.proofs.TotalLemmas.{eq-eqb-one}
 use Rattle.core_model.proofs.BlockLemmas.{first_there}
 use Rattle.core_model.proofs.ShiftLemmas.{first_rest}
 use Rattle.seat_notes.proofs.EndLemmas.{last_append, last_there, rest_first}

@@ -9,7 +9,7 @@ use Rattle.heap_model.specs.Words.{head_first}
 use Rattle.core_model.specs.declared.event.Event.TheVariants.{LookHead, LookLink, Pop}
 use Rattle.core_model.specs.Effects.{before, claimed, cleared, drew, look, lost, popped, seen_of, seen_word, used_up, won}
 use Rattle.core_model.specs.View.{Setup, Snapshot, View}
-use Rattle.core_model.specs.Cells.{Cell, cell_at}
+use Rattle.core_model.specs.Cells.{cell_at}
 use Rattle.core_model.specs.View.{times_own}
 use Rattle.core_model.proofs.QuietLemmas.{own_same}
 use Rattle.core_model.proofs.StepLemmas.{Parts as CoreParts}

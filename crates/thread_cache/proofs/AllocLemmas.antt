@@ -1,10 +1,9 @@
 -- What a request leaves, granted, refused or stopped, for a seat of a heap.
-use Rattle.std.proofs.Common.{◌≡◌, ◌<◌, ◌≤◌, ◌⊎◌, ℕ, ◌+◌, ◌-◌, ◌*◌, inl, inr, List, [], ◌∷◌, Bool, set, get_or, length, Option, None, Some, Result, Ok, Err, IfOk, OnOk, OnErr, IfErr, refl, ap, sym, subst, ◌∙◌, arith}
-use Rattle.std.specs.Prelude.{Contains}
+use Rattle.std.proofs.Common.{◌≡◌, ◌<◌, ◌≤◌, ◌⊎◌, ℕ, ◌+◌, ◌-◌, ◌*◌, inl, inr, List, [], set, length, None, Result, Ok, Err, IfOk, OnOk, OnErr, IfErr, refl, ap, sym, subst, ◌∙◌, arith}
 use Rattle.std.proofs.lemmas.Bool.{cases_eq}
 use Rattle.std.proofs.lemmas.List.{get_or-set_same, get_or-set_other}
 use Rattle.heap_model.specs.declared.block.Block.{Block}
-use Rattle.heap_model.specs.Sizes.{IsClass, IsLeastClassFor, largest_small, size_of, span_of, words_of_class, blocks_of}
+use Rattle.heap_model.specs.Sizes.{IsClass, IsLeastClassFor, largest_small, span_of, blocks_of}
 use Rattle.heap_model.proofs.SizeLemmas.{size_of-words}
 use Rattle.size_table.proofs.ClassLemmas.{least_small, one_least}
 use Rattle.heap_seat.specs.declared.fault.AllocFault.{AllocFault}
@@ -13,19 +12,19 @@ use Rattle.heap_seat.specs.declared.fault.Looks.{Looks}
 use Rattle.heap_seat.specs.Alloc.{Adds, Allocates, FailsBy, IsSizeFor, Refuses, of_class as size_of_class, of_superblocks}
 use Rattle.heap_seat.specs.Calls.{SameRefusals}
 use Rattle.heap_seat.specs.Looks.{FoundEmpty, FoundNoRoom, IsLastSeen}
-use Rattle.heap_seat.specs.Words.{IsOwn, KeepsOwn, KeepsPending, KeepsWord}
-use Rattle.line_memory.specs.Marks.{IsMarked, marked_words}
+use Rattle.heap_seat.specs.Words.{IsOwn, KeepsPending}
+use Rattle.line_memory.specs.Marks.{IsMarked}
 use Rattle.line_memory.specs.Marked.{marked_words-has, marked_words-only}
-use Rattle.core_model.specs.View.{LastLook, Setup, Span, View, of_class}
+use Rattle.core_model.specs.View.{LastLook, View, of_class}
 use Rattle.heap_table.specs.Plays.{HasSoundState}
 use Rattle.heap_rule.specs.Seated.{SeatView}
 use Rattle.seat_rows.specs.Costs.{Costs}
 use Rattle.seat_rows.specs.Idle.{HasShortCaches, IsIdle}
-use Rattle.seat_rows.specs.Rows.{HoldingRow, IsHeldBoth, Parts, Passes, Row, RowBut, Stops, head_look, next_of, parts}
+use Rattle.seat_rows.specs.Rows.{HoldingRow, Parts, Passes, Row, head_look, next_of, parts}
 use Rattle.seat_rows.specs.Words.{IsDurableAt, IsHeldWord, KeepsWord as KeepsRowWord}
 use Rattle.seat_rows.proofs.RowLemmas.{not_both}
 use Rattle.seat_fill.specs.Refills.{IsFilledInOrder, IsFull, IsLook}
-use Rattle.seat_calls.specs.Large.{HasAllocatedLarge, HasNoRoom}
+use Rattle.seat_calls.specs.Large.{HasAllocatedLarge}
 use Rattle.seat_calls.specs.Requests.{Answers, IsGranted, IsRefused, by_class, by_span, light_request, request_costs}
 use Rattle.seat_calls.specs.Small.{HasAllocated, IfGoing}
 use Rattle.seat_view.specs.CacheState.{CacheState, CallCounts, HasCounts, IsBetweenCalls, IsStateOf, counts_of, heap_view, heap_view_of, look_of}

@@ -1,18 +1,13 @@
 -- What the calls of a seat of the core are for a seat of a heap.
-use Rattle.std.proofs.Common.{◌≡◌, ◌≢◌, ◌<◌, ◌≤◌, ◌⊎◌, ℕ, suc, ◌+◌, ◌*◌, ◌/◌, ◌^◌, get_or, length, inl, inr, List, Bool, Option, None, Some, Result, Ok, Err, OnOk, IfOk, IfErr, OnErr, refl, ap, sym, subst, ◌∙◌, arith}
+use Rattle.std.proofs.Common.{◌≡◌, ◌≢◌, ◌<◌, ◌≤◌, ◌⊎◌, ℕ, ◌+◌, ◌/◌, ◌^◌, get_or, length, inl, inr, List, Bool, Option, None, Some, Result, Ok, Err, OnOk, IfOk, IfErr, OnErr, refl, ap, sym, subst, ◌∙◌, arith}
 use Rattle.std.specs.Bool.{⊤}
 use Rattle.std.specs.Prelude.{Contains}
-use Rattle.std.proofs.lemmas.Bool.{cases_eq}
-use Rattle.heap_model.specs.Blocks.{IsIn}
-use Rattle.heap_model.specs.declared.block.Block.{Block}
-use Rattle.heap_model.proofs.DecisionLemmas.{at_most, both}
 use Rattle.heap_seat.specs.declared.spot.Spot.{Spot}
 use Rattle.heap_seat.specs.declared.spot.Spot.TheVariants.{InBlock, Root}
 use Rattle.heap_seat.specs.Calls.{Fences, GoesOn, IsSmallCall, IsWrittenWith, Loads, Stores, WritesBack, counted}
-use Rattle.heap_seat.specs.Looks.{KnowsNoLess}
-use Rattle.heap_seat.specs.Tickets.{IsDrawn, Runs, Stops as HeapStops}
-use Rattle.heap_seat.specs.View.{View as HeapView, word_of}
-use Rattle.heap_seat.specs.Words.{IsOwn, IsOwnSpot, KeepsOwn, MayHaveStored, MayRead as MayReadHeap, in_block, in_root}
+use Rattle.heap_seat.specs.Tickets.{Runs, Stops as HeapStops}
+use Rattle.heap_seat.specs.View.{word_of}
+use Rattle.heap_seat.specs.Words.{IsOwnSpot, KeepsOwn, MayHaveStored, MayRead as MayReadHeap, in_block, in_root}
 use Rattle.line_memory.specs.declared.memory.Stopped.{Stopped}
 use Rattle.line_memory.specs.Marks.{IsMarked, marked_words}
 use Rattle.line_memory.specs.Marked.{marked_words-has, marked_words-only}
@@ -21,10 +16,9 @@ use Rattle.core_model.specs.Effects.{seen}
 use Rattle.core_model.specs.View.{LastLook, Setup, View, of_class, one_if_some}
 use Rattle.heap_table.specs.Plays.{HasSoundState}
 use Rattle.heap_rule.specs.Seated.{SeatView}
-use Rattle.seat_rows.specs.Costs.{Costs, NoneFalls, no_costs, one_draw}
-use Rattle.seat_rows.specs.Idle.{HasShortCaches, IsIdle}
-use Rattle.seat_rows.specs.Rows.{Parts, Passes, Row, SameLooks, StoringRow, Stops, ViewRow, after_ticket, next_of, parts}
-use Rattle.seat_rows.specs.Words.{IsHeldWord, KeepsWord as KeepsRowWord, left_at, seen_at}
+use Rattle.seat_rows.specs.Costs.{Costs, one_draw}
+use Rattle.seat_rows.specs.Rows.{Parts, Passes, Row, SameLooks, StoringRow, Stops, ViewRow, after_ticket, next_of}
+use Rattle.seat_rows.specs.Words.{IsHeldWord, KeepsWord as KeepsRowWord}
 use Rattle.seat_rows.proofs.RowLemmas.{not_both}
 use Rattle.seat_rows.proofs.WordLemmas.{owns_held}
 use Rattle.heap_rule.proofs.SettleLemmas.{own_below}

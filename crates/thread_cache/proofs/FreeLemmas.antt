@@ -1,23 +1,22 @@
 -- What the freeing of a block leaves, done or stopped, for a seat of a heap.
-use Rattle.std.proofs.Common.{◌≡◌, ◌≢◌, ◌<◌, ◌≤◌, ◌⊎◌, ℕ, ◌+◌, ◌*◌, inl, inr, List, None, set, Result, Ok, Err, OnOk, IfErr, refl, ap, sym, subst, ◌∙◌, length, arith}
+use Rattle.std.proofs.Common.{◌≡◌, ◌≢◌, ◌<◌, ℕ, inl, inr, None, set, Result, Ok, Err, OnOk, IfErr, ap, sym, subst, ◌∙◌, arith}
 use Rattle.std.specs.Bool.{⊤}
 use Rattle.std.specs.Prelude.{Contains}
 use Rattle.heap_model.specs.declared.block.Block.{Block}
 use Rattle.heap_model.specs.Blocks.{IsIn}
 use Rattle.heap_seat.specs.Calls.{SameRefusals}
 use Rattle.heap_seat.specs.Free.{Frees, MayHaveFreed as MayFree}
-use Rattle.heap_seat.specs.View.{View as HeapView}
 use Rattle.heap_seat.specs.Words.{IsOwn}
 use Rattle.line_memory.specs.declared.memory.Stopped.{Stopped}
 use Rattle.heap_model.specs.Counting.{without}
 use Rattle.core_model.specs.Effects.{without_span}
 use Rattle.core_model.specs.Held.{IsHeld}
-use Rattle.core_model.specs.View.{Setup, View, of_class}
+use Rattle.core_model.specs.View.{View, of_class}
 use Rattle.heap_table.specs.Plays.{HasSoundState}
 use Rattle.heap_rule.specs.Seated.{SeatView}
 use Rattle.seat_rows.specs.Costs.{Costs}
 use Rattle.seat_rows.specs.Idle.{HasShortCaches, IsIdle}
-use Rattle.seat_rows.specs.Rows.{Parts, Passes, RowBut, Stops, next_of, parts}
+use Rattle.seat_rows.specs.Rows.{Parts, Passes, RowBut, Stops, next_of}
 use Rattle.seat_rows.specs.Words.{IsHeldWord, KeepsWord as KeepsRowWord}
 use Rattle.seat_rows.proofs.RowLemmas.{not_both}
 use Rattle.seat_calls.specs.Requests.{IsGivenBack, IsSmallBlock, IsSpan, MayBeGivenBack, light_free_costs, most_free_costs, of_a_class, of_a_span}

@@ -1,7 +1,7 @@
 -- What a call that takes or gives blocks is for a seat of a heap, besides what it does to the blocks.
-use Rattle.std.proofs.Common.{◌≡◌, ◌<◌, ◌≤◌, ◌⊎◌, ℕ, ◌+◌, ◌*◌, inl, inr, Option, None, Some, Result, Ok, Err, OnErr, IfErr, refl, ap, sym, subst, ◌∙◌, arith}
+use Rattle.std.proofs.Common.{◌≡◌, ◌<◌, ◌≤◌, ◌⊎◌, ℕ, ◌+◌, inl, inr, None, Result, Ok, Err, OnErr, IfErr, refl, ap, sym, ◌∙◌, arith}
 use Rattle.heap_seat.specs.Calls.{IsLargeCall, counted}
-use Rattle.heap_seat.specs.Looks.{IsMade as IsMadeHeap, KeepsLooks as KeepsHeapLooks}
+use Rattle.heap_seat.specs.Looks.{IsMade as IsMadeHeap}
 use Rattle.heap_seat.specs.Tickets.{Stops as HeapStops}
 use Rattle.heap_seat.specs.Words.{IsOwn, KeepsOwn, KeepsPending}
 use Rattle.line_memory.specs.declared.memory.Stopped.{Stopped}
@@ -9,7 +9,7 @@ use Rattle.core_model.specs.View.{LastLook, View}
 use Rattle.heap_table.specs.Plays.{HasSoundState}
 use Rattle.heap_rule.specs.Seated.{SeatView}
 use Rattle.seat_rows.specs.Costs.{Costs}
-use Rattle.seat_rows.specs.Rows.{IsKeptOrMade, IsMade, Passes, Row, Stops, ViewRow, after_ticket, head_look, next_of}
+use Rattle.seat_rows.specs.Rows.{IsKeptOrMade, Passes, Row, Stops, ViewRow, after_ticket, head_look, next_of}
 use Rattle.seat_view.specs.CacheState.{CacheState, CallCounts, HasCounts, IsStateOf, counts_of, heap_view, heap_view_of, look_of}
 use Rattle.seat_view.proofs.HeldLemmas.{kept_at, pending_at}
 use Rattle.thread_cache.specs.Keeps.{KeepsCosts, most_draws, most_gives, most_wins}

@@ -1,5 +1,5 @@
 -- What emptying all caches costs, and what it leaves between calls.
-use Rattle.std.proofs.Common.{◌≡◌, ◌<◌, ◌≤◌, ℕ, zero, suc, ◌+◌, ◌-◌, ◌*◌, inl, inr, true, List, [], ◌∷◌, get_or, length, None, Result, Ok, Err, OnOk, IfErr, lit≤, refl, ap, sym, subst, ◌∙◌, arith}
+use Rattle.std.proofs.Common.{◌≡◌, ◌<◌, ◌≤◌, ℕ, zero, suc, ◌+◌, ◌-◌, inl, inr, List, [], ◌∷◌, get_or, length, None, Result, Ok, Err, OnOk, IfErr, lit≤, ap, subst, ◌∙◌, arith}
 use Rattle.std.specs.Bool.{⊤}
 use Rattle.std.proofs.lemmas.Bool.{cases_lt}
 use Rattle.heap_model.specs.Counting.{total}
@@ -7,9 +7,7 @@ use Rattle.heap_model.specs.Sizes.{IsClass, blocks_of, class_sizes}
 use Rattle.heap_model.proofs.SizeLemmas.{four_blocks}
 use Rattle.line_memory.specs.declared.memory.Stopped.{Stopped}
 use Rattle.core_model.specs.View.{View, of_class}
-use Rattle.core_model.proofs.OwnerLemmas.{in_lists_total}
 use Rattle.heap_table.specs.Plays.{HasSoundState}
-use Rattle.heap_rule.specs.Seated.{SeatView}
 use Rattle.seat_flush.specs.All.{HasFlushedAll, all_costs, cached}
 use Rattle.seat_flush.proofs.AllLemmas.{all_runs_few, first_none}
 use Rattle.seat_rows.specs.Idle.{HasShortCaches, IsIdle}

@@ -1,9 +1,7 @@
 -- What every call keeps goes on from call to call: the laws of what it keeps.
-use Rattle.std.proofs.Common.{◌≡◌, ◌≤◌, ℕ, ◌+◌, ◌*◌, refl, ◌∙◌, arith}
-use Rattle.seat_rows.specs.Costs.{Costs, NoneFalls, no_costs}
-use Rattle.seat_rows.specs.Rows.{Passes}
+use Rattle.std.proofs.Common.{refl, ◌∙◌, arith}
 use Rattle.seat_view.specs.CacheState.{CacheState}
-use Rattle.thread_cache.specs.Keeps.{KeepsCosts, KeepsHeap, most_draws, most_gives, most_wins}
+use Rattle.thread_cache.specs.Keeps.{KeepsCosts, KeepsHeap}
 
 costs_none : (s : CacheState) → KeepsCosts s.view s.small_calls s.large_calls s.view s.small_calls s.large_calls
 costs_none s = record {

@@ -1,6 +1,6 @@
 -- What recovery of an image's words with no filter says of its bytes.
-use Rattle.std.proofs.Common.{◌≡◌, ◌∙◌, ℕ, ◌*◌, List, length, slice_index, Option, Some, None, Result, Ok, Err, IfErr, refl, sym, ap, subst}
-use Rattle.heap_model.specs.Image.{Image, image_of_bytes}
+use Rattle.std.proofs.Common.{◌≡◌, ◌∙◌, ℕ, ◌*◌, List, length, slice_index, Some, None, Result, Ok, Err, IfErr, refl, sym, ap, subst}
+use Rattle.heap_model.specs.Image.{image_of_bytes}
 use Rattle.heap_model.specs.Header.{HasGoodHeader, header_fault}
 use Rattle.heap_model.proofs.HeaderLemmas.{no_fault}
 use Rattle.heap_recover.specs.declared.fault.RecoverFault.{RecoverFault}

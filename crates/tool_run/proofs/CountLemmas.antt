@@ -1,5 +1,5 @@
 -- What opening an image's words says of its bytes, and of the command that asked for it.
-use Rattle.std.proofs.Common.{◌≡◌, ◌∙◌, ℕ, Bool, List, length, Option, Some, Result, IfErr, refl, sym, subst}
+use Rattle.std.proofs.Common.{◌≡◌, ℕ, Bool, List, length, Some, Result, IfErr, refl, sym, subst}
 use Rattle.heap_model.specs.Image.{image_of_bytes}
 use Rattle.heap_model.specs.Header.{HasGoodHeader, first_kinds}
 use Rattle.dict_model.specs.Links.{dict_links, kind_count}

@@ -1,7 +1,7 @@
 -- Which commands use the tool's filter: those that follow links, of each image or of some, check the kinds of roots too.
 use Rattle.std.proofs.Common.{◌≡◌, ℕ, List, Some, refl}
 use Rattle.dict_model.specs.Links.{kind_count}
-use Rattle.tool_command.specs.Command.{Command, format_image, show_image, drain_image, gen_trace, run_image, rebuild_image, replay_image, conservative_image, count_image}
+use Rattle.tool_command.specs.Command.{Command, format_image, show_image, gen_trace, run_image, replay_image, conservative_image, count_image}
 use Rattle.tool_run.specs.Making.{GetsImage, FollowsLinks, RefusesOutside, Reads, RunsATrace, ReplaysASchedule, kinds_checked}
 
 pub follows_gets : (command : Command) → FollowsLinks command → GetsImage command

@@ -1,4 +1,4 @@
-use Rattle.std.proofs.Common.{◌≡◌, arith, refl, subst, sym, ◌∙◌}
+use Rattle.std.proofs.Common.{arith, refl}
 use Rattle.heap_model.specs.Geometry.{largest_capacity}
 use Rattle.core_model.specs.Cells.{superblock_at}
 use Rattle.seat_calls.specs.Requests.{of_a_class, of_a_span}

@@ -1,6 +1,6 @@
 use Rattle.std.proofs.Common.{◌+◌, inl, subst, sym}
 use Rattle.seat_rows.proofs.RowLemmas.{marks_behind}
-use Rattle.seat_flush.proofs.AllLemmas.{FlushedBelow, all_begins, all_done, all_most, all_on, all_row, all_stops}
+use Rattle.seat_flush.proofs.AllLemmas.{FlushedBelow, all_begins, all_done, all_most, all_on, all_row}
 use Rattle.seat_flush.proofs.all.flush_all.Goals as goal
 
 pub loop-number-init : goal.loop-number-init

@@ -1,6 +1,5 @@
-use Rattle.std.proofs.Common.{◌≡◌, ℕ, List, IfOk, IfErr, sym, ap, subst, ◌*◌, length, slice_index, Some}
+use Rattle.std.proofs.Common.{ℕ, List, IfOk, sym, subst, Some}
 use Rattle.heap_model.specs.Header.{first_kinds}
-use Rattle.heap_recover.specs.declared.fault.RecoverFault.TheVariants.{Memory}
 use Rattle.image_count.specs.Telling.{IsOrderlyImage, TellsOpened}
 use Rattle.image_run.proofs.PutLemmas.{words_are_in}
 use Rattle.region_header.specs.Migration.{current_words}

@@ -1,4 +1,4 @@
-use Rattle.std.proofs.Common.{◌<◌, ap, sym, subst, ◌∙◌, arith}
+use Rattle.std.proofs.Common.{ap, arith}
 use Rattle.seat_view.specs.CacheState.{CacheState}
 use Rattle.seat_flush.specs.All.{cached}
 use Rattle.thread_cache.proofs.QuietLemmas.{one_cached}

@@ -1,4 +1,4 @@
-use Rattle.std.proofs.Common.{◌+◌, ap, refl, arith, ◌∙◌, sym, subst}
+use Rattle.std.proofs.Common.{ap, refl, arith, ◌∙◌, sym, subst}
 use Rattle.core_model.specs.View.{View}
 use Rattle.seat_flush.specs.All.{all_costs, cached}
 use Rattle.seat_rows.specs.Rows.{Passes}

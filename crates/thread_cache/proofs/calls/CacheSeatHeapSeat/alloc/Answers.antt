@@ -1,5 +1,4 @@
-use Rattle.std.proofs.Common.{◌+◌, ◌-◌, ◌≡◌, Err, ap, arith, refl, sym, ◌∙◌}
-use Rattle.heap_seat.specs.declared.fault.AllocFault.TheVariants.{Full}
+use Rattle.std.proofs.Common.{◌+◌, ◌-◌, ap, arith, refl, sym, ◌∙◌}
 use Rattle.seat_view.specs.CacheState.{CacheState}
 use Rattle.thread_cache.proofs.AllocLemmas.{alloc_between, alloc_none, alloc_ok, alloc_room, full_cause, full_counts_then, full_step, request_few, stop_cause}
 use Rattle.thread_cache.proofs.CallLemmas.{next_low}

@@ -1,7 +1,6 @@
-use Rattle.std.proofs.Common.{◌≡◌, ◌*◌, ap, refl, subst, sym, ◌∙◌}
+use Rattle.std.proofs.Common.{subst, sym}
 use Rattle.std.specs.Prelude.{Contains}
 use Rattle.heap_model.specs.declared.block.Block.{Block}
-use Rattle.core_model.specs.View.{View}
 use Rattle.seat_view.specs.CacheState.{CacheState, held_blocks}
 use Rattle.seat_view.proofs.HeldLemmas.{held_is}
 use Rattle.seat_view.proofs.ListedBlocks.{listed}

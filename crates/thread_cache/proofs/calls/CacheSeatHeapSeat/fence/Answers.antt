@@ -1,4 +1,4 @@
-use Rattle.std.proofs.Common.{◌+◌, ap, refl, ◌∙◌, sym}
+use Rattle.std.proofs.Common.{ap, refl, ◌∙◌, sym}
 use Rattle.seat_view.specs.CacheState.{CacheState}
 use Rattle.thread_cache.proofs.CallLemmas.{between_then, counts_then, small_counted, small_fences, small_keeps, small_own, small_step, small_stops}
 use Rattle.thread_cache.proofs.calls.CacheSeatHeapSeat.fence.Goals as goal

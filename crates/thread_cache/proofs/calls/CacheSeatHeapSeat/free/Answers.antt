@@ -1,4 +1,4 @@
-use Rattle.std.proofs.Common.{◌+◌, ap, arith, refl, sym, ◌∙◌}
+use Rattle.std.proofs.Common.{ap, arith, refl, sym, ◌∙◌}
 use Rattle.seat_view.specs.CacheState.{CacheState}
 use Rattle.thread_cache.proofs.CallLemmas.{next_low}
 use Rattle.thread_cache.proofs.FreeLemmas.{free_between, free_few, free_ok, free_others, free_put, held_block}

@@ -1,6 +1,5 @@
-use Rattle.std.proofs.Common.{◌+◌, ◌≡◌, ◌≢◌, ℕ, OnOk, ap, refl, subst, sym, ◌∙◌}
-use Rattle.heap_seat.specs.View.{View as HeapView, word_of}
-use Rattle.heap_seat.specs.Words.{MayHaveStored}
+use Rattle.std.proofs.Common.{◌≢◌, ℕ, OnOk, ap, refl, subst, sym, ◌∙◌}
+use Rattle.heap_seat.specs.View.{word_of}
 use Rattle.line_memory.specs.Marks.{IsMarked}
 use Rattle.core_model.specs.View.{View}
 use Rattle.seat_rows.specs.Costs.{one_draw}

@@ -1,4 +1,4 @@
-use Rattle.std.proofs.Common.{◌+◌, ◌≡◌, OnOk, ap, refl, subst, sym, ◌∙◌}
+use Rattle.std.proofs.Common.{OnOk, ap, refl, subst, sym, ◌∙◌}
 use Rattle.heap_seat.specs.View.{word_of}
 use Rattle.core_model.specs.View.{View}
 use Rattle.heap_rule.specs.Fences.{Owns}
