@@ -124,7 +124,8 @@ fn load_cache(
     first: u64,
     count: u64,
 )
-    requires at { IsAt shared.now table_seat.old.table_id table_seat.old.me (view_in table_seat.old.me.0) }
+    requires at { IsAt shared.now table_seat.old.table_id table_seat.old.me
+        (view_in table_seat.old.me.0) }
     requires count { count ≡ length (of_class (view_in table_seat.old.me.0).caches class.number) }
     requires first { 1 ≤ count
         → first ≡ first_of (of_class (view_in table_seat.old.me.0).caches class.number) }

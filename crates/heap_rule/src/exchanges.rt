@@ -1,6 +1,4 @@
-//! The exchange of a word that a seat has looked at.
-//!
-//! Linearization point: the exchange itself, where the word is as it was seen.
+//! The exchange of a word that a seat has looked at, with its lost branch.
 //!
 //! A lost race changes nothing of the heap: the ticket and the look are used up, the word that was
 //! found is told, and the caller draws and looks again.
@@ -18,7 +16,7 @@ use core_model::Event;
 use heap_table::{Shared, TableSeat, exchange};
 use seat_notes::SeatNotes;
 
-/// Exchanges a word that is as it was seen; else tells it, and nothing is noted of it any more.
+/// Exchanges a word, if it is as it was seen; else tells it, and nothing is noted of it any more.
 pub(crate) fn exchange_seen(
     shared: &Shared,
     table_seat: &mut TableSeat,
@@ -28,12 +26,14 @@ pub(crate) fn exchange_seen(
     new: u64,
     event: Event,
 ) -> Result<(), u64>
-    requires at { IsAt shared.now table_seat.old.table_id table_seat.old.me (view_in table_seat.old.me.0) }
+    requires at { IsAt shared.now table_seat.old.table_id table_seat.old.me
+        (view_in table_seat.old.me.0) }
     requires may { May (view_in table_seat.old.me.0) event }
     requires place { place ≡ table_index (view_in table_seat.old.me.0).setup.capacity
         (place_of (view_in table_seat.old.me.0) event) }
     requires exchange { IsExchange event (view_in table_seat.old.me.0) seen new }
-    ensures at { IsAt shared.now table_seat.new.table_id table_seat.new.me (view_in table_seat.new.me.0) }
+    ensures at { IsAt shared.now table_seat.new.table_id table_seat.new.me
+        (view_in table_seat.new.me.0) }
     ensures event { (found : ℕ)
         × IsEvent event (view_in table_seat.old.me.0) found (view_in table_seat.new.me.0)
         × Tells seen found result }
