@@ -103,7 +103,7 @@ fn left_by_words<C: Chances>(
     core: &Core,
     scramble: &mut CrashWords<'_, C>,
 ) -> Result<Vec<u64>, AllocError>
-    requires { (k : Setup) × (s : TableState) × StandsFor core.now.state k s }
+    requires stands { (k : Setup) × (s : TableState) × StandsFor core.now.state k s }
     ensures ok { IfOk result (λ image. (k : Setup) (s : TableState)
         → StandsFor core.now.state k s
         → IsCrashImage (durable_image k.capacity s.words) (slice_index image.items)) }

@@ -7,12 +7,12 @@ use Rattle.image_run.proofs.replaying.left_by_words.Goals as goal
 
 pub returns-clause-same_reference : goal.returns-clause-same_reference
 returns-clause-same_reference g c =
-    let k = c.requires.0 in
+    let k = c.requires.stands.0 in
     IfOk-weaker c.image.result _ _ (λ image given. name_stays (λ s. s.chances.now) (λ s. s.chances.ghost_name) g.C.Chances.chance_gives g.C.Chances.word_gives c.args.scramble.now c.image.new.scramble
-    (map (slice_index image.items) (transient_words k.capacity)) (given k c.requires.1 c.requires.2)) c.image.ensures.drawn
+    (map (slice_index image.items) (transient_words k.capacity)) (given k c.requires.stands.1 c.requires.stands.2)) c.image.ensures.drawn
 
 pub returns-clause-chances : goal.returns-clause-chances
 returns-clause-chances g c =
-    let k = c.requires.0 in
+    let k = c.requires.stands.0 in
     IfOk-weaker c.image.result _ _ (λ image given. words_come (λ s. s.chances.now) (λ s. s.chances.ghost_name) g.C.Chances.chance_gives g.C.Chances.word_gives c.args.scramble.now.chances.now c.args.scramble.now c.image.new.scramble
-    (map (slice_index image.items) (transient_words k.capacity)) unasked (given k c.requires.1 c.requires.2)) c.image.ensures.drawn
+    (map (slice_index image.items) (transient_words k.capacity)) unasked (given k c.requires.stands.1 c.requires.stands.2)) c.image.ensures.drawn

@@ -40,4 +40,4 @@ returns-clause-version g c = left_new _ _ (returns-clause-replayed g c).long (re
 
 pub left_by_words-requires : goal.left_by_words-requires
 left_by_words-requires g c =
-    let ran = c.in_ok-answers.ensures.runs _ _ c.in_ok-core.ensures.ok in (_, ran.0, ran.2)
+    let ran = c.in_ok-answers.ensures.runs _ _ c.in_ok-core.ensures.ok in record { stands = (_, ran.0, ran.2) }
