@@ -37,7 +37,3 @@ returns-clause-good g c = left_good _ _ _ _ _ _ _ c.held.ensures.ready c.require
 
 pub returns-clause-version : goal.returns-clause-version
 returns-clause-version g c = left_new _ _ (returns-clause-replayed g c).long (returns-clause-good g c)
-
-pub left_by_words-requires : goal.left_by_words-requires
-left_by_words-requires g c =
-    let ran = c.in_ok-answers.ensures.runs _ _ c.in_ok-core.ensures.ok in record { stands = (_, ran.0, ran.2) }
