@@ -22,7 +22,7 @@ impl Seat {
         let event = Event::Store { word, value };
         store(shared, &mut self.table_seat, word, value, event);
         self.notes.ticket = None;
-        self.notes.batch = self.notes.batch.stored(word);
+        self.notes.batch.linked = self.notes.batch.is_linked_after(word);
         self.recent.push(word);
         self.pending.unmark(word as usize);
     }

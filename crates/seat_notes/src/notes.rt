@@ -72,17 +72,21 @@ impl BatchEnds {
         if self.count == 0 { block } else { self.first }
     }
 
-    /// The batch after a store to a word: one to the first word of its last block ends that link.
+    /// Whether the last block's link stands after a store to a word: one to the block's first word
+    /// ends it.
+    pub fn is_linked_after(&self, word: u64) -> bool
+        ensures { result ≡ cond (nat_eq word self.now.last) false self.now.linked }
+    {
+        self.linked && word != self.last
+    }
+
+    /// The batch after a store to a word.
     pub fn stored(self, word: u64) -> BatchEnds
         ensures { result ≡ record self { linked = cond (nat_eq word self.last) false self.linked } }
     {
-        if word == self.last {
-            BatchEnds {
-                linked: false,
-                ..self
-            }
-        } else {
-            self
+        BatchEnds {
+            linked: self.is_linked_after(word),
+            ..self
         }
     }
 }

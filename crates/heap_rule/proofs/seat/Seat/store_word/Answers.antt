@@ -19,7 +19,7 @@ invariant_of-self c =
     let can = subst (λ (s : SeatView). Can s.view (Store c.args.word c.args.value)) (sym c.self.view_is) c.requires.can in
     record {
       seat = seat_after c.self.inside.table_seat.me c.store.new.seat.me c.self.inside.notes _ c.self.inside.geometry.capacity (Store c.args.word c.args.value) c.store.ensures.event.0 c.args.shared.now c.store.new.seat.table_id c.self.invariant.seat c.store.ensures.at c.store.ensures.event.1
-          (word_stored c.self.inside.notes (view_in c.self.inside.table_seat.me.0) (view_in c.store.new.seat.me.0) c.args.word c.args.value c.store.ensures.event.0 c.stored-self-inside.result c.self.invariant.seat.kept c.store.ensures.event.1 c.store.ensures.at.has can.shown.0 c.stored-self-inside.ensures);
+          (word_stored c.self.inside.notes (view_in c.self.inside.table_seat.me.0) (view_in c.store.new.seat.me.0) c.args.word c.args.value c.store.ensures.event.0 (record c.self.inside.notes.batch { linked = c.is_linked_after-self-inside.result }) c.self.invariant.seat.kept c.store.ensures.event.1 c.store.ensures.at.has can.shown.0 (ap (λ linked. record c.self.inside.notes.batch { linked = linked }) c.is_linked_after-self-inside.ensures));
       marks_long = ap length c.unmark.ensures ∙ length-set c.self.inside.pending c.args.word false ∙ c.self.invariant.marks_long;
       own = store_owned c.self.inside.owned (view_in c.self.inside.table_seat.me.0) (view_in c.store.new.seat.me.0) c.args.word c.args.value c.store.ensures.event.0 c.self.invariant.own c.store.ensures.event.1 can.shown.0;
     }
