@@ -259,6 +259,16 @@ write_back_budget line v w takes = takes.done.tickets.budget
 pub write_back_draws : (line : ℕ) (v w : View) → Takes (IsWriteBack line) v w → w.drawn ≡ v.drawn + 1
 write_back_draws line v w takes = takes.done.tickets.drawn
 
+-- a fence draws one ticket too, below the budget
+fence_draws : (v w : View) → Takes IsFence v w → w.drawn ≡ v.drawn + 1
+fence_draws v w takes = takes.done.tickets.drawn
+
+pub fence_drew : (least : ℕ) (v u w : View) → v.drawn + least ≤ u.drawn → Takes IsFence u w → v.drawn + (1 + least) ≤ w.drawn
+fence_drew least v u w before takes = let draws = fence_draws u w takes in omega arith
+
+pub fence_within : (v u w : View) → u.budget ≡ v.budget → Takes IsFence u w → w.drawn ≤ v.budget
+fence_within v u w same takes = let draws = fence_draws u w takes in let allowed = takes.allowed in omega arith
+
 -- where a step behind another cuts off, so many tickets were drawn in all
 pub cut_later : (old new : List ℕ) (few most ticket : ℕ) (v u w : View) → IsStoppedBetween old new few ticket u w → u.budget ≡ v.budget → u.drawn + few ≤ v.drawn + most → IsStoppedBetween old new most ticket v w
 cut_later old new few most ticket v u w cut same less = record { stopped = cut.stopped; between = cut.between; budget = cut.budget ∙ same; drawn = let d = cut.drawn in omega arith }

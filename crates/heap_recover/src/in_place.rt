@@ -59,6 +59,9 @@ fn store_differences<M: LineMemory>(memory: &mut M, old: &[u64], new: &[u64]) ->
     ensures budget { (M.view memory.new).budget ≡ (M.view memory.old).budget }
     ensures drawn { OnOk result ((M.view memory.new).drawn ≤ (M.view memory.old).drawn
         + 2 * differences (slice_index old.now) (slice_index new.now) (length old.now)) }
+    ensures drew { OnOk result ((M.view memory.old).drawn
+        + differences (slice_index old.now) (slice_index new.now) (length old.now)
+        ≤ (M.view memory.new).drawn) }
     ensures cut_off { IfErr result (λ e. IsStoppedBetween old.now new.now
         (1 + 2 * differences (slice_index old.now) (slice_index new.now) (length old.now)) e.step
         (M.view memory.old) (M.view memory.new)) }
@@ -80,8 +83,13 @@ fn store_image<M: LineMemory>(memory: &mut M, old: &[u64], new: &[u64]) -> Resul
     ensures stopped { IfErr result (λ e. IsStoppedAt (1 + 2 * differences (slice_index old.now)
         (slice_index new.now) (length old.now)) e.step (M.view memory.old) (M.view memory.new)) }
     ensures between { IsBetween old.now new.now (M.view memory.new) }
+    ensures budget { (M.view memory.new).budget ≡ (M.view memory.old).budget }
     ensures drawn { (M.view memory.new).drawn ≤ (M.view memory.old).drawn
         + (1 + 2 * differences (slice_index old.now) (slice_index new.now) (length old.now)) }
+    ensures drew { OnOk result ((M.view memory.old).drawn
+        + (1 + differences (slice_index old.now) (slice_index new.now) (length old.now))
+        ≤ (M.view memory.new).drawn) }
+    ensures within { OnOk result ((M.view memory.new).drawn ≤ (M.view memory.old).budget) }
 {
     store_differences(memory, old, new)?;
     memory.fence()
@@ -108,8 +116,16 @@ pub fn rebuild<M: LineMemory, F: Filter>(
     ensures ok { OnOk result (HoldsDurably to.now.words (M.view memory.new)) }
     ensures stopped { IfErr result (λ e. IsStoppedAt (1 + 2 * differences (slice_index x.now)
         (slice_index to.now.words) (length x.now)) e.step (M.view memory.old) (M.view memory.new)) }
+    ensures budget { (M.view memory.new).budget ≡ (M.view memory.old).budget }
     ensures drawn { (M.view memory.new).drawn ≤ (M.view memory.old).drawn
         + (1 + 2 * differences (slice_index x.now) (slice_index to.now.words) (length x.now)) }
+
+    // Done, it drew a ticket at least for each word that it changed and one for the fence, all of
+    // them below the budget.
+    ensures drew { OnOk result ((M.view memory.old).drawn
+        + (1 + differences (slice_index x.now) (slice_index to.now.words) (length x.now))
+        ≤ (M.view memory.new).drawn) }
+    ensures within { OnOk result ((M.view memory.new).drawn ≤ (M.view memory.old).budget) }
 
     // At every exit each word is that of the image or of the heap, and recovery begun again keeps
     // the same, whatever a crash leaves.

@@ -1,5 +1,5 @@
 -- What recovery made in place leaves, done or stopped, and the report on it.
-use Rattle.std.proofs.Common.{◌≡◌, ◌⊎◌, ℕ, ◌+◌, ◌*◌, inl, inr, Bool, true, false, List, length, slice_index, Some, None, refl, sym, ap, subst, ◌∙◌, arith}
+use Rattle.std.proofs.Common.{◌≡◌, ◌⊎◌, ℕ, ◌+◌, ◌*◌, ◌≤◌, inl, inr, Bool, true, false, List, length, slice_index, Some, None, refl, sym, ap, subst, ◌∙◌, arith}
 use Rattle.heap_model.specs.declared.block.Block.{Block}
 use Rattle.heap_model.specs.Geometry.{state_word, capacity_word}
 use Rattle.heap_model.specs.Header.{capacity_of, header_fault}
@@ -37,10 +37,11 @@ module _ (old new : List ℕ) (held : List Block) (is : IsRecoveryOf (Some kind_
       }
 
   -- it was done
-  pub rebuilt_done : (budget : ℕ) (now : List ℕ) (v : View) → v.volatile ≡ now → HoldsDurably new v
-      → ((image : Image) → Mixes (slice_index v.volatile) (slice_index v.durable) image → RecoversAlike (Some kind_count) (8 * length old) (slice_index old) image dict_links)
+  pub rebuilt_done : (budget : ℕ) (now : List ℕ) (v w : View) → w.volatile ≡ now → HoldsDurably new w → v.budget ≡ budget → v.drawn ≡ 0
+      → v.drawn + (1 + differences (slice_index old) (slice_index new) (length old)) ≤ w.drawn → w.drawn ≤ v.budget
+      → ((image : Image) → Mixes (slice_index w.volatile) (slice_index w.durable) image → RecoversAlike (Some kind_count) (8 * length old) (slice_index old) image dict_links)
       → IsRebuilt (slice_index old) (length old) budget false now
-  rebuilt_done budget now v now_is has mixed =
+  rebuilt_done budget now v w now_is has limit none drew below mixed =
       let same : now ≡ new = sym now_is ∙ has.volatile in
       record {
         new = new;
@@ -49,6 +50,7 @@ module _ (old new : List ℕ) (held : List Block) (is : IsRecoveryOf (Some kind_
         alike = mixed (slice_index now) (record { each = λ word. inl (ap (λ (ws : List ℕ). slice_index ws word) (sym now_is)) });
         state = ap (λ (ws : List ℕ). slice_index ws state_word) same ∙ is.words_are.state;
         done = λ _. same;
+        within = λ _. omega arith;
         cause = λ e. absurd (cc);
         others = λ word _ _. inr (ap (λ (ws : List ℕ). slice_index ws word) same);
       }
@@ -68,6 +70,7 @@ module _ (old new : List ℕ) (held : List Block) (is : IsRecoveryOf (Some kind_
         alike = crash (slice_index left) crashed;
         state = is_crash.state;
         done = λ e. absurd (cc);
+        within = λ e. absurd (cc);
         cause = λ _. let above = stopped.above in let few = stopped.few in omega arith;
         others = λ word other lasts.
             let same = crashed.others word other (λ lost. lasts (subst (λ c. IsTransient c word) (durable_capacity w between) lost)) in

@@ -3,4 +3,5 @@ pub mod Running
 pub mod Rebuilding
 pub mod Replaying
 pub mod Examples
+pub mod RebuildExamples
 pub mod ReplayExamples

@@ -1,5 +1,5 @@
 -- What recovery of an image made in place puts and prints.
-use Rattle.std.specs.Prelude.{◌≡◌, ◌≢◌, ◌⊎◌, ℕ, ◌*◌, ◌≤◌, Bool, true, false, List, ◌++◌, length, codes, Some, slice_index}
+use Rattle.std.specs.Prelude.{◌≡◌, ◌≢◌, ◌⊎◌, ℕ, ◌*◌, ◌<◌, ◌≤◌, Bool, true, false, List, ◌++◌, length, codes, Some, slice_index}
 use Rattle.heap_model.specs.Geometry.{state_word, dirty}
 use Rattle.heap_model.specs.Header.{capacity_of}
 use Rattle.heap_model.specs.Image.{Image, bytes_of_words}
@@ -13,6 +13,7 @@ use Rattle.image_run.specs.Reporting.{IsKept, TellsHeap}
 
 -- The words that are left of an image of so many words, made the words of its recovery within a budget: all of them where that was
 -- not stopped, and else each the old or the new one, but those that a crash leaves with any value. Recovery of them keeps the same.
+-- Where it was not stopped, the budget allowed a step for each word that is changed and one for the fence.
 pub record IsRebuilt (image : Image) (count budget : ℕ) (stopped : Bool) (left : List ℕ) : Type 0 where
   pub new : List ℕ
   pub recovered : IsRecovered image (slice_index new) (IsKept image)
@@ -20,6 +21,7 @@ pub record IsRebuilt (image : Image) (count budget : ℕ) (stopped : Bool) (left
   pub alike : RecoversAlike (Some kind_count) (8 * count) image (slice_index left) dict_links
   pub state : slice_index left state_word ≡ dirty
   pub done : stopped ≡ false → left ≡ new
+  pub within : stopped ≡ false → differences image (slice_index new) count < budget
   pub cause : stopped ≡ true → budget ≤ 2 * differences image (slice_index new) count
   pub others : (word : ℕ) → word ≢ state_word → (IsTransient (capacity_of image) word → ⊥)
       → (slice_index left word ≡ image word) ⊎ (slice_index left word ≡ slice_index new word)

@@ -39,6 +39,7 @@ loop-line-preserved g c =
     let old = slice_index c.args.old.now in
     let new = slice_index c.args.new.now in
     let before = c.loop-line.invariant.drawn in
+    let least = c.loop-line.invariant.drew in
     let below = c.loop-line-test.true in
     let drawn = c.in_ok-store_line.ensures.drawn in
     let next : 8 * c.loop-line.line + 8 ≡ 8 * (c.loop-line.line + 1) = omega arith in
@@ -50,6 +51,7 @@ loop-line-preserved g c =
           let written = line_written c.args.old.now c.args.new.now (8 * c.loop-line.line) (8 * c.loop-line.line + 8) (view c.store_line.new.memory) c.in_ok-store_line.ensures.ok
           (view w.write_back.new.self) c.loop-line.line (omega arith) (omega arith) (omega arith) w.in_ok-write_back.ensures.ok in
           let few : (view w.write_back.new.self).drawn ≤ (view c.args.memory.now).drawn + 2 * differences old new (8 * (c.loop-line.line + 1)) = omega arith in
+          let enough : (view c.args.memory.now).drawn + differences old new (8 * (c.loop-line.line + 1)) ≤ (view w.write_back.new.self).drawn = omega arith in
           record {
             high = omega arith;
             stored = subst (λ m. IsStoredTo c.args.old.now c.args.new.now (8 * (c.loop-line.line + 1)) (8 * (c.loop-line.line + 1)) (view m)) (sym w.memory-is)
@@ -57,17 +59,20 @@ loop-line-preserved g c =
             budget = ap (λ m. (view m).budget) w.memory-is ∙ write_back_budget c.loop-line.line (view c.store_line.new.memory) (view w.write_back.new.self) w.in_ok-write_back.ensures.ok
                 ∙ c.store_line.ensures.budget ∙ c.loop-line.invariant.budget;
             drawn = subst (λ m. (view m).drawn ≤ (view c.args.memory.now).drawn + 2 * differences old new (8 * (c.loop-line.line + 1))) (sym w.memory-is) few;
+            drew = subst (λ m. (view c.args.memory.now).drawn + differences old new (8 * (c.loop-line.line + 1)) ≤ (view m).drawn) (sym w.memory-is) enough;
           }
       | else-branch w ↦
           let kept = line_same c.args.old.now c.args.new.now (8 * c.loop-line.line) (8 * c.loop-line.line + 8) (view c.store_line.new.memory) c.in_ok-store_line.ensures.ok
           (λ differ. absurd (let some = c.in_ok-store_line.ensures.some.1 differ in let none = w.if-branch.false in absurd (cc))) in
           let first = differ_from old new (8 * c.loop-line.line) (8 * c.loop-line.line + 8) (omega arith) in
           let few : (view c.store_line.new.memory).drawn ≤ (view c.args.memory.now).drawn + 2 * differences old new (8 * (c.loop-line.line + 1)) = omega arith in
+          let enough : (view c.args.memory.now).drawn + differences old new (8 * (c.loop-line.line + 1)) ≤ (view c.store_line.new.memory).drawn = omega arith in
           record {
             high = omega arith;
             stored = subst (λ m. IsStoredTo c.args.old.now c.args.new.now (8 * (c.loop-line.line + 1)) (8 * (c.loop-line.line + 1)) (view m)) (sym w.memory-is)
                 (subst (λ n. IsStoredTo c.args.old.now c.args.new.now n n (view c.store_line.new.memory)) next kept);
             budget = ap (λ m. (view m).budget) w.memory-is ∙ c.store_line.ensures.budget ∙ c.loop-line.invariant.budget;
             drawn = subst (λ m. (view m).drawn ≤ (view c.args.memory.now).drawn + 2 * differences old new (8 * (c.loop-line.line + 1))) (sym w.memory-is) few;
+            drew = subst (λ m. (view c.args.memory.now).drawn + differences old new (8 * (c.loop-line.line + 1)) ≤ (view m).drawn) (sym w.memory-is) enough;
           }
     ]

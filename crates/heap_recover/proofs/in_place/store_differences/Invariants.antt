@@ -9,4 +9,6 @@ invariant-loop-line g l = record {
   budget : (g.M.LineMemory.view l.memory).budget ≡ (g.M.LineMemory.view l.initial.memory).budget;
   drawn : (g.M.LineMemory.view l.memory).drawn ≤ (g.M.LineMemory.view l.initial.memory).drawn
       + 2 * differences (slice_index l.old) (slice_index l.new) (8 * l.line);
+  drew : (g.M.LineMemory.view l.initial.memory).drawn + differences (slice_index l.old) (slice_index l.new) (8 * l.line)
+      ≤ (g.M.LineMemory.view l.memory).drawn;
 }

@@ -1,11 +1,12 @@
-use Rattle.std.proofs.Common.{length, refl}
+use Rattle.std.proofs.Common.{length, slice_index, refl}
 use Rattle.std.proofs.lemmas.Result.{on_ok_weaker, IfErr-weaker}
 use Rattle.std.specs.Prelude.{⊤}
 use Rattle.line_memory.specs.declared.memory.Stopped.{Stopped}
 use Rattle.line_memory.specs.Crash.{AddsNothing}
 use Rattle.line_memory.specs.Steps.{Refuses}
 use Rattle.line_memory.proofs.CallerLemmas.{at_both, fence_adds, refused_adds}
-use Rattle.heap_recover.proofs.InPlaceLemmas.{adds_between, fence_stores}
+use Rattle.heap_recover.specs.InPlace.{differences}
+use Rattle.heap_recover.proofs.InPlaceLemmas.{adds_between, fence_stores, fence_drew, fence_within}
 use Rattle.heap_recover.proofs.in_place.store_image.Goals as goal
 
 pub returns-clause-ok : goal.returns-clause-ok
@@ -24,3 +25,18 @@ returns-clause-between g c =
     let adds : AddsNothing u w = at_both c.fence.result (AddsNothing u w) (on_ok_weaker c.fence.result (fence_adds (λ _. ⊤) u w) c.fence.ensures.ok)
     (IfErr-weaker c.fence.result (λ (e : Stopped). Refuses e.step u w) (λ _. AddsNothing u w) (λ e refuses. refused_adds (λ _. ⊤) e.step u w refuses) c.fence.ensures.stopped) in
     adds_between c.args.old.now c.args.new.now (length c.args.old.now) (length c.args.old.now) u c.in_ok-store_differences.ensures.ok w adds
+
+pub returns-clause-drew : goal.returns-clause-drew
+returns-clause-drew g c =
+    let view = g.M.LineMemory.view in
+    let u = view c.store_differences.new.memory in
+    let w = view c.fence.new.self in
+    on_ok_weaker c.fence.result (fence_drew (differences (slice_index c.args.old.now) (slice_index c.args.new.now) (length c.args.old.now)) (view c.args.memory.now) u w
+    c.in_ok-store_differences.ensures.drew) c.fence.ensures.ok
+
+pub returns-clause-within : goal.returns-clause-within
+returns-clause-within g c =
+    let view = g.M.LineMemory.view in
+    let u = view c.store_differences.new.memory in
+    let w = view c.fence.new.self in
+    on_ok_weaker c.fence.result (fence_within (view c.args.memory.now) u w c.store_differences.ensures.budget) c.fence.ensures.ok

@@ -11,9 +11,11 @@ use Rattle.image_run.proofs.rebuilding.rebuild_words.Goals as goal
 
 pub returns-in-Ok-clause-ok : goal.returns-in-Ok-clause-ok
 returns-in-Ok-clause-ok g c =
-    let v = view_of c.rebuild-end.new.memory in
-    rebuilt_done c.args.words.now c.args.heap.now.words c.args.heap.now.held c.requires c.args.budget c.now.inside.now.items v
-    (sym c.finish.ensures.volatile ∙ sym (ap volatile_words c.now.view_is)) c.in-Ok.ensures.ok
+    let v = view_of c.in_ok-memory.memory in
+    let w = view_of c.rebuild-end.new.memory in
+    rebuilt_done c.args.words.now c.args.heap.now.words c.args.heap.now.held c.requires c.args.budget c.now.inside.now.items v w
+    (sym c.finish.ensures.volatile ∙ sym (ap volatile_words c.now.view_is)) c.in-Ok.ensures.ok (ap (λ (u : View). u.budget) c.in_ok-memory.ensures.ok)
+    (ap (λ (u : View). u.drawn) c.in_ok-memory.ensures.ok) c.in-Ok.ensures.drew c.in-Ok.ensures.within
     c.in-Ok.ensures.mixed
 
 pub left_by_crash-requires-clause-whole : goal.left_by_crash-requires-clause-whole
