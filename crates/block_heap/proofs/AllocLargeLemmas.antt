@@ -281,6 +281,7 @@ module _ (p : Parts) (count d : ℕ) (fresh : Fresh) (u : View) (look : Look) (r
         -- the answer is the large block
         pub join_answers : (b : Block) → b ≡ at_mark added first_word
             → (b.words ≡ superblock_words * count) × AddsTo b (held_in p) (held_of added) × (Contains (held_in p) b → ⊥) × (image_of p used_word + count ≤ p.capacity)
+            × (b.first_word ≡ start_word p.capacity (image_of p used_word)) × (p.taken + count ≡ p.taken + count)
         join_answers b is =
             let words = marked_words_are added.start added.words.items (added_start ∙ divided_start) (added_words ∙ divided_words) in
             let one : b ≡ block = is ∙ same_fields (at_mark added first_word) block at words in (
@@ -288,4 +289,6 @@ module _ (p : Parts) (count d : ℕ) (fresh : Fresh) (u : View) (look : Look) (r
               subst (λ (x : Block). AddsTo x (held_in p) (held_of added)) (sym one) adds_block,
               subst (λ (x : Block). Contains (held_in p) x → ⊥) (sym one) joined.1,
               let was = was_used in omega (arith, got.0, got.1),
+              ap (λ (x : Block). x.first_word) one ∙ ap (λ n. start_word p.capacity n) (sym was_used),
+              refl,
             )

@@ -2,12 +2,13 @@
 use Rattle.std.proofs.Common.{◌≡◌, ◌≢◌, ℕ, ◌+◌, ◌*◌, ◌<◌, ◌≤◌, inl, inr, Option, None, Some, Result, Ok, Err, IfOk, OnOk, List, [], ◌∷◌, get_or, Contains, refl, ap, sym, subst, ◌∙◌, arith}
 use Rattle.std.proofs.lemmas.Bool.{cases_eq}
 use Rattle.heap_model.specs.declared.block.Block.{Block}
-use Rattle.heap_model.specs.Geometry.{link_word, superblock_words, largest_capacity}
+use Rattle.heap_model.specs.Geometry.{link_word, start_word, used_word, superblock_words, largest_capacity}
 use Rattle.heap_model.specs.Sizes.{IsClass, IsLeastClassFor, size_of, words_of_class, blocks_of, largest_small, span_of}
 use Rattle.heap_model.specs.Words.{head_first}
 use Rattle.heap_model.specs.Blocks.{Begins, of_class, as_large}
 use Rattle.heap_model.specs.Chains.{Follows}
 use Rattle.heap_model.proofs.BlockLemmas.{block_inside}
+use Rattle.heap_model.proofs.PartLemmas.{same_fields}
 use Rattle.heap_model.proofs.SizeLemmas.{few_words, size_of-words}
 use Rattle.size_table.proofs.ClassLemmas.{least_of_size, least_small, one_least}
 use Rattle.heap_shape.specs.Whole.{layout_at, IsShape}
@@ -130,7 +131,7 @@ answers_small bytes class (Some b) p q least gets = record {
   adds = gets.adds;
   new = gets.new;
   room = for_class class least gets.room;
-  few = λ large. absurd (let small = least_small bytes class least in omega arith);
+  large = λ large. absurd (let small = least_small bytes class least in omega arith);
   accounted = gets.accounted;
 }
 
@@ -162,7 +163,13 @@ answers_large bytes (Some b) p q large short joins running accounted caches capa
   adds = joins.1;
   new = joins.2;
   room = for_large large joins.3;
-  few = λ _. few;
+  large = λ _. record {
+    few = few;
+    taken = joins.5;
+    held = subst (λ (x : Block). Contains (held_in q) x)
+        (same_fields b (record { first_word = start_word p.capacity (image_of p used_word); words = superblock_words * span_of bytes }) joins.4 joins.0)
+        joins.1.has;
+  };
   accounted = accounted;
 }
 

@@ -1,7 +1,7 @@
 -- What requests make of the parts of a heap.
 use Rattle.std.specs.Prelude.{◌≡◌, ℕ, ◌+◌, ◌*◌, ◌<◌, ◌≤◌, ◌⊎◌, Option, MatchOption, Contains}
 use Rattle.heap_model.specs.declared.block.Block.{Block}
-use Rattle.heap_model.specs.Geometry.{used_word}
+use Rattle.heap_model.specs.Geometry.{used_word, start_word, superblock_words}
 use Rattle.heap_model.specs.Sizes.{IsLeastClassFor, largest_small, span_of, words_of_class}
 use Rattle.heap_shape.specs.Moves.{AddsTo}
 use Rattle.heap_shape.specs.Draining.{IsToDrain, IsDrainable}
@@ -47,9 +47,14 @@ pub record FindsNone (class : ℕ) (p q : Parts) : Type 0 where
   pub empty : (cache_at q.caches class).count ≡ 0
   pub taken : q.taken ≡ p.taken
 
--- a large request that got a block drew few tickets
-abbrev pub DrawsFew : ℕ → Parts → Parts → Type 0
-DrawsFew bytes p q = largest_small < bytes → q.words.drawn ≤ p.words.drawn + most_join_draws
+-- the block of a large request is of the first superblocks that were never taken, just as many as it needs, and costs few tickets
+pub record JoinsFresh (bytes : ℕ) (p q : Parts) : Type 0 where
+  pub few : q.words.drawn ≤ p.words.drawn + most_join_draws
+  pub taken : q.taken ≡ p.taken + span_of bytes
+  pub held : Contains (held_in q) (record { first_word = start_word p.capacity (image_of p used_word); words = superblock_words * span_of bytes })
+
+abbrev pub ServesLarge : ℕ → Parts → Parts → Type 0
+ServesLarge bytes p q = largest_small < bytes → JoinsFresh bytes p q
 
 -- the request got the block
 pub record GetsBlock (bytes : ℕ) (b : Block) (p q : Parts) : Type 0 where
@@ -59,7 +64,7 @@ pub record GetsBlock (bytes : ℕ) (b : Block) (p q : Parts) : Type 0 where
   pub adds : AddsTo b (held_in p) (held_in q)
   pub new : Contains (held_in p) b → ⊥
   pub room : HasRoomFor p bytes
-  pub few : DrawsFew bytes p q
+  pub large : ServesLarge bytes p q
   pub accounted : AreAccounted p → AreAccounted q
 
 -- a block of the class that draining it was to give

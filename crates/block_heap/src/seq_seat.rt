@@ -13,7 +13,7 @@ impl<C: Chance> HeapSeat for SeqHeap<C> {
     ghost use Rattle.block_heap.specs.SeqState.{seat_of, MayLeave};
     ghost use Rattle.block_heap.specs.Order.{IsServedInOrder};
     ghost use Rattle.block_heap.specs.Returns.{ComesBack};
-    ghost use Rattle.block_heap.specs.Serving.{DrawsFew, HasRoomFor, RefusesAs};
+    ghost use Rattle.block_heap.specs.Serving.{HasRoomFor, RefusesAs, ServesLarge};
     ghost use Rattle.block_heap.specs.Laws.{seat_law, mixed_law, named_law, stored_law, keeps_none_law, keeps_row_law, may_be_law};
     ghost use Rattle.block_heap.specs.Closing.{KeepsFixed};
 
@@ -22,7 +22,7 @@ impl<C: Chance> HeapSeat for SeqHeap<C> {
     ghost images = { MayLeave };
 
     ghost has_room = { λ s t bytes. HasRoomFor s.parts bytes
-        × IsServedInOrder bytes s.parts t.parts × DrawsFew bytes s.parts t.parts };
+        × IsServedInOrder bytes s.parts t.parts × ServesLarge bytes s.parts t.parts };
 
     ghost has_none = { λ s t bytes looks. RefusesAs bytes looks s.parts t.parts };
 

@@ -11,9 +11,15 @@ use std::process::Abort;
 use std::test::Fail;
 use super_block::{LAST_CLASS, SUPERBLOCK_WORDS, WORD_BYTES};
 
-/// Asks for so many bytes, for which the heap gives two superblocks from this word on.
-fn must_give(rt: &impl Abort, heap: &mut SeqHeap<ConstantChance>, bytes: u64, first_word: u64) {
-    let words = SUPERBLOCK_WORDS * 2;
+/// Asks for so many bytes, for which the heap gives so many superblocks from this word on.
+fn must_give(
+    rt: &impl Abort,
+    heap: &mut SeqHeap<ConstantChance>,
+    bytes: u64,
+    superblocks: u64,
+    first_word: u64,
+) {
+    let words = SUPERBLOCK_WORDS.saturating_mul(superblocks);
     let wanted = Block { first_word, words };
     let given = ask(heap, bytes).ok();
     must_hold(rt, given == Some(wanted), "a block is given");
@@ -32,12 +38,14 @@ fn must_be_full(rt: &impl Abort, heap: &mut SeqHeap<ConstantChance>, bytes: u64,
 
 /// Takes large blocks of a heap of four superblocks until there is no room, and a small one.
 fn take_large(rt: &impl Abort, heap: &mut SeqHeap<ConstantChance>) -> Result<(), Fail> {
-    must_give(rt, heap, 65_537, 1_096);
+    must_give(rt, heap, 65_537, 2, 1_096);
     must_be_full(rt, heap, 131_073, 2);
     free_at(heap, 8_768)?;
     must_hold(rt, heap.held_at(8_768).is_none(), "the block was freed");
-    must_give(rt, heap, 65_537, 17_480);
-    must_be_full(rt, heap, 65_537, 4);
+    must_give(rt, heap, 65_536, 1, 17_480);
+    must_be_full(rt, heap, 65_537, 3);
+    must_give(rt, heap, 14_337, 1, 25_672);
+    must_be_full(rt, heap, 14_337, 4);
     let small = ask(heap, 16)?;
     let is_in_freed = 1_096 <= small.first_word && small.first_word < 17_480;
     must_hold(rt, small.words == 2 && is_in_freed, "a small block");

@@ -18,7 +18,7 @@ returns-in-Some-clause-room g c = (
   (subst (λ answer. Answers c.args.bytes answer c.args.self.now.parts c.request.new.self.parts) c.in-Some.is c.in_ok-block.ensures.ok).room,
   λ class least.
       subst (λ answer. ServesInOrder class answer c.args.self.now.parts c.request.new.self.parts) c.in-Some.is (c.in_ok-block.ensures.order class least),
-  (subst (λ answer. Answers c.args.bytes answer c.args.self.now.parts c.request.new.self.parts) c.in-Some.is c.in_ok-block.ensures.ok).few,
+  (subst (λ answer. Answers c.args.bytes answer c.args.self.now.parts c.request.new.self.parts) c.in-Some.is c.in_ok-block.ensures.ok).large,
 )
 
 pub returns-in-None-clause-none : goal.returns-in-None-clause-none
