@@ -103,9 +103,9 @@ module _ (b : Block) (s : CacheState) (x y : SeatView) (n : CallCounts) (step : 
       let d = few.most.draws in let l = few.more.losses in omega arith
   free_light (Err e) light = tt
 
-  pub free_put : (result : Result ⊤ Stopped) → OnOk result (IsGivenBack b x.view y.view) → OnOk result (y.view.gives ≡ x.view.gives → y.view.large ≡ x.view.large → RowBut (IsHeldOutside x.view b) light_free_costs x y) → OnOk result (IsPutBack b s.view y.view)
-  free_put (Ok r) given light = record { light = free_light (Ok r) light; given = at_state (λ v. IsGivenBack b v y.view) s x step.was given }
-  free_put (Err e) given light = tt
+  pub free_put : a.cuts ≡ 0 → (result : Result ⊤ Stopped) → OnOk result (IsGivenBack b x.view y.view) → OnOk result (y.view.gives ≡ x.view.gives → y.view.large ≡ x.view.large → RowBut (IsHeldOutside x.view b) light_free_costs x y) → OnOk result (IsPutBack b s.view y.view)
+  free_put none (Ok r) given light = record { light = free_light (Ok r) light; cuts = let most = passes.most.cuts in let more = passes.more.cuts in omega arith; given = at_state (λ v. IsGivenBack b v y.view) s x step.was given }
+  free_put none (Err e) given light = tt
 
 pub free_few : IsFew most_free_costs
 free_few = record { draws = omega arith; wins = omega arith; gives = omega arith; cuts = omega arith }

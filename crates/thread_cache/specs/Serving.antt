@@ -33,7 +33,8 @@ pub record IsTurnedAway (bytes : ℕ) (looks : Looks) (v w : View) : Type 0 wher
   pub for_class : (class : ℕ) → IsLeastClassFor bytes class → IsFull class looks v w × (of_class v.caches class ≡ [])
   pub for_span : largest_small < bytes → HasNoRoom (span_of bytes) looks v w
 
--- a freed block: one of a class went before those of its cache, which was flushed where it then had as many as a superblock, in one batch for each run; of a large one no superblock is claimed
+-- a freed block: one of a class went before those of its cache, which was flushed where it then had as many as a superblock, in one batch for each run; of a large one no superblock is claimed; nothing was cut
 pub record IsPutBack (b : Block) (v w : View) : Type 0 where
   pub light : IsLight v w
+  pub cuts : w.cuts ≡ v.cuts
   pub given : IsGivenBack b v w

@@ -30,7 +30,7 @@ pub returns-clause-ok : goal.returns-clause-ok
 returns-clause-ok g c = free_ok c.args.b c.args.self.now c.self.inside.seat c.free-answer.new.seat _ (large_step _ c.args.self.now c.self.view_is c.self.inside.seat c.free-answer.new.seat refl refl c.has_a_sound_state-2.ensures c.in_ok-check_running.ensures.ok) c.has_a_sound_state.ensures c.free-answer.ensures.drew c.free-answer.ensures.row (record { count = ap (λ (s : CacheState). s.refusals) c.self.view_is; bytes = ap (λ (s : CacheState). s.refused_bytes) c.self.view_is; looks = ap (λ (s : CacheState). s.refused_looks) c.self.view_is }) c.free-answer.result c.free-answer.ensures.freed
 
 pub returns-clause-given : goal.returns-clause-given
-returns-clause-given g c = free_put c.args.b c.args.self.now c.self.inside.seat c.free-answer.new.seat _ (large_step _ c.args.self.now c.self.view_is c.self.inside.seat c.free-answer.new.seat refl refl c.has_a_sound_state-2.ensures c.in_ok-check_running.ensures.ok) c.has_a_sound_state.ensures c.free-answer.ensures.drew c.free-answer.ensures.row (record { count = ap (λ (s : CacheState). s.refusals) c.self.view_is; bytes = ap (λ (s : CacheState). s.refused_bytes) c.self.view_is; looks = ap (λ (s : CacheState). s.refused_looks) c.self.view_is }) c.free-answer.result c.free-answer.ensures.freed c.free-answer.ensures.light
+returns-clause-given g c = free_put c.args.b c.args.self.now c.self.inside.seat c.free-answer.new.seat _ (large_step _ c.args.self.now c.self.view_is c.self.inside.seat c.free-answer.new.seat refl refl c.has_a_sound_state-2.ensures c.in_ok-check_running.ensures.ok) c.has_a_sound_state.ensures c.free-answer.ensures.drew c.free-answer.ensures.row (record { count = ap (λ (s : CacheState). s.refusals) c.self.view_is; bytes = ap (λ (s : CacheState). s.refused_bytes) c.self.view_is; looks = ap (λ (s : CacheState). s.refused_looks) c.self.view_is }) refl c.free-answer.result c.free-answer.ensures.freed c.free-answer.ensures.light
 
 pub returns-clause-others : goal.returns-clause-others
 returns-clause-others g c = free_others c.args.b c.args.self.now c.self.inside.seat c.free-answer.new.seat _ (large_step _ c.args.self.now c.self.view_is c.self.inside.seat c.free-answer.new.seat refl refl c.has_a_sound_state-2.ensures c.in_ok-check_running.ensures.ok) c.has_a_sound_state.ensures c.free-answer.ensures.drew c.free-answer.ensures.row (record { count = ap (λ (s : CacheState). s.refusals) c.self.view_is; bytes = ap (λ (s : CacheState). s.refused_bytes) c.self.view_is; looks = ap (λ (s : CacheState). s.refused_looks) c.self.view_is }) c.free-answer.ensures.may
