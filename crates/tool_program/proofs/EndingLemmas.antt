@@ -1,13 +1,16 @@
 -- The status of a call of the tool, by equal words, and where memory ran out before there were words.
-use Rattle.std.proofs.Common.{◌≡◌, ℕ, List, inr, lit<, refl, sym, subst, arith}
+use Rattle.std.proofs.Common.{◌≡◌, ℕ, ◌+◌, List, Option, inr, lit<, refl, sym, subst, arith}
+use Rattle.tool_ports.specs.Left.{GivesAtMost}
 use Rattle.tool_run.specs.Lines.{memory_line}
+use Rattle.tool_run.specs.Making.{longest_trace}
 use Rattle.tool_run.specs.Status.{out_of_memory}
+use Rattle.tool_run.proofs.ReadingLemmas.{none_taken}
 use Rattle.tool_program.specs.Ending.{Seen, IsTold, IsStatusOf}
 
--- it was told, and nothing was put
-pub told_memory : (words : List (List ℕ)) (old new : Seen) (status : ℕ) → status ≡ out_of_memory → new.contents ≡ old.contents → IsTold old new memory_line
-    → IsStatusOf words old new status
-told_memory words old new status is same told = subst (λ (s : ℕ). IsStatusOf words old new s) (sym is) (record {
+-- it was told, and nothing was put or read
+pub told_memory : (words : List (List ℕ)) (old new : Seen) (status : ℕ) → status ≡ out_of_memory → new.contents ≡ old.contents → new.left ≡ old.left → new.source_faults ≡ old.source_faults
+    → IsTold old new memory_line → IsStatusOf words old new status
+told_memory words old new status is same unread steady told = subst (λ (s : ℕ). IsStatusOf words old new s) (sym is) (record {
   known = (2, lit< tt, refl);
   ok = λ e. absurd (omega (arith, e));
   no_command = λ e. absurd (omega (arith, e));
@@ -20,6 +23,8 @@ told_memory words old new status is same told = subst (λ (s : ℕ). IsStatusOf 
   bad_line = λ e. absurd (omega (arith, e));
   line = told;
   unchanged = λ leaves. same;
+  read_at_most = subst (λ (left : Option (List ℕ)). GivesAtMost (longest_trace + 1) old.left left) (sym unread) (none_taken (longest_trace + 1) old.left);
+  no_failed_read = λ other. steady;
   always_usage = λ asks. inr refl;
   complete = λ command asks can store source sink. inr refl;
 })

@@ -1,10 +1,11 @@
 -- What the program's status says of the words, and of what its store, source and sink tell.
-use Rattle.std.specs.Prelude.{◌≡◌, ◌⊎◌, ℕ, List, Option, IfSome, Contains}
+use Rattle.std.specs.Prelude.{◌≡◌, ◌≢◌, ◌⊎◌, ℕ, ◌+◌, List, Option, IfSome, Contains}
 use Rattle.tool_ports.specs.Causes.{Rose}
 use Rattle.tool_ports.specs.Contents.{Contents}
+use Rattle.tool_ports.specs.Left.{GivesAtMost}
 use Rattle.tool_command.specs.Command.{Command, Asks, IsUsage}
 use Rattle.tool_run.specs.Lines.{Tells}
-use Rattle.tool_run.specs.Making.{ReadsSource}
+use Rattle.tool_run.specs.Making.{ReadsSource, longest_trace}
 use Rattle.tool_run.specs.Outcome.{IsDone, IsReadFault, IsWriteFault, IsAbsent, IsBadHeader, IsOutsideAt, IsBadShardAt, IsBadTrace, CanBeDone}
 use Rattle.tool_run.specs.Status.{done, usage, out_of_memory, read_fault, write_fault, no_image, bad_header, outside, bad_shard, bad_trace, statuses, LeavesStore, own_line}
 
@@ -28,8 +29,8 @@ StoreFailed old new = Rose old.store_faults new.store_faults
 abbrev pub SourceFailed : Seen → Seen → Type 0
 SourceFailed old new = Rose old.source_faults new.source_faults
 
--- The tool was run on the words, and this is its status: what each status says, and that nothing
--- but want of memory or a failure keeps it from a result that can be had.
+-- The tool was run on the words, and this is its status: what each status says, how the source was
+-- read, and that nothing but want of memory or a failure keeps it from a result that can be had.
 pub record IsStatusOf (words : List (List ℕ)) (old new : Seen) (status : ℕ) : Type 0 where
   pub known : Contains statuses status
   pub ok : status ≡ done → IsDone words old.contents new.contents old.left old.taken new.taken
@@ -44,6 +45,8 @@ pub record IsStatusOf (words : List (List ℕ)) (old new : Seen) (status : ℕ) 
   pub bad_line : status ≡ bad_trace → IsBadTrace words old.contents old.left (IsTold old new)
   pub line : IfSome (own_line status) (IsTold old new)
   pub unchanged : LeavesStore status → new.contents ≡ old.contents
+  pub read_at_most : GivesAtMost (longest_trace + 1) old.left new.left
+  pub no_failed_read : status ≢ read_fault → new.source_faults ≡ old.source_faults
   pub always_usage : IsUsage words → (status ≡ usage) ⊎ (status ≡ out_of_memory)
   pub complete : (command : Command) → Asks words command → CanBeDone command old.contents old.left
       → ¬ (StoreFailed old new) → (ReadsSource command → ¬ (SourceFailed old new)) → ¬ (Rose old.sink_faults new.sink_faults)

@@ -17,6 +17,7 @@ pub mod BadShardLemmas
 pub mod CompleteLemmas
 pub mod MapLemmas
 pub mod TraceLemmas
+pub mod ReadingLemmas
 pub mod BadTraceLemmas
 pub mod AbsentLemmas
 pub mod RebuildLemmas

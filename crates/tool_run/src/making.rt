@@ -1,13 +1,13 @@
 //! What each command makes, all of it before anything is put or printed.
-ghost use Rattle.std.specs.Prelude.{◌≡◌, ◌≤◌, ℕ, IfOk, IfErr, OnOk};
+ghost use Rattle.std.specs.Prelude.{◌≡◌, ◌≤◌, ◌+◌, ℕ, IfOk, IfErr, OnOk, IsErrOf};
 ghost use Rattle.tool_ports.specs.Calls.{with_get};
 ghost use Rattle.tool_ports.specs.Causes.{Rose};
 ghost use Rattle.tool_run.specs.Calls.{get_limit, with_making};
 ghost use Rattle.tool_command.specs.Invocations.{command_of};
 ghost use Rattle.tool_run.specs.Inside.{Refuses, RefusesEither, IsBeforeReading};
 ghost use Rattle.tool_command.specs.Command.{show_image, image_name};
-ghost use Rattle.tool_ports.specs.Left.{IsAtEnd};
-ghost use Rattle.tool_run.specs.Making.{Makes, RefusesOutside, ReadsSource, IsFormatted, Shows};
+ghost use Rattle.tool_ports.specs.Left.{IsAtEnd, GivesAtMost};
+ghost use Rattle.tool_run.specs.Making.{Makes, RefusesOutside, ReadsSource, IsFormatted, Shows, longest_trace};
 ghost use Rattle.tool_run.specs.Outcome.{HoldsOutside};
 
 use crate::conservative::tell_by_words;
@@ -52,6 +52,9 @@ pub fn make<R: Threads + Sync, I: ImageStore, T: Source, G: Gate + Sync, C: Chan
     ensures no_source { ¬ (ReadsSource (command_of command.entry)) → trace.new ≡ trace.old }
     ensures end { OnOk result (ReadsSource (command_of command.entry)
         → IsAtEnd (T.left trace.new)) }
+    ensures at_most { GivesAtMost (longest_trace + 1) (T.left trace.old) (T.left trace.new) }
+    ensures steady { ¬ (IsErrOf result Fault.ReadFault)
+        → T.faults trace.new ≡ T.faults trace.old }
     ensures unchanged { I.contents images.new ≡ I.contents images.old }
     ensures later { I.faults images.old ≤ I.faults images.new }
     ensures calls { I.calls images.new

@@ -1,13 +1,13 @@
 //! Replays the schedule that the source has left over a named image.
-ghost use Rattle.std.specs.Prelude.{◌≡◌, ◌≤◌, ℕ, List, IfOk, IfErr, OnOk};
+ghost use Rattle.std.specs.Prelude.{◌≡◌, ◌≤◌, ◌+◌, ℕ, List, IfOk, IfErr, OnOk, IsErrOf};
 ghost use Rattle.tool_ports.specs.Calls.{with_get};
 ghost use Rattle.tool_ports.specs.Causes.{Rose};
 ghost use Rattle.tool_ports.specs.Contents.{Contents};
-ghost use Rattle.tool_ports.specs.Left.{IsAtEnd};
+ghost use Rattle.tool_ports.specs.Left.{IsAtEnd, GivesAtMost};
 ghost use Rattle.tool_run.specs.Calls.{get_limit};
 ghost use Rattle.tool_command.specs.Command.{replay_image};
 ghost use Rattle.tool_run.specs.Inside.{RefusesEither, IsReplayFault, IsBeforeReading};
-ghost use Rattle.tool_run.specs.Making.{HasSchedule, ReplaysNamed};
+ghost use Rattle.tool_run.specs.Making.{HasSchedule, ReplaysNamed, longest_trace};
 ghost use Rattle.tool_run.specs.Outcome.{HoldsOutside};
 
 use crate::fault::Fault;
@@ -31,6 +31,9 @@ pub fn replay_named<I: ImageStore, T: Source, C: Chances>(
     ensures ok { IfOk result (λ product. (product.image ≡ None)
         × ReplaysNamed (I.contents images.old) (T.left source.old) name.now product.text) }
     ensures end { OnOk result (IsAtEnd (T.left source.new)) }
+    ensures at_most { GivesAtMost (longest_trace + 1) (T.left source.old) (T.left source.new) }
+    ensures steady { ¬ (IsErrOf result Fault.ReadFault)
+        → T.faults source.new ≡ T.faults source.old }
     ensures err { IfErr result (RefusesEither (replay_image name.now seed)
         (I.contents images.old) (T.left source.old)
         (Rose (I.faults images.old) (I.faults images.new))
@@ -53,6 +56,9 @@ pub fn replay_named<I: ImageStore, T: Source, C: Chances>(
 fn read_schedule<T: Source>(alloc: Global, source: &mut T) -> Result<Schedule, Fault>
     ensures ok { IfOk result (HasSchedule (T.left source.old)) }
     ensures end { OnOk result (IsAtEnd (T.left source.new)) }
+    ensures at_most { GivesAtMost (longest_trace + 1) (T.left source.old) (T.left source.new) }
+    ensures steady { ¬ (IsErrOf result Fault.ReadFault)
+        → T.faults source.new ≡ T.faults source.old }
     ensures err { IfErr result (λ fault. (contents : Contents) (name : List ℕ)
         → IsReplayFault contents (T.left source.old) name
         (Rose (T.faults source.old) (T.faults source.new)) fault) }

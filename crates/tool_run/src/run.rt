@@ -1,14 +1,14 @@
 //! The top call.
-ghost use Rattle.std.specs.Prelude.{◌≡◌, ◌≢◌, ◌⊎◌, ◌≤◌, Option, List, ℕ, OnOk, IfErr, IfSome, Contains};
+ghost use Rattle.std.specs.Prelude.{◌≡◌, ◌≢◌, ◌⊎◌, ◌≤◌, ◌+◌, Option, List, ℕ, OnOk, IfErr, IsErrOf, IfSome, Contains};
 ghost use Rattle.tool_ports.specs.Calls.{with_get, with_put};
 ghost use Rattle.tool_ports.specs.Causes.{Rose};
 ghost use Rattle.tool_ports.specs.Contents.{told_of};
-ghost use Rattle.tool_ports.specs.Left.{IsAtEnd};
+ghost use Rattle.tool_ports.specs.Left.{IsAtEnd, GivesAtMost};
 ghost use Rattle.tool_run.specs.Calls.{get_limit, with_command, with_status};
 ghost use Rattle.tool_command.specs.Command.{Command, Asks, AsksToFormat, AsksToGen, IsUsage, texts, image_name};
 ghost use Rattle.tool_command.specs.Invocations.{command_of};
 ghost use Rattle.tool_run.specs.Inside.{status_of, IsCarriedOut, IsStopped, IsBeforeReading};
-ghost use Rattle.tool_run.specs.Making.{RefusesOutside, ReadsSource, kinds_checked};
+ghost use Rattle.tool_run.specs.Making.{RefusesOutside, ReadsSource, kinds_checked, longest_trace};
 ghost use Rattle.tool_run.specs.Lines.{Tells, memory_line};
 ghost use Rattle.tool_run.specs.Outcome.{IsDone, IsReadFault, IsWriteFault, AsksToGet, AsksToLook, AsksToPutBack, AsksToRead, AsksForRun, AsksForReplay, AsksForSource, IsAbsent, IsBadHeader, IsOutsideAt, IsBadShardAt, IsBadTrace, HoldsMalformed, HoldsOutside, HoldsOutsideLeft, HoldsBadShard, HoldsGood, HoldsMaps, HoldsBadLine, HoldsBadStep, HoldsTooMuch, CanBeDone};
 ghost use Rattle.tool_run.specs.Status.{done, usage, out_of_memory, read_fault, write_fault, no_image, bad_header, outside, bad_shard, bad_trace, statuses, LeavesStore, IsBeforeTrace, own_line};
@@ -83,7 +83,8 @@ pub fn run_tool<R: Threads + Sync, I: ImageStore, T: Source, O: Sink, G: Gate + 
         (O.taken out.old) (O.taken out.new)) }
     ensures unchanged { LeavesStore result → I.contents images.new ≡ I.contents images.old }
 
-    // The source is read for a run or a replay alone, once its image is good, and then to its end.
+    // The source is read for a run or a replay alone, once its image is good, and then to its end;
+    // at most one byte more is taken than a trace may have, and no failed read is passed over.
     ensures unread { ((name : List ℕ) → ¬ (AsksForSource (texts words.now) name))
         → trace.new ≡ trace.old }
     ensures not_yet_read { IsBeforeTrace result
@@ -94,6 +95,8 @@ pub fn run_tool<R: Threads + Sync, I: ImageStore, T: Source, O: Sink, G: Gate + 
         → RefusesOutside asks.command has.bytes → trace.new ≡ trace.old }
     ensures read_to_the_end { (name : List ℕ) → AsksForSource (texts words.now) name
         → result ≡ done → IsAtEnd (T.left trace.new) }
+    ensures read_at_most { GivesAtMost (longest_trace + 1) (T.left trace.old) (T.left trace.new) }
+    ensures no_failed_read { result ≢ read_fault → T.faults trace.new ≡ T.faults trace.old }
 
     // How often the store is called: not at all, or for one get, for one put, or for both.
     ensures no_call { IsUsage (texts words.now) → I.calls images.new ≡ I.calls images.old }
@@ -200,6 +203,9 @@ fn carry_out<R: Threads + Sync, I: ImageStore, T: Source, O: Sink, G: Gate + Syn
     ensures no_source { ¬ (ReadsSource (command_of command.entry)) → trace.new ≡ trace.old }
     ensures end { OnOk result (ReadsSource (command_of command.entry)
         → IsAtEnd (T.left trace.new)) }
+    ensures at_most { GivesAtMost (longest_trace + 1) (T.left trace.old) (T.left trace.new) }
+    ensures steady { ¬ (IsErrOf result Fault.ReadFault)
+        → T.faults trace.new ≡ T.faults trace.old }
     ensures later_store { I.faults images.old ≤ I.faults images.new }
     ensures later_sink { O.faults out.old ≤ O.faults out.new }
     ensures calls { OnOk result

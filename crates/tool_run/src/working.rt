@@ -1,9 +1,9 @@
 //! Runs the trace that the source has left over a named image.
-ghost use Rattle.std.specs.Prelude.{◌≡◌, ◌≤◌, ℕ, IfOk, IfErr, OnOk};
+ghost use Rattle.std.specs.Prelude.{◌≡◌, ◌≤◌, ◌+◌, ℕ, IfOk, IfErr, OnOk, IsErrOf};
 ghost use Rattle.image_run.specs.Running.{options_of};
 ghost use Rattle.tool_ports.specs.Calls.{with_get};
 ghost use Rattle.tool_ports.specs.Causes.{Rose};
-ghost use Rattle.tool_ports.specs.Left.{IsAtEnd};
+ghost use Rattle.tool_ports.specs.Left.{IsAtEnd, GivesAtMost};
 ghost use Rattle.tool_run.specs.Calls.{get_limit};
 ghost use Rattle.tool_command.specs.Command.{Command, run_image, image_name};
 ghost use Rattle.tool_run.specs.Inside.{Refuses, RefusesEither, IsTraceFault, IsTraceLeft, IsBeforeReading};
@@ -38,6 +38,9 @@ pub fn work_named<R: Threads + Sync, I: ImageStore, T: Source, G: Gate + Sync, C
     ensures ok { IfOk result (λ product. RunsTrace (I.contents images.old) (T.left trace.old)
         name.now (options_of options) product.image product.text) }
     ensures end { OnOk result (IsAtEnd (T.left trace.new)) }
+    ensures at_most { GivesAtMost (longest_trace + 1) (T.left trace.old) (T.left trace.new) }
+    ensures steady { ¬ (IsErrOf result Fault.ReadFault)
+        → T.faults trace.new ≡ T.faults trace.old }
     ensures err { IfErr result (RefusesEither (run_image name.now (options_of options))
         (I.contents images.old) (T.left trace.old)
         (Rose (I.faults images.old) (I.faults images.new))
@@ -81,6 +84,9 @@ fn mapped_heap<I: ImageStore>(
 fn read_trace<T: Source>(alloc: Global, trace: &mut T) -> Result<Vec<Request>, Fault>
     ensures ok { IfOk result (λ requests. IsTraceLeft (T.left trace.old) requests.items) }
     ensures end { OnOk result (IsAtEnd (T.left trace.new)) }
+    ensures at_most { GivesAtMost (longest_trace + 1) (T.left trace.old) (T.left trace.new) }
+    ensures steady { ¬ (IsErrOf result Fault.ReadFault)
+        → T.faults trace.new ≡ T.faults trace.old }
     ensures err { IfErr result
         (IsTraceFault (T.left trace.old) (Rose (T.faults trace.old) (T.faults trace.new))) }
 {

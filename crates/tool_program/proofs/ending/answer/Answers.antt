@@ -19,9 +19,11 @@ returns-in-Ok-clause-status g c =
       bad_line = did.bad_trace;
       line = did.line;
       unchanged = did.unchanged;
+      read_at_most = did.read_at_most;
+      no_failed_read = did.no_failed_read;
       always_usage = did.always_usage;
       complete = did.complete;
     })
 
 pub returns-in-Err-clause-status : goal.returns-in-Err-clause-status
-returns-in-Err-clause-status g c = told_memory _ _ _ _ c.tell_out_of_memory.ensures.status refl c.tell_out_of_memory.ensures.line
+returns-in-Err-clause-status g c = told_memory _ _ _ _ c.tell_out_of_memory.ensures.status refl refl refl c.tell_out_of_memory.ensures.line

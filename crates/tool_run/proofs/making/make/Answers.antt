@@ -7,6 +7,7 @@ use Rattle.tool_ports.specs.Causes.{Rose}
 use Rattle.tool_run.specs.Inside.{RefusesEither}
 use Rattle.tool_run.specs.Outcome.{HoldsOutside}
 use Rattle.tool_run.proofs.CallLemmas.{refused_by_image}
+use Rattle.tool_run.proofs.ReadingLemmas.{none_taken}
 use Rattle.tool_run.proofs.making.make.Goals as goal
 
 pub returns-in-Run-clause-image_first : goal.returns-in-Run-clause-image_first
@@ -29,3 +30,30 @@ returns-in-Count-clause-err g c =
     (IfErr-weaker c.count_named.result _ _
     (λ fault why. refused_by_image (count_image c.in-Count.image.now c.in-Count.with_map) contents left got read fault fault refl why)
     c.count_named.ensures.err)
+
+pub returns-in_err-empty_image-in-Format-clause-at_most : goal.returns-in_err-empty_image-in-Format-clause-at_most
+returns-in_err-empty_image-in-Format-clause-at_most g c = none_taken _ _
+
+pub returns-in_ok-empty_image-in-Format-clause-at_most : goal.returns-in_ok-empty_image-in-Format-clause-at_most
+returns-in_ok-empty_image-in-Format-clause-at_most g c = none_taken _ _
+
+pub returns-in-Show-clause-at_most : goal.returns-in-Show-clause-at_most
+returns-in-Show-clause-at_most g c = none_taken _ _
+
+pub returns-in-Drain-clause-at_most : goal.returns-in-Drain-clause-at_most
+returns-in-Drain-clause-at_most g c = none_taken _ _
+
+pub returns-in_err-generate-in-Gen-clause-at_most : goal.returns-in_err-generate-in-Gen-clause-at_most
+returns-in_err-generate-in-Gen-clause-at_most g c = none_taken _ _
+
+pub returns-in_ok-generate-in-Gen-clause-at_most : goal.returns-in_ok-generate-in-Gen-clause-at_most
+returns-in_ok-generate-in-Gen-clause-at_most g c = none_taken _ _
+
+pub returns-in-Rebuild-clause-at_most : goal.returns-in-Rebuild-clause-at_most
+returns-in-Rebuild-clause-at_most g c = none_taken _ _
+
+pub returns-in-Conservative-clause-at_most : goal.returns-in-Conservative-clause-at_most
+returns-in-Conservative-clause-at_most g c = none_taken _ _
+
+pub returns-in-Count-clause-at_most : goal.returns-in-Count-clause-at_most
+returns-in-Count-clause-at_most g c = none_taken _ _

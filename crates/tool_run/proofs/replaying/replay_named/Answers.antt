@@ -1,9 +1,11 @@
 use Rattle.std.proofs.Common.{refl, subst}
 use Rattle.tool_run.specs.Inside.{IsBeforeReading}
+use Rattle.tool_run.specs.declared.fault.Fault.TheVariants.{ReadFault}
 use Rattle.tool_command.specs.Command.{replay_image}
 use Rattle.tool_run.proofs.CallLemmas.{refused_by_image}
 use Rattle.tool_run.proofs.DeliveryLemmas.{at_cause}
 use Rattle.tool_run.proofs.OutsideLemmas.{good_inside}
+use Rattle.tool_run.proofs.ReadingLemmas.{none_taken, not_err, stands}
 use Rattle.tool_run.proofs.ReplayLemmas.{can_be_replayed, heap_of, was_read, refused_later, replay_fault}
 use Rattle.tool_run.proofs.replaying.replay_named.Goals as goal
 
@@ -71,3 +73,16 @@ pub returns-clause-image_first : goal.returns-clause-image_first
 returns-clause-image_first g c at has =
     let heap = heap_of (g.I.ImageStore.contents c.args.images.now) c.args.name.now c.in_ok-recovered.recovered c.in_ok-recovered.ensures.ok in
     absurd (good_inside (g.I.ImageStore.contents c.args.images.now) c.args.name.now c.args.name.now at refl heap.image has)
+
+pub returns-in_err-recovered-clause-at_most : goal.returns-in_err-recovered-clause-at_most
+returns-in_err-recovered-clause-at_most g c = none_taken _ _
+
+pub returns-in_err-schedule-clause-steady : goal.returns-in_err-schedule-clause-steady
+returns-in_err-schedule-clause-steady g c =
+    stands _ _ _ c.from_residual-in_err-schedule.result c.in_err-schedule.field-0.0 ReadFault c.from_residual-in_err-schedule.ensures (λ fault is. is) c.in_err-schedule.ensures.steady
+
+pub returns-in_err-product-clause-steady : goal.returns-in_err-product-clause-steady
+returns-in_err-product-clause-steady g c other = c.in_ok-schedule.ensures.steady (not_err _ _)
+
+pub returns-clause-steady : goal.returns-clause-steady
+returns-clause-steady g c other = c.in_ok-schedule.ensures.steady (not_err _ _)

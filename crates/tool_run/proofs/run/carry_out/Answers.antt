@@ -1,4 +1,6 @@
 use Rattle.tool_run.proofs.CallLemmas.{stops_at_delivery, if_error, calls_done, calls_undelivered}
+use Rattle.tool_run.proofs.ReadingLemmas.{not_err, stands}
+use Rattle.tool_run.specs.declared.fault.Fault.TheVariants.{ReadFault}
 use Rattle.tool_run.proofs.run.carry_out.Goals as goal
 
 pub returns-clause-err : goal.returns-clause-err
@@ -13,3 +15,10 @@ returns-clause-calls g c =
 pub returns-clause-calls_err : goal.returns-clause-calls_err
 returns-clause-calls_err g c =
     calls_undelivered _ _ _ _ _ _ _ _ c.in_ok-product.ensures.ok c.make.ensures.calls _ _ _ _ _ _ _ c.deliver.result c.deliver.ensures.err c.deliver.ensures.put c.deliver.ensures.not_put
+
+pub returns-in_err-product-clause-steady : goal.returns-in_err-product-clause-steady
+returns-in_err-product-clause-steady g c =
+    stands _ _ _ c.from_residual.result c.in_err-product.field-0.0 ReadFault c.from_residual.ensures (λ fault is. is) c.in_err-product.ensures.steady
+
+pub returns-clause-steady : goal.returns-clause-steady
+returns-clause-steady g c other = c.in_ok-product.ensures.steady (not_err _ _)

@@ -1,6 +1,7 @@
 use Rattle.tool_run.proofs.StatusLemmas.{has_status, is_read_fault, is_write_fault, is_bad_header, is_outside, is_bad_shard, is_absent, is_bad_trace, is_own_line, for_source, before_reading}
 use Rattle.std.proofs.Common.{arith, rules}
 use Rattle.tool_run.proofs.CallLemmas.{rose_since}
+use Rattle.tool_run.proofs.ReadingLemmas.{none_taken, not_err, not_read_fault}
 use Rattle.tool_run.proofs.PutBackLemmas.{put_once, looked_once, got_alone}
 use Rattle.tool_run.proofs.AbsentLemmas.{stops_absent, not_done_absent}
 use Rattle.tool_run.proofs.BadTraceLemmas.{stops_bad_line, stops_too_long, done_bad_line, done_too_long}
@@ -175,3 +176,16 @@ returns-in-Ok-carry_out-clause-image_first g c = where_asked _ _ _ _ c.in-Ok.ens
 
 pub returns-in-Err-clause-image_first : goal.returns-in-Err-clause-image_first
 returns-in-Err-clause-image_first g c = where_asked _ _ _ _ c.in-Ok.ensures.ok c.carry_out.ensures.image_first
+
+pub returns-in-Err-Usage-clause-read_at_most : goal.returns-in-Err-Usage-clause-read_at_most
+returns-in-Err-Usage-clause-read_at_most g c = none_taken _ _
+
+pub returns-in-Err-Memory-clause-read_at_most : goal.returns-in-Err-Memory-clause-read_at_most
+returns-in-Err-Memory-clause-read_at_most g c = none_taken _ _
+
+pub returns-in-Ok-carry_out-clause-no_failed_read : goal.returns-in-Ok-carry_out-clause-no_failed_read
+returns-in-Ok-carry_out-clause-no_failed_read g c other = c.in-Ok-carry_out.ensures.steady (not_err _ _)
+
+pub returns-in-Err-clause-no_failed_read : goal.returns-in-Err-clause-no_failed_read
+returns-in-Err-clause-no_failed_read g c other =
+    c.in-Err.ensures.steady (not_read_fault _ _ c.in-Err.fault c.tell-in-Err.ensures.status other)

@@ -2,9 +2,11 @@ use Rattle.std.proofs.Common.{List, IsSomeAnd, refl, sym, subst, slice_index}
 use Rattle.image_run.specs.Running.{RunsRequests, options_of}
 use Rattle.tool_command.specs.Command.{run_image}
 use Rattle.worker_run.specs.Said.{Line, requests_of, ValuesAreShort}
+use Rattle.tool_run.specs.declared.fault.Fault.TheVariants.{ReadFault}
 use Rattle.tool_run.proofs.CallLemmas.{refused_by_image}
 use Rattle.tool_run.proofs.DeliveryLemmas.{at_cause}
 use Rattle.tool_run.proofs.OutsideLemmas.{mapped_inside}
+use Rattle.tool_run.proofs.ReadingLemmas.{none_taken, not_err, stands}
 use Rattle.tool_run.proofs.TraceLemmas.{runs_trace}
 use Rattle.worker_run.proofs.SaidLemmas.{lines_short}
 use Rattle.tool_run.proofs.working.work_named.Goals as goal
@@ -35,3 +37,16 @@ returns-in_err-product-clause-image_first g c at has = absurd (mapped_inside (g.
 
 pub returns-clause-image_first : goal.returns-clause-image_first
 returns-clause-image_first g c at has = absurd (mapped_inside (g.I.ImageStore.contents c.args.images.now) c.args.name.now c.args.name.now at refl c.in_ok-mapped.ensures.ok.image has)
+
+pub returns-in_err-mapped-clause-at_most : goal.returns-in_err-mapped-clause-at_most
+returns-in_err-mapped-clause-at_most g c = none_taken _ _
+
+pub returns-in_err-requests-clause-steady : goal.returns-in_err-requests-clause-steady
+returns-in_err-requests-clause-steady g c =
+    stands _ _ _ c.from_residual-in_err-requests.result c.in_err-requests.field-0.0 ReadFault c.from_residual-in_err-requests.ensures (λ fault is. is) c.in_err-requests.ensures.steady
+
+pub returns-in_err-product-clause-steady : goal.returns-in_err-product-clause-steady
+returns-in_err-product-clause-steady g c other = c.in_ok-requests.ensures.steady (not_err _ _)
+
+pub returns-clause-steady : goal.returns-clause-steady
+returns-clause-steady g c other = c.in_ok-requests.ensures.steady (not_err _ _)
