@@ -16,6 +16,7 @@ pub mod LongestLemmas
 mod KeyLemmas
 pub mod WrittenLemmas
 pub mod EventLemmas
+pub mod SizeLemmas
 pub mod StepLemmas
 pub mod ScheduleLemmas
 mod OutsideExamples

@@ -1,4 +1,5 @@
 pub mod Report
+pub mod Sizes
 pub mod Keys
 pub mod Shown
 pub mod Recovered

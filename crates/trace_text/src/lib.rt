@@ -16,6 +16,7 @@ mod reply;
 mod report;
 mod request;
 mod schedule;
+mod sizes;
 mod step;
 mod trace;
 mod value;

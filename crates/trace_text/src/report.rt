@@ -5,8 +5,10 @@ ghost use Rattle.std.specs.List.{flat_map, range_with_len};
 ghost use Rattle.heap_model.specs.Geometry.{largest_capacity, superblock_words};
 ghost use Rattle.trace_text.specs.Report.{classes, heap_line_of, count_of, count_line, class_line, large_line};
 ghost use Rattle.trace_text.specs.Keys.{IsReport, WritesKeys};
+ghost use Rattle.trace_text.specs.Sizes.{CountAlike};
 
 use crate::keys::write_keys;
+use crate::sizes::{SizeRun, count_in, size_runs};
 use region_header::Bytes;
 use size_table::{SizeClass, size_of};
 use std::alloc::{AllocError, Global};
@@ -38,7 +40,7 @@ pub(crate) fn report_of_blocks(
     let mut text = String::new(alloc);
     write_heap_line(&mut text, capacity, clean)?;
     write_maps(&mut text, maps, sum)?;
-    write_class_lines(&mut text, held)?;
+    write_class_lines(alloc, &mut text, held)?;
     write_large_lines(alloc, &mut text, held, capacity)?;
     Ok(Bytes::from_vec(text.into_bytes()))
 }
@@ -77,22 +79,30 @@ fn large_blocks(alloc: Global, held: &[Block]) -> Result<Vec<Block>, AllocError>
         .collect(alloc)
 }
 
-fn write_class_lines(text: &mut String, held: &[Block]) -> Result<(), AllocError>
+fn write_class_lines(alloc: Global, text: &mut String, held: &[Block]) -> Result<(), AllocError>
     ensures ok { OnOk result (string_bytes text.new
         ≡ string_bytes text.old ++ flat_map (class_line held.now) classes) }
 {
+    let runs = size_runs(alloc, held)?;
     for class in 1..=LAST_CLASS as u8 {
-        write_class_line(text, held, SizeClass::new(class))?;
+        write_class_line(text, held, &runs, SizeClass::new(class))?;
     }
     Ok(())
 }
 
-fn write_class_line(text: &mut String, held: &[Block], class: SizeClass) -> Result<(), AllocError>
+/// The line of a class, of held blocks that are counted in these runs.
+fn write_class_line(
+    text: &mut String,
+    _held: &[Block],
+    runs: &[SizeRun],
+    class: SizeClass,
+) -> Result<(), AllocError>
+    requires counted { CountAlike _held.now runs.now }
     ensures ok { OnOk result
-        (string_bytes text.new ≡ string_bytes text.old ++ class_line held.now class.number) }
+        (string_bytes text.new ≡ string_bytes text.old ++ class_line _held.now class.number) }
 {
     let bytes = size_of(class.number);
-    let count = count_of(held, block_words(class));
+    let count = count_in(runs, block_words(class));
     if count == 0 {
         return Ok(());
     }
