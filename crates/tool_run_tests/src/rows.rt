@@ -1,11 +1,14 @@
-//! Traces worked off to their end: the replies, the report, and the image that is left.
+//! Traces worked off to their end, with so many workers in place of N: the replies, the report, and
+//! the image that is left. A map is told where all keys are of one shard: its worker alone takes
+//! superblocks, and the others take no step.
 use crate::session::{Table, plays};
+use crate::workers::{BY_EIGHT, BY_ONE, BY_TWO};
 use std::test::Fail;
 
 const ANSWERED: &str = "
 $ format h 4
 > formatted 4 bytes 279104
-$ run h --workers 1 --map
+$ run h --workers N --map
 < put 5 6162
 < get 5
 < del 5
@@ -22,7 +25,7 @@ $ run h --workers 1 --map
 > sb 1 free
 $ format h 4
 > formatted 4 bytes 279104
-$ run --map h --stop 32768 --workers=1
+$ run --map h --stop 32768 --workers=N
 < put 5 6162
 < get 5
 < del 5
@@ -39,26 +42,26 @@ $ run --map h --stop 32768 --workers=1
 > sb 1 free
 $ format h 1
 > formatted 1 bytes 82304
-$ run h --workers 1
+$ run h --workers N
 < put 1 0102030405060708
 > full
 > run closed
 > heap 1 clean
 > held 1024 1
-$ run h --workers 1
+$ run h --workers N
 > run closed
 > heap 1 clean
 > held 1024 1
 $ format h 1
 > formatted 1 bytes 82304
-$ run h --workers 1
+$ run h --workers N
 < put 1 aa
 < get 1
 < put 5 abc
 <
 = 10
 > bad trace line 3
-$ run h --workers 1
+$ run h --workers N
 > run closed
 > heap 1 clean
 $ run h --workers 9
@@ -76,7 +79,7 @@ $ show none.img
 const REFUSED: &str = "
 $ format h 4
 > formatted 4 bytes 279104
-$ run h --workers 1 --map
+$ run h --workers N --map
 < put 5 6162
 < get 5
 < del 5
@@ -91,7 +94,7 @@ $ run h --workers 1 --map
 > used 2 free 1 fresh 2
 > sb 0 class 12 held 0
 > sb 1 free
-$ run --sum h --workers=1 --seed 18446744073709551615
+$ run --sum h --workers=N --seed 18446744073709551615
 < put 5 6162
 <
 > requests 1 ok 1 none 0 value 0 full 0 unanswered 0
@@ -100,7 +103,7 @@ $ run --sum h --workers=1 --seed 18446744073709551615
 > keys 1 bytes 2
 > held 32 1
 > held 1024 1
-$ run h --workers 1 --stop 0
+$ run h --workers N --stop 0
 < del 5
 <
 > unanswered
@@ -109,23 +112,23 @@ $ run h --workers 1 --stop 0
 > key 5 6162
 > held 32 1
 > held 1024 1
-$ run h --workers 1
+$ run h --workers N
 < put 1 aa
 < get 1
 < put 5 abc
 = 10
 > bad trace line 3
-$ run none --workers 1
+$ run none --workers N
 < put
 = 6
 > no image none
 $ run h --workers 0
 = 2
 > usage
-$ run h --workers 1 --workers 1
+$ run h --workers N --workers N
 = 2
 > usage
-$ run h --workers 1 --stop 1099511627776
+$ run h --workers N --stop 1099511627776
 = 2
 > usage
 $ show h
@@ -139,7 +142,7 @@ $ show h
 const GONE_ON_WITH: &str = "
 $ format h 4
 > formatted 4 bytes 279104
-$ run h --workers 1
+$ run h --workers N
 < put 5 6162
 > ok
 > run closed
@@ -147,7 +150,7 @@ $ run h --workers 1
 > key 5 6162
 > held 32 1
 > held 1024 1
-$ run h --workers 1 --stop 0
+$ run h --workers N --stop 0
 < del 5
 > unanswered
 > run stopped
@@ -155,7 +158,7 @@ $ run h --workers 1 --stop 0
 > key 5 6162
 > held 32 1
 > held 1024 1
-$ run h --workers 1
+$ run h --workers N
 < del 5
 > ok
 > run closed
@@ -168,7 +171,7 @@ $ run h --workers 1
 const LAST_BUCKET: &str = "
 $ format h 2
 > formatted 2 bytes 147904
-$ run h --workers 1
+$ run h --workers N
 < put 18446744073709551615 -
 < get 18446744073709551615
 <
@@ -187,7 +190,7 @@ $ run h --workers 1
 const LONG: &str = "
 $ format h 4
 > formatted 4 bytes 279104
-$ run h --workers 1 --sum --map
+$ run h --workers N --sum --map
 <0 1 65513
 <
 > requests 1 ok 1 none 0 value 0 full 0 unanswered 0
@@ -202,7 +205,7 @@ $ run h --workers 1 --sum --map
 > sb 2 inside 1
 $ format h 4
 > formatted 4 bytes 279104
-$ run h --workers 1 --sum --map
+$ run h --workers N --sum --map
 <0 1 65513
 < del 1
 <0 1 131072
@@ -222,7 +225,7 @@ $ run h --workers 1 --sum --map
 const OTHER_CLASS: &str = "
 $ format h 2
 > formatted 2 bytes 147904
-$ run h --workers 1 --map
+$ run h --workers N --map
 <0 0 14312
 <0 8 14312
 <0 16 14312
@@ -256,7 +259,7 @@ $ run h --workers 1 --map
 const FIFTH_REFUSED: &str = "
 $ format h 2
 > formatted 2 bytes 147904
-$ run h --workers 1 --sum
+$ run h --workers N --sum
 <0 0 14312
 <0 8 14312
 <0 16 14312
@@ -273,6 +276,8 @@ $ run h --workers 1 --sum
 > held 14336 4
 ";
 
+/// Its puts are to two shards, whose workers find room for a table and a node each in four
+/// superblocks, whichever comes first.
 const GENERATED: &str = "
 $ gen 4 0
 > put 0 -
@@ -296,7 +301,7 @@ $ gen 1
 > usage
 $ format h 4
 > formatted 4 bytes 279104
-$ run h --workers 1 --sum
+$ run h --workers N --sum
 < put 0 -
 < put 2531 3738393a3b3c3d3e3f404142434445464748494a4b4c4d4e
 < get 966
@@ -313,7 +318,8 @@ $ format h 8
 > formatted 8 bytes 541504
 ";
 
-/// A made trace is run.
+/// A made trace is run. Its map is told of one worker alone: of several each takes superblocks of
+/// its own, as they come.
 const EIGHT: &str = "
 $ gen 8 1
 > put 61 d1d2d3d4d5d6d7d8d9dadbdcdddedfe0e1e2e3e4e5e6e7e8e9eaebecedeeeff0f1f2f3f4f5f6f7f8f9fafbfcfdfeff000102030405060708090a0b0c
@@ -327,7 +333,28 @@ $ gen 8 1
 $ format h 8
 > formatted 8 bytes 541504
 $ run h --workers 1 --sum --map
-< put 61 d1d2d3d4d5d6d7d8d9dadbdcdddedfe0e1e2e3e4e5e6e7e8e9eaebecedeeeff0f1f2f3f4f5f6f7f8f9fafbfcfdfeff000102030405060708090a0b0c
+TRACE
+TOLD
+> used 3 free 0 fresh 5
+> sb 0 class 12 held 0-3
+> sb 1 class 5 held 0-1
+> sb 2 class 6 held 0-1
+$ format h 8
+> formatted 8 bytes 541504
+$ run h --workers 2 --sum
+TRACE
+TOLD
+$ format h 8
+> formatted 8 bytes 541504
+$ run h --workers 8 --sum
+TRACE
+TOLD
+";
+
+const MADE: [(&str, &str); 2] = [
+    (
+        "TRACE",
+        "< put 61 d1d2d3d4d5d6d7d8d9dadbdcdddedfe0e1e2e3e4e5e6e7e8e9eaebecedeeeff0f1f2f3f4f5f6f7f8f9fafbfcfdfeff000102030405060708090a0b0c
 < put 2592 08090a0b0c0d0e0f101112131415161718191a1b1c1d1e1f202122232425262728292a2b2c2d2e2f303132333435363738393a3b3c3d3e3f404142434445464748494a4b4c4d4e4f505152535455565758595a5b
 < get 1027
 < del 3559
@@ -335,30 +362,46 @@ $ run h --workers 1 --sum --map
 < put 430 e4e5e6e7e8e9eaebecedeeeff0f1f2f3f4f5f6f7f8f9fafbfcfdfeff000102030405060708090a0b0c0d0e0f101112131415161718191a1b1c1d1e1f202122232425262728292a2b
 < get 2961
 < del 1397
-<
-> requests 8 ok 4 none 4 value 0 full 0 unanswered 0
+<",
+    ),
+    (
+        "TOLD",
+        "> requests 8 ok 4 none 4 value 0 full 0 unanswered 0
 > run closed
 > heap 8 clean
 > keys 4 bytes 300
 > held 96 2
 > held 128 2
-> held 1024 4
-> used 3 free 0 fresh 5
-> sb 0 class 12 held 0-3
-> sb 1 class 5 held 0-1
-> sb 2 class 6 held 0-1
-";
+> held 1024 4",
+    ),
+];
 
-const TABLES: [Table; 9] = [
-    (ANSWERED, &[]),
-    (REFUSED, &[]),
-    (GONE_ON_WITH, &[]),
-    (LAST_BUCKET, &[]),
-    (LONG, &[]),
-    (OTHER_CLASS, &[]),
-    (FIFTH_REFUSED, &[]),
-    (GENERATED, &[]),
-    (EIGHT, &[]),
+const TABLES: [Table; 25] = [
+    (ANSWERED, &BY_ONE),
+    (ANSWERED, &BY_TWO),
+    (ANSWERED, &BY_EIGHT),
+    (REFUSED, &BY_ONE),
+    (REFUSED, &BY_TWO),
+    (REFUSED, &BY_EIGHT),
+    (GONE_ON_WITH, &BY_ONE),
+    (GONE_ON_WITH, &BY_TWO),
+    (GONE_ON_WITH, &BY_EIGHT),
+    (LAST_BUCKET, &BY_ONE),
+    (LAST_BUCKET, &BY_TWO),
+    (LAST_BUCKET, &BY_EIGHT),
+    (LONG, &BY_ONE),
+    (LONG, &BY_TWO),
+    (LONG, &BY_EIGHT),
+    (OTHER_CLASS, &BY_ONE),
+    (OTHER_CLASS, &BY_TWO),
+    (OTHER_CLASS, &BY_EIGHT),
+    (FIFTH_REFUSED, &BY_ONE),
+    (FIFTH_REFUSED, &BY_TWO),
+    (FIFTH_REFUSED, &BY_EIGHT),
+    (GENERATED, &BY_ONE),
+    (GENERATED, &BY_TWO),
+    (GENERATED, &BY_EIGHT),
+    (EIGHT, &MADE),
 ];
 
 #[test]

@@ -113,12 +113,12 @@ $ run h --workers N
 > held 1024 1
 ";
 
-/// One worker, two or eight.
-pub const BY_ONE: [(&str, &str); 1] = [("workers N", "workers 1")];
+/// One worker, two or eight, in place of N.
+pub const BY_ONE: [(&str, &str); 1] = [("N", "1")];
 
-pub const BY_TWO: [(&str, &str); 1] = [("workers N", "workers 2")];
+pub const BY_TWO: [(&str, &str); 1] = [("N", "2")];
 
-pub const BY_EIGHT: [(&str, &str); 1] = [("workers N", "workers 8")];
+pub const BY_EIGHT: [(&str, &str); 1] = [("N", "8")];
 
 /// A put that finds no room, a deletion, and the same put, by one of two workers; and the same with
 /// a deletion by the other worker, in a run of its own.
