@@ -69,6 +69,8 @@ const IMAGES: &str = "
 # One class: the first block of four is kept, and all are.
 1 | used 1, info:0 20, root:8 @1072
 1 | used 1, info:0 20, root:8 @1072, root:9 @2864, root:10 @4656, root:11 @6448
+# Blocks reached with two kinds are held once.
+1 | used 1, info:0 2, root:0 @1072, root:1 @1072, 1072 @1076, 1074 @1080
 # Blocks of several classes, kept in some superblocks and in none of others.
 2 | used 2, info:0 20, info:1 4, root:8 @1080, root:9 @9280
 3 | used 3, info:0 2, info:1 12, info:2 20, root:0 @1088, 1088 @1092, root:8 @9408, root:9 @17472
@@ -107,11 +109,16 @@ fn threads_recover_what_one_thread_does(rt: HostRuntime) -> Result<(), Fail> {
     Ok(())
 }
 
+/// Of 320 superblocks, roots 0 and 1 lead to the first block of superblock 1 with two kinds, and that
+/// to the next two.
+const PAIR: &str = "used 320, kind:0 2, root:0 @11816, root:1 @11816, 11816 @11820, 11818 @11824";
+
 /// An image of 320 superblocks: in turn of each class, then a large block of two, and then so many of
-/// the smallest class that threads are started. Of every third the first block is kept.
+/// the smallest class that threads are started. Of every third the first block is kept, and of
+/// superblock 1 those that the pair holds.
 #[tactic(auto, unfolding(heap_model::specs::Geometry::largest_capacity))]
 fn of_each_class(alloc: Global) -> Result<Vec<u64>, Fail> {
-    let mut image = image_of(alloc, 320, "used 320")?;
+    let mut image = image_of(alloc, 320, PAIR)?;
     for d in 0..320u64 {
         write(&mut image, &[(info_word(d) as usize, info_at(d))]);
         if d % 3 == 0 {
