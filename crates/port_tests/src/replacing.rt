@@ -6,6 +6,7 @@ use crate::real_files::{
 use crate::watched_files::{WatchPlan, Watched};
 use file_ports::FileStore;
 use std::alloc::Global;
+use std::io::ErrorKind;
 use std::process::Abort;
 use std::rt::Files;
 use std::test::Fail;
@@ -33,18 +34,27 @@ fn put_watched<R: Files + AllocGlobal>(
 
 const FAILED: Option<PutImageFault> = Some(PutImageFault::Failed);
 
+// Which syncs fail: a file's, and its folder's.
+const NO_SYNC: (bool, bool) = (false, false);
+
+const OF_FILE: (bool, bool) = (true, false);
+
+const OF_FOLDER: (bool, bool) = (false, true);
+
 // Writes three bytes where there is so much room: with this fault or none, and so much is left
 // then.
 fn must_write<R: Files + Abort + AllocGlobal>(
     rt: &R,
     (name, room): (&str, usize),
-    sync_fails: bool,
+    (of_file, of_folder): (bool, bool),
     fault: Option<PutImageFault>,
     left: usize,
 ) {
     let mut plan = WatchPlan::new();
     plan.room.set(room);
-    plan.sync_fails = sync_fails;
+    plan.folder = ".";
+    plan.file_sync_fails = of_file;
+    plan.folder_sync_fails = of_folder;
     let answer = put_watched(rt, &plan, name, b"abc");
     must_hold(rt, answer.err() == fault, name);
     must_hold(rt, plan.room.get() == left, name);
@@ -52,18 +62,32 @@ fn must_write<R: Files + Abort + AllocGlobal>(
 
 #[test]
 fn a_write_or_sync_that_fails_is_told(rt: HostRuntime) -> Result<(), Fail> {
-    must_write(&rt, ("ample", 9), false, None, 6);
-    must_write(&rt, ("exact", 3), false, None, 0);
-    must_write(&rt, ("short", 2), false, FAILED, 0);
-    must_write(&rt, ("none", 0), false, FAILED, 0);
-    must_write(&rt, ("unsynced", 9), true, FAILED, 6);
+    must_write(&rt, ("ample", 9), NO_SYNC, None, 6);
+    must_write(&rt, ("exact", 3), NO_SYNC, None, 0);
+    must_write(&rt, ("short", 2), NO_SYNC, FAILED, 0);
+    must_write(&rt, ("none", 0), NO_SYNC, FAILED, 0);
+    must_write(&rt, ("unsynced", 9), OF_FILE, FAILED, 6);
+    must_lack(&rt, "unsynced");
+
+    // The file has its place by then.
+    must_write(&rt, ("placed", 9), OF_FOLDER, FAILED, 6);
+    must_have(&rt, "placed", b"abc");
     Ok(())
+}
+
+// Puts a file where there is no memory for the path that its name leads to.
+fn must_want_memory<R: Files + Abort + AllocGlobal>(rt: &R, name: &str) {
+    let mut plan = WatchPlan::new();
+    plan.path_error = ErrorKind::OutOfMemory;
+    let answer = put_watched(rt, &plan, name, b"abc");
+    must_hold(rt, answer == Err(PutImageFault::Memory), name);
 }
 
 #[test]
 fn a_file_that_was_not_written_takes_no_place(rt: HostRuntime) -> Result<(), Fail> {
     put_file(&rt, "kept", b"old");
-    must_write(&rt, ("kept", 2), false, FAILED, 0);
+    must_write(&rt, ("kept", 2), NO_SYNC, FAILED, 0);
+    must_want_memory(&rt, "kept");
     must_have(&rt, "kept", b"old");
     must_lack(&rt, "kept.new0");
     Ok(())

@@ -24,9 +24,14 @@ pub struct WatchPlan<'a> {
     pub error: Option<ErrorKind>,
     /// How many bytes may still be written.
     pub room: Cell<usize>,
-    pub sync_fails: bool,
     /// The path of a folder that is watched.
     pub folder: &'a str,
+    /// Whether this folder's sync fails.
+    pub folder_sync_fails: bool,
+    /// Whether the sync of another file fails.
+    pub file_sync_fails: bool,
+    /// Why it isn't told where a name leads.
+    pub path_error: ErrorKind,
     /// How often another file was synced between the last write and the rename.
     pub file_syncs: Cell<u32>,
     /// How often this folder was synced behind the rename.
@@ -41,11 +46,22 @@ impl<'a> WatchPlan<'a> {
             mode: None,
             error: None,
             room: Cell::new(9),
-            sync_fails: false,
             folder: "",
+            folder_sync_fails: false,
+            file_sync_fails: false,
+            path_error: ErrorKind::Unsupported,
             file_syncs: Cell::new(0),
             folder_syncs: Cell::new(0),
             is_renamed: Cell::new(false),
+        }
+    }
+
+    // Whether the sync of the folder, or of another file, fails.
+    fn sync_fails(&self, is_folder: bool) -> bool {
+        if is_folder {
+            self.folder_sync_fails
+        } else {
+            self.file_sync_fails
         }
     }
 
@@ -116,7 +132,7 @@ impl<'a, F: Read + Write + Seek + OpenFile + Drop> OpenFile for WatchedFile<'a, 
     }
 
     fn sync_all(&self) -> io::Result<()> {
-        if self.plan.sync_fails {
+        if self.plan.sync_fails(self.is_folder) {
             return Err(ErrorKind::Other.into());
         }
         self.file.sync_all()?;
@@ -212,9 +228,9 @@ impl<'a, R: Files> Files for Watched<'a, R> {
         self.files.remove_dir_all(alloc, path)
     }
 
-    // A name stays as it is.
+    // A name stays as it is, unless memory is wanted.
     fn canonicalize<B: Allocator>(&self, _: B, _: &str) -> io::Result<PathBuf<B>> {
-        Err(ErrorKind::Unsupported.into())
+        Err(self.plan.path_error.into())
     }
 
     // What the trait answers by itself takes longer to prove here.
