@@ -1,4 +1,10 @@
 //! All free blocks of a superblock of a class go into the empty cache.
+//!
+//! Linearization point: the exchange of the anchor for a full one, from which on the free blocks
+//! are in the seat's cache; of `false` the look at the anchor. A lost race changes nothing of the
+//! heap: the try begins anew with a look at the anchor. An anchor that came back may be taken for
+//! the old one: it names the first free block and how many there are, and the chain behind that is
+//! read after the exchange, and not before.
 
 ghost use Rattle.std.specs.Prelude.{◌≡◌, ℕ, [], false, IfOk, IfErr};
 ghost use Rattle.core_model.specs.Guards.{MayTakeAll};

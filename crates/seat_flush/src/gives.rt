@@ -1,4 +1,10 @@
 //! A batch goes back to its superblock.
+//!
+//! Linearization point: the exchange of the anchor, from which on the blocks are the superblock's
+//! and no seat's. A lost race changes nothing of the heap: the give begins anew with a look at the
+//! anchor, and links the batch's last block by that. An anchor that came back may be taken for the
+//! old one: it names the first free block and how many there are, and the new anchor and the link
+//! depend on these alone.
 
 ghost use Rattle.heap_rule.specs.Seated.{IsSeatOf};
 ghost use Rattle.std.specs.Prelude.{◌≡◌, IfOk, OnOk, IfErr};

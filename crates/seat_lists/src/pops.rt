@@ -1,4 +1,9 @@
 //! A superblock is popped from a list.
+//!
+//! Linearization point: the exchange of the head, from which on the superblock is the seat's; of
+//! `Empty` the last look at the head. A lost race changes nothing of the heap: the pop begins anew
+//! with a look at the head. A head counts its pops. Where one came back, nothing was popped since
+//! it was seen: its first superblock is still in the list, and the link is as it was read.
 
 ghost use Rattle.heap_rule.specs.Seated.{IsSeatOf};
 ghost use Rattle.std.specs.Prelude.{◌≡◌, ◌<◌, ℕ, true, false, IfOk, OnOk, IfErr};

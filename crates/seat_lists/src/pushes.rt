@@ -1,4 +1,10 @@
 //! A claimed superblock is pushed on a list.
+//!
+//! Linearization point: the exchange of the head, from which on the superblock is in front of the
+//! list, and the seat's no more. A lost race changes nothing of the heap: the push begins anew with
+//! a look at the head, and stores the link by that; until it is won no other seat has the
+//! superblock. A head that came back may be taken for the old one: the link leads to the first
+//! superblock that this head names, which is all that a push needs.
 
 ghost use Rattle.heap_rule.specs.Seated.{IsSeatOf};
 ghost use Rattle.std.specs.Prelude.{◌≡◌, ◌<◌, ◌≤◌, ◌+◌, ◌-◌, ◌*◌, ℕ, IfOk, OnOk, IfErr};
