@@ -1,11 +1,13 @@
 #!/usr/bin/env python3
 """Measures the allocator for threads, thread_cache's CacheSeat, class by class, with 1, 2 and 4 threads: a pair of an alloc
 and a free that the cache serves, and the filling and flushing of a cache by block; how many exchanges are lost in that;
-and what the one ticket word takes. Beside it stand the allocators of the suite of peers.
+and what the one ticket word takes. Beside it stand the heap for one thread, block_heap's SeqHeap, by pairs of the same
+kind, and the allocators of the suite of peers.
 
-rt proves and builds the text timed_caches.txt in a scratch clone; that text says what its ways are. Each figure is the
-median of RUNS runs that take turns, of what a thread sees. What can be lost there are pops and pushes, each of which
-costs three tickets more then: so the tickets that several threads drew beyond those of one tell the losses.
+rt proves and builds the texts timed_caches.txt and timed_pairs.txt in scratch clones; those say what their ways are. Each
+figure is the median of RUNS runs that take turns, of what a thread sees; SeqHeap's is the processor's time. What can be
+lost there are pops and pushes, each of which costs three tickets more then: so the tickets that several threads drew
+beyond those of one tell the losses.
 
 usage: caches.py [RUNS [FILE [EFFORT]]]      (make comes first; FILE gets all medians; EFFORT is 1, or a part of that)
 """
@@ -16,6 +18,7 @@ import subprocess
 import sys
 import tempfile
 
+import pairs
 from process import shared_memory
 from scratch import build
 from suite import programs
@@ -48,9 +51,17 @@ def ask(program, way, size_class, threads, times):
     return (*parts, statistics.mean(tickets) / times)
 
 
-def one_round(program, effort):
+def ask_heap_for_one(program, number, times):
+    """Nanoseconds and tickets of a pair of SeqHeap, with one more block held."""
+    count, nanoseconds, tickets = pairs.measure(program, "beside", number, times)
+    return nanoseconds / count, 0.0, tickets / count
+
+
+def one_round(program, for_one, effort):
     """By way, class and threads what a turn takes."""
     found = {}
+    for number in range(1, len(SIZES) + 1):
+        found["for one", number, 1] = ask_heap_for_one(for_one, number, max(1, int(PAIRS * effort)))
     for threads in THREADS:
         for way, times in WHOLE.items():
             found[way, 1, threads] = ask(program, way, 1, threads, max(1, int(times * effort)))
@@ -86,13 +97,14 @@ def by_block(found, way, number, threads):
 
 
 def tell_classes(found):
-    heads = [f"served, {threads}" for threads in THREADS]
+    heads = ["SeqHeap"] + [f"served, {threads}" for threads in THREADS]
     heads += [f"{way}, {threads}" for way in EXCHANGES for threads in THREADS]
     heads += [f"lost, {way}, {THREADS[-1]}" for way in EXCHANGES]
     print(f"| class | bytes | {' | '.join(heads)} |")
     print("|---|---|" + "---|" * len(heads))
     for number, size in enumerate(SIZES, 1):
-        cells = [f"{found['served', number, threads][0]:,.1f}" for threads in THREADS]
+        cells = [f"{found['for one', number, 1][0]:,.1f}"]
+        cells += [f"{found['served', number, threads][0]:,.1f}" for threads in THREADS]
         for way in EXCHANGES:
             cells += [" / ".join(f"{ns:,.1f}" for ns in by_block(found, way, number, threads)) for threads in THREADS]
         for way in EXCHANGES:
@@ -113,6 +125,15 @@ def tell_others(found, beside):
         print(f"| {name}, a pair of mixed sizes | " + " | ".join(f"{beside[name, threads]:,.1f}" for threads in THREADS) + " |")
 
 
+def tell_ratios(rounds):
+    """How often the time of SeqHeap a pair takes, and how many times the pairs of one thread two threads do: the median
+    of the rounds' own ratios, since how fast the machine is changes from round to round."""
+    for number in (1, 8, 20):
+        beside_one = statistics.median(found["served", number, 1][0] / found["for one", number, 1][0] for found in rounds)
+        of_two = statistics.median(2 * found["served", number, 1][0] / found["served", number, 2][0] for found in rounds)
+        print(f"class {number}: a pair takes {beside_one:.2f} times SeqHeap's; two threads do {of_two:.2f} times the pairs of one")
+
+
 def medians(rounds):
     """Of a dict of numbers, or of rows of them, by each key."""
     at = {}
@@ -126,10 +147,11 @@ def main(runs="7", path=None, effort="1"):
     with tempfile.TemporaryDirectory(dir=shared_memory()) as folder, tempfile.TemporaryDirectory() as scratch:
         room = pathlib.Path(folder)
         peers = programs(room)
-        program = build(pathlib.Path(scratch), "timed_caches.txt", CRATES, ["served", 1, 1, 1, SUPERBLOCKS])
+        program = build(pathlib.Path(scratch) / "caches", "timed_caches.txt", CRATES, ["served", 1, 1, 1, SUPERBLOCKS])
+        for_one = build(pathlib.Path(scratch) / "pairs", "timed_pairs.txt", pairs.CRATES, ["alone", 20, 1])
         rounds, beside = [], []
         for _ in range(int(runs)):
-            rounds.append(one_round(program, float(effort)))
+            rounds.append(one_round(program, for_one, float(effort)))
             ways = [(name, threads) for name in PEERS for threads in THREADS] if peers else []
             beside.append({(name, t): ask_peer(peers, name, t, PEERS[name], room / "pool") for name, t in ways})
     found, others = medians(rounds), medians(beside)
@@ -137,6 +159,7 @@ def main(runs="7", path=None, effort="1"):
     print("lost: of the exchanges that were tried / of the tickets, those drawn for lost exchanges")
     tell_classes(found)
     tell_others(found, others)
+    tell_ratios(rounds)
     if path:
         with open(path, "w") as out:
             for key, value in {**found, **others}.items():
