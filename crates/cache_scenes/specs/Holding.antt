@@ -1,11 +1,13 @@
 -- What the seats of the tests are at first, and what they hold.
-use Rattle.std.specs.Prelude.{◌≡◌, ◌≢◌, ◌<◌, ◌%◌, ℕ, All, None, List, Contains, get_or, length}
+use Rattle.std.specs.Prelude.{◌≡◌, ◌≢◌, ◌<◌, ◌%◌, ℕ, All, None, Some, Option, List, Contains, get_or, length}
 use Rattle.heap_model.specs.declared.block.Block.{Block}
 use Rattle.heap_model.specs.Geometry.{roots}
 use Rattle.core_model.specs.View.{View}
 use Rattle.heap_table.specs.AtTable.{SharedView}
 use Rattle.heap_rule.specs.Seated.{IsSeatOf, SeatView}
 use Rattle.seat_rows.specs.Idle.{HasShortCaches, IsIdle}
+use Rattle.seat_view.specs.CacheState.{held_blocks}
+use Rattle.size_table.specs.declared.size_class.SizeClass.{SizeClass}
 
 -- a seat of a heap that was opened just now may be one that allocates
 pub record IsFresh (v : View) : Type 0 where
@@ -31,6 +33,13 @@ HasRootsOf number count seat = (root : ℕ) → root < roots → root % count �
 abbrev pub HaveRoots : ℕ → List SeatView → Type 0
 HaveRoots count seats = (i : ℕ) (seat : SeatView) → i < length seats → get_or seats i seat ≡ seat → HasRootsOf i count seat
 
+-- and it holds those of the blocks that were held at the opening
+abbrev pub HasBlocksOf : ℕ → ℕ → List Block → View → Type 0
+HasBlocksOf number count held v = (i : ℕ) (b : Block) → i < length held → get_or held i b ≡ b → i % count ≡ number → Contains (held_blocks v) b
+
+abbrev pub HaveBlocks : ℕ → List Block → List SeatView → Type 0
+HaveBlocks count held seats = (i : ℕ) (seat : SeatView) → i < length seats → get_or seats i seat ≡ seat → HasBlocksOf i count held seat.view
+
 -- these are roots of that seat
 abbrev pub AreRootsOf : ℕ → ℕ → List ℕ → Type 0
 AreRootsOf number count owned = All (λ root. (root < roots) × (root % count ≡ number)) owned
@@ -43,3 +52,8 @@ pub record OwnsRoots (owned all : List ℕ) : Type 0 where
 pub record IsJobOf (shared : SharedView) (owned : List ℕ) (seat : SeatView) : Type 0 where
   pub fresh : IsFreshSeatOf shared seat
   pub owns : OwnsRoots owned seat.view.roots
+
+-- the list of a class, or that of the free superblocks, which stands before those
+abbrev pub list_of : Option SizeClass → ℕ
+list_of None = 0
+list_of (Some class) = class.number

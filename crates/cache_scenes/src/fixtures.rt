@@ -1,9 +1,10 @@
 //! Heaps over recovered images, shared by seats.
 
-ghost use Rattle.std.specs.Prelude.{◌≡◌, ◌<◌, ◌≤◌, ◌%◌, ℕ, All, IfOk, Contains, get_or, length};
+ghost use Rattle.std.specs.Prelude.{◌≡◌, ◌<◌, ◌≤◌, ◌%◌, ◌++◌, ℕ, All, IfOk, IfSome, Contains, get_or, length, option_to_list};
+ghost use Rattle.heap_model.specs.Rest.{IsReady};
 ghost use Rattle.core_model.specs.Opening.{AreOwners};
 ghost use Rattle.heap_rule.specs.Seated.{IsSeatOf};
-ghost use Rattle.cache_scenes.specs.Holding.{HasRootsOf, HaveRoots, IsFresh, IsFreshSeatOf};
+ghost use Rattle.cache_scenes.specs.Holding.{HasRootsOf, HaveBlocks, HaveRoots, IsFresh, IsFreshSeatOf};
 
 use dictionary::{DictFilter, root_kinds};
 use heap_recover::{RecoverFault, Recovered, recover};
@@ -65,13 +66,17 @@ pub fn owners_in_turn(alloc: Global, heap: &Ready, seats: usize) -> Result<Owner
         AreOwners heap.now.held seats owners.held owners.roots) }
     ensures each { IfOk result (λ owners. (root d : ℕ) → root < 1024
         → get_or owners.roots root d ≡ root % seats) }
+    ensures blocks { IfOk result (λ owners. (i d : ℕ) → i < length heap.now.held
+        → get_or owners.held i d ≡ i % seats) }
+    ensures ready { IfOk result (λ owners. IsReady heap.now.words heap.now.held) }
 {
     let held = in_turn(alloc, heap.held().len(), seats)?;
     let roots = in_turn(alloc, ROOTS as usize, seats)?;
     Ok(Owners::new(held, roots))
 }
 
-/// The heap, shared by so many seats, each of which has the roots that are its own in turn.
+/// The heap, shared by so many seats, each of which has the roots and holds the blocks that are its
+/// own in turn.
 pub fn open(
     alloc: Global,
     heap: Ready,
@@ -80,6 +85,7 @@ pub fn open(
 ) -> Result<(Shared, Vec<Seat>), Fail>
     ensures seats { IfOk result (λ r. All (IsFreshSeatOf r.0) r.1.items) }
     ensures roots { IfOk result (λ r. HaveRoots (length r.1.items) r.1.items) }
+    ensures blocks { IfOk result (λ r. HaveBlocks seats heap.held r.1.items) }
     ensures count { IfOk result (λ r. length r.1.items ≡ r.0.opening.seats) }
 {
     if seats < 1 || seats > 8 || budget > MANY {
@@ -89,6 +95,17 @@ pub fn open(
     let opened = open_shared(alloc, heap, &owners, seats, budget)?;
     an_opened_seat_is_idle();
     Ok(opened)
+}
+
+/// Takes the last one of the seats.
+pub fn last_seat(shared: &Shared, seats: &mut Vec<Seat>) -> Option<Seat>
+    requires { All (IsFreshSeatOf shared.now) seats.old.items }
+    ensures rest { All (IsFreshSeatOf shared.now) seats.new.items }
+    ensures seat { IfSome result (IsFreshSeatOf shared.now) }
+    ensures items { seats.old.items ≡ seats.new.items ++ option_to_list result }
+{
+    let _seats = shared;
+    seats.pop()
 }
 
 /// Asserts what the text tells of.

@@ -1,13 +1,13 @@
 //! Seats with the blocks that they were given.
 
-ghost use Rattle.std.specs.Prelude.{◌≡◌, ◌++◌, ◌∷◌, [], IfOk, OnErr, OnOk, false};
+ghost use Rattle.std.specs.Prelude.{◌≡◌, ◌++◌, ◌∷◌, [], Contains, IfOk, OnErr, OnOk, false};
 ghost use Rattle.heap_seat.specs.Alloc.{Adds};
 ghost use Rattle.cache_scenes.specs.Holding.{Holds, IsNoneOf};
 
 use heap_seat::{AllocFault, HeapSeat};
 use line_memory::Stopped;
 use std::alloc::AllocError;
-use super_block::Block;
+use super_block::{Block, WORD_BYTES};
 
 /// Why a seat goes no further in a scene.
 #[derive(Clone, Copy, Debug)]
@@ -48,6 +48,17 @@ fn push_block(given: &mut Vec<Block>, b: Block) -> Result<(), AllocError>
     ensures err { OnErr result (given.new.items ≡ given.old.items) }
 {
     Ok(given.push(b)?)
+}
+
+/// Adds a block that the seat holds, as the seat tells it by its offset.
+pub fn add_held<H: HeapSeat>(seat: &H, given: &mut Vec<Block>, b: Block) -> Result<(), AllocError>
+    requires holds { Holds (H.view seat.now).held given.old.items }
+    requires held { Contains (H.view seat.now).held b }
+    ensures { OnOk result (Holds (H.view seat.now).held given.new.items) }
+{
+    let offset = WORD_BYTES * b.first_word;
+    push_block(given, seat.block(offset))?;
+    Ok(())
 }
 
 /// Asks for so many bytes.

@@ -23,6 +23,8 @@ mod order;
 #[cfg(test)]
 mod pairs;
 #[cfg(test)]
+mod popping;
+#[cfg(test)]
 mod rolling;
 #[cfg(test)]
 mod rooted;

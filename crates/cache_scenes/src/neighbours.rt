@@ -1,6 +1,6 @@
 //! What a seat gives and refuses, beside another one.
 
-use crate::pairs::{Part, play_pair};
+use crate::pairs::{Part, play_over, play_pair};
 use std::test::Fail;
 
 /// One seat fills both superblocks, with four blocks in each. What it frees of a whole superblock
@@ -40,6 +40,33 @@ a take 16 4096";
 #[test]
 fn a_quiet_seat_leaves_its_cache_to_the_other(rt: HostRuntime) -> Result<(), Fail> {
     play_pair(rt.alloc(), 1, Part::Acts(QUIET))
+}
+
+/// Both seats hold blocks of the one superblock as the heap is opened. What one frees is in its
+/// cache: the other one finds nothing until that is emptied. A head counts its pops. At last all
+/// blocks are free: the superblock is popped off the list of its class, put on that of the free
+/// ones, and popped off that.
+const HELD: &str = "a has 4656 1792
+b has 6448 1792
+a free 1
+b looks 14336 0 0 1
+a quiet
+b take 14336 1
+b has 4656 1792
+b looks 14336 16777216 0 1
+b free 3
+a free 1
+b quiet
+a quiet
+a take 14336 1
+b looks 14336 33554432 16777216 1";
+
+const FOUR_HELD: &str =
+    "used 1, info:0 20, root:8 @1072, root:9 @2864, root:10 @4656, root:11 @6448";
+
+#[test]
+fn a_block_that_was_held_at_the_opening_serves_the_other_seat(rt: HostRuntime) -> Result<(), Fail> {
+    play_over(rt.alloc(), 1, FOUR_HELD, Part::Acts(HELD))
 }
 
 /// A large block takes superblocks that were never taken. Once it is freed they serve classes, and

@@ -1,17 +1,18 @@
-//! Two seats of a heap that act by turns, in one thread.
+//! Two seats of a heap that act by turns, in one thread. Blocks that are held at the opening are
+//! theirs in turn.
 
-ghost use Rattle.std.specs.Prelude.{All, IfSome, OnOk};
+ghost use Rattle.std.specs.Prelude.{All, IfOk, OnOk};
 ghost use Rattle.seat_view.specs.CacheState.{heap_view};
-ghost use Rattle.cache_scenes.specs.Holding.{Holds, IsFreshSeatOf};
+ghost use Rattle.cache_scenes.specs.Holding.{HasBlocksOf, HaveBlocks, Holds, IsFreshSeatOf};
 
-use crate::fixtures::{MANY, open, recovered};
+use crate::fixtures::{MANY, last_seat, open, recovered};
 use crate::flushing::trade_all;
-use crate::holders::Halt;
+use crate::holders::{Halt, add_held};
 use crate::order::Turn;
 use crate::scripts::{Act, Dealt, act_of, perform};
 use crate::walking::walk_and_end;
 use heap_rule::{Seat, Shared};
-use std::alloc::Global;
+use std::alloc::{AllocError, Global};
 use std::test::Fail;
 use super_block::Block;
 use thread_cache::CacheSeat;
@@ -34,24 +35,46 @@ pub enum Part<'a> {
     Walk(u64),
 }
 
-/// The last one of the seats, whose chance gives this number.
+/// Which of the blocks that were held at the opening belong to the seat of this number, of two.
+fn own_blocks(
+    alloc: Global,
+    seat: &CacheSeat<'_, Turn<'_>>,
+    held: &[Block],
+    number: usize,
+) -> Result<Vec<Block>, AllocError>
+    requires { HasBlocksOf number 2 held.now seat.now.view }
+    ensures { IfOk result (λ given. Holds (heap_view seat.now).held given.items) }
+{
+    let mut given = Vec::new(alloc);
+    for (index, b) in held.iter().enumerate() {
+        if index % 2 == number {
+            add_held(seat, &mut given, *b)?;
+        }
+    }
+    Ok(given)
+}
+
+/// The last one of the seats, with its blocks, whose chance gives this number.
 fn last_holder<'a>(
     alloc: Global,
     shared: &'a Shared,
     seats: &mut Vec<Seat>,
+    held: &[Block],
     drawn: u64,
-) -> Option<Holder<'a>>
-    requires { All (IsFreshSeatOf shared.now) seats.old.items }
-    ensures rest { All (IsFreshSeatOf shared.now) seats.new.items }
-    ensures holds { IfSome result (λ h. Holds (heap_view h.seat).held h.given.items) }
+) -> Result<Holder<'a>, Fail>
+    requires fresh { All (IsFreshSeatOf shared.now) seats.old.items }
+    requires blocks { HaveBlocks 2 held.now seats.old.items }
+    ensures fresh { OnOk result (All (IsFreshSeatOf shared.now) seats.new.items) }
+    ensures blocks { OnOk result (HaveBlocks 2 held.now seats.new.items) }
+    ensures holds { IfOk result (λ h. Holds (heap_view h.seat).held h.given.items) }
 {
-    let Some(seat) = seats.pop() else {
-        return None;
+    let Some(seat) = last_seat(shared, seats) else {
+        return Err("no seat".into());
     };
-    let turn = Turn::new(None, true, drawn);
-    let given = Vec::new(alloc);
-    let seat = CacheSeat::new(shared, seat, turn);
-    Some(Holder { seat, given })
+    let seat = CacheSeat::new(shared, seat, Turn::new(None, true, drawn));
+    let number = seats.len();
+    let given = own_blocks(alloc, &seat, held, number)?;
+    Ok(Holder { seat, given })
 }
 
 /// What a line tells: whether it is the first seat's, and the act.
@@ -107,26 +130,32 @@ fn play_part(a: &mut Holder<'_>, b: &mut Holder<'_>, part: Part<'_>) -> Result<(
     }
 }
 
-/// The last two of the seats do their part.
+/// The two seats, which have these blocks in turn, do their part.
 fn play_with(
     alloc: Global,
     shared: &Shared,
     mut seats: Vec<Seat>,
+    held: &[Block],
     part: Part<'_>,
 ) -> Result<(), Fail>
-    requires { All (IsFreshSeatOf shared.now) seats.items }
+    requires fresh { All (IsFreshSeatOf shared.now) seats.items }
+    requires blocks { HaveBlocks 2 held.now seats.items }
 {
-    let b = last_holder(alloc, shared, &mut seats, 0);
-    let a = last_holder(alloc, shared, &mut seats, 1);
-    match (a, b) {
-        (Some(mut a), Some(mut b)) => play_part(&mut a, &mut b, part),
-        _ => Err("no seat".into()),
-    }
+    let mut b = last_holder(alloc, shared, &mut seats, held, 0)?;
+    let mut a = last_holder(alloc, shared, &mut seats, held, 1)?;
+    play_part(&mut a, &mut b, part)
+}
+
+/// The two seats of what recovery makes of an image of so many superblocks, with these words, do
+/// their part.
+pub fn play_over(alloc: Global, capacity: u64, words: &str, part: Part<'_>) -> Result<(), Fail> {
+    let heap = recovered(alloc, capacity, words)?;
+    let held = Vec::from_slice(alloc, heap.held())?;
+    let (shared, seats) = open(alloc, heap, 2, MANY)?;
+    play_with(alloc, &shared, seats, &held, part)
 }
 
 /// The two seats of an empty heap of so many superblocks do their part.
 pub fn play_pair(alloc: Global, capacity: u64, part: Part<'_>) -> Result<(), Fail> {
-    let heap = recovered(alloc, capacity, "")?;
-    let (shared, seats) = open(alloc, heap, 2, MANY)?;
-    play_with(alloc, &shared, seats, part)
+    play_over(alloc, capacity, "", part)
 }

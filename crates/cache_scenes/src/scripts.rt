@@ -3,6 +3,8 @@
 //! ```text
 //! take 14336 8     the seat asks 8 times for 14,336 bytes, and is given a block each time
 //! full 14336 2     it asks, and there is no room: 2 superblocks are taken, and no list has one
+//! looks 16 5 0 2   it asks for 16 bytes, and there is no room: the head of the class is 5, that of
+//!                  the free superblocks 0, and 2 are taken
 //! has 1080 1792    its last block has the first word 1,080 and 1,792 words
 //! free 4           it frees 4 of its blocks, the last ones first
 //! drop 2           it frees its block 2, in whose place the last one comes
@@ -31,11 +33,20 @@ use thread_cache::CacheSeat;
 /// A list head has its list in its last so many bits, and none there where it is empty.
 const LIST_BITS: u32 = 24;
 
+/// What a refusal must tell.
+#[derive(Clone, Copy)]
+pub enum Wanted {
+    /// So many superblocks are taken, and no list has one.
+    Taken(u64),
+    /// These very looks.
+    Seen(Looks),
+}
+
 /// What a seat can be told.
 #[derive(Clone, Copy)]
 pub enum Act {
     Take { bytes: u64, count: u64 },
-    Full { bytes: u64, taken: u64 },
+    Full { bytes: u64, wanted: Wanted },
     Has { first_word: u64, words: u64 },
     Free { count: u64 },
     Drop { index: u64 },
@@ -64,7 +75,7 @@ fn act_named(name: &str, first: u64, second: u64) -> Option<Act> {
         },
         "full" => Act::Full {
             bytes: first,
-            taken: second,
+            wanted: Wanted::Taken(second),
         },
         "has" => Act::Has {
             first_word: first,
@@ -88,14 +99,33 @@ pub fn act_of(told: &str) -> Option<Act> {
     let name = words.next().unwrap_or("");
     let first = number_of(words.next());
     let second = number_of(words.next());
+    if name == "looks" {
+        let looks = Looks {
+            class_head: second,
+            free_head: number_of(words.next()),
+            used: number_of(words.next()),
+        };
+        return Some(Act::Full {
+            bytes: first,
+            wanted: Wanted::Seen(looks),
+        });
+    }
     act_named(name, first, second)
 }
 
-/// Whether there was no room, with so many superblocks taken and no list that had one.
-fn is_full(answer: &Result<(), Halt>, taken: u64) -> bool {
+/// Whether there was no room, as it is told.
+fn is_full(answer: &Result<(), Halt>, wanted: Wanted) -> bool {
     match answer {
-        Err(Halt::Refused(AllocFault::Full(looks))) => is_empty(looks) && looks.used == taken,
+        Err(Halt::Refused(AllocFault::Full(looks))) => is_told(looks, wanted),
         _ => false,
+    }
+}
+
+/// Whether a refusal tells what it must.
+fn is_told(looks: &Looks, wanted: Wanted) -> bool {
+    match wanted {
+        Wanted::Taken(taken) => is_empty(looks) && looks.used == taken,
+        Wanted::Seen(seen) => *looks == seen,
     }
 }
 
@@ -110,14 +140,14 @@ fn must_be_full(
     seat: &mut CacheSeat<'_, Turn<'_>>,
     given: &mut Vec<Block>,
     bytes: u64,
-    taken: u64,
+    wanted: Wanted,
 ) -> Result<(), Halt>
     requires { Holds (heap_view seat.old).held given.old.items }
     ensures holds { OnOk result (Holds (heap_view seat.new).held given.new.items) }
     ensures kept { KeepsHeap seat.old seat.new }
 {
     let answer = take(seat, given, bytes);
-    if is_full(&answer, taken) {
+    if is_full(&answer, wanted) {
         Ok(())
     } else {
         Err(Halt::Room)
@@ -186,7 +216,7 @@ pub fn perform(
 {
     match act {
         Act::Take { bytes, count } => take_all(seat, given, bytes, count),
-        Act::Full { bytes, taken } => must_be_full(seat, given, bytes, taken),
+        Act::Full { bytes, wanted } => must_be_full(seat, given, bytes, wanted),
         Act::Has { first_word, words } => ends_with(given, first_word, words),
         Act::Free { count } => give_back_last(seat, given, count),
         Act::Drop { index } => give_back(seat, given, index as usize),

@@ -1,7 +1,7 @@
 use Rattle.std.proofs.Common.{◌≡◌, ◌∷◌, [], length, length-append, Some, ap, subst, ◌∙◌, arith}
 use Rattle.std.proofs.lemmas.List.Elements.{All-pop, All-push, All-same}
-use Rattle.cache_scenes.specs.Holding.{AreRootsOf, IsFreshSeatOf, IsJobOf}
-use Rattle.cache_scenes.proofs.HoldLemmas.{last_roots, owns, rest_roots}
+use Rattle.cache_scenes.specs.Holding.{AreRootsOf, HasRootsOf, IsFreshSeatOf, IsJobOf}
+use Rattle.cache_scenes.proofs.HoldLemmas.{of_last, of_rest, owns}
 use Rattle.cache_scenes.proofs.together.deal.Goals as goal
 
 pub loop-seat-preserved : goal.loop-seat-preserved
@@ -13,9 +13,9 @@ loop-seat-preserved c =
     let all_seats : c.len-count.result ≡ count = omega arith in
     let roots = subst (λ m. AreRootsOf (length rest) m c.in_ok-roots.roots.items) all_seats
     (subst (λ n. AreRootsOf n c.len-count.result c.in_ok-roots.roots.items) number c.in_ok-roots.ensures) in
-    let job : IsJobOf c.args.shared.now c.in_ok-roots.roots.items seat = record { fresh = popped.1; owns = owns (length rest) count c.in_ok-roots.roots.items seat roots (last_roots count all rest seat split c.loop-seat.invariant.roots) } in record {
+    let job : IsJobOf c.args.shared.now c.in_ok-roots.roots.items seat = record { fresh = popped.1; owns = owns (length rest) count c.in_ok-roots.roots.items seat roots (of_last (λ i. HasRootsOf i count) all rest seat split c.loop-seat.invariant.roots) } in record {
       seats = popped.0;
-      roots = rest_roots count all rest seat split c.loop-seat.invariant.roots;
+      roots = of_rest (λ i. HasRootsOf i count) all rest seat split c.loop-seat.invariant.roots;
       jobs = All-same (λ job. IsJobOf c.args.shared.now job.roots.items job.seat) c.push.new.self.items _ c.in_ok-push.ensures.items
           (All-push (λ job. IsJobOf c.args.shared.now job.roots.items job.seat) c.loop-seat.jobs.items _ c.loop-seat.invariant.jobs job);
       count = (let count = c.loop-seat.invariant.count in let more = ap length c.in_ok-push.ensures.items ∙ length-append c.loop-seat.jobs.items _ in
