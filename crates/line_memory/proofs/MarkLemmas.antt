@@ -4,7 +4,7 @@ use Rattle.std.proofs.lemmas.List.Elements.{Contains-append_left, Contains-push,
 use Rattle.std.proofs.lemmas.Bool.{cases_eq, cases_Bool}
 use Rattle.std.proofs.lemmas.List.{get_or_default}
 use Rattle.std.proofs.lemmas.Grind.{elements, get_or-set_at}
-use Rattle.line_memory.specs.Marks.{ListsPages, IsMarked, completed_at, mark_count}
+use Rattle.line_memory.specs.Marks.{CoversGroups, ListsPages, IsMarked, completed_at, mark_count}
 use Rattle.line_memory.specs.Marked.{is_marked_within}
 
 -- no more marks than places
@@ -51,7 +51,7 @@ has_room words pages list capacity page h l e =
     let m = mark_count-below pages page l e in omega (arith, h.room, h.few)
 
 -- a page in the memory has its place among the pages
-pub page_within : (words pages : List Bool) (list : List ℕ) (capacity page : ℕ) → ListsPages words pages list capacity → 1024 * page < length words → page < length pages
+pub page_within : (words pages : List Bool) (list : List ℕ) (capacity page : ℕ) → ListsPages words pages list capacity → 4096 * page < length words → page < length pages
 page_within words pages list capacity page h l = omega (arith, h.reach)
 
 -- a set mark stays, whichever other is set
@@ -62,6 +62,18 @@ set_keeps pages page other m =
       | inr ne ↦ get_or-set_other pages page other true false ne ∙ m
     ]
 
+-- the groups that have marked words are covered once a line's words are marked, and its group
+pub cover_line : (words new groups : List Bool) (line : ℕ) → CoversGroups words groups → length new ≡ length words → 8 * line < length words → ((k : ℕ) → k / 8 ≢ line → get_or new k false ≡ get_or words k false) → CoversGroups new (set groups (line / 8) true)
+cover_line words new groups line h len l same =
+    record {
+      reach = omega (arith, h.reach, length-set {A = Bool});
+      covers = λ word m.
+          elim (cases_eq (word / 64) (line / 8)) [
+            | inl e ↦ subst (λ (x : ℕ). IsMarked (set groups (line / 8) true) x) (sym e) (get_or-set_same groups (line / 8) true false (omega (arith, h.reach)))
+            | inr ne ↦ set_keeps groups (line / 8) (word / 64) (h.covers word (sym (same word (λ here. ne (omega (arith, here)))) ∙ m))
+          ];
+    }
+
 -- what is set is the new mark or was set
 set_cases : (pages : List Bool) (page other : ℕ) → IsMarked (set pages page true) other → (page ≡ other) ⊎ IsMarked pages other
 set_cases pages page other m =
@@ -71,15 +83,15 @@ set_cases pages page other m =
     ]
 
 -- what holds of each number of a list and of one more
-each_pushed : (list : List ℕ) (page bound : ℕ) → ((k : ℕ) → k < length list → 1024 * get_or list k 0 < bound) → 1024 * page < bound → (k : ℕ) → k < length (list ++ page ∷ []) → 1024 * get_or (list ++ page ∷ []) k 0 < bound
+each_pushed : (list : List ℕ) (page bound : ℕ) → ((k : ℕ) → k < length list → 4096 * get_or list k 0 < bound) → 4096 * page < bound → (k : ℕ) → k < length (list ++ page ∷ []) → 4096 * get_or (list ++ page ∷ []) k 0 < bound
 each_pushed list page bound each l k lt = grind (arith, elements)
 
 -- and, if it holds of all, of those before the last
-each_popped : (list : List ℕ) (page bound : ℕ) → ((k : ℕ) → k < length (list ++ page ∷ []) → 1024 * get_or (list ++ page ∷ []) k 0 < bound) → (k : ℕ) → k < length list → 1024 * get_or list k 0 < bound
+each_popped : (list : List ℕ) (page bound : ℕ) → ((k : ℕ) → k < length (list ++ page ∷ []) → 4096 * get_or (list ++ page ∷ []) k 0 < bound) → (k : ℕ) → k < length list → 4096 * get_or list k 0 < bound
 each_popped list page bound each k lt = let h = each k (omega (arith, length-append {A = ℕ})) in grind (arith, elements, h)
 
 -- the list once the page is added
-pub list_page : (words pages : List Bool) (list : List ℕ) (capacity room page : ℕ) → ListsPages words pages list capacity → capacity ≤ room → 1024 * page < length words → get_or pages page false ≡ false → ListsPages words (set pages page true) (list ++ page ∷ []) room
+pub list_page : (words pages : List Bool) (list : List ℕ) (capacity room page : ℕ) → ListsPages words pages list capacity → capacity ≤ room → 4096 * page < length words → get_or pages page false ≡ false → ListsPages words (set pages page true) (list ++ page ∷ []) room
 list_page words pages list capacity room page h more l e =
     let within : page < length pages = page_within words pages list capacity page h l in
     record {
@@ -87,7 +99,7 @@ list_page words pages list capacity room page h more l e =
       room = omega (arith, h.room, length-set {A = Bool});
       few = let n = mark_count-set pages page within e in omega (arith, h.few, length-append {A = ℕ});
       within = each_pushed list page (length words) h.within l;
-      covers = λ word m. set_keeps pages page (word / 1024) (h.covers word m);
+      covers = λ word m. set_keeps pages page (word / 4096) (h.covers word m);
       all = λ other m.
           elim (set_cases pages page other m) [
             | inl e ↦ subst (λ (x : ℕ). Contains (list ++ page ∷ []) x) e (Contains-push list page)
@@ -96,7 +108,7 @@ list_page words pages list capacity room page h more l e =
     }
 
 -- the marks of the words of a listed page may change
-pub remark : (words new pages : List Bool) (list : List ℕ) (capacity page : ℕ) → ListsPages words pages list capacity → length new ≡ length words → IsMarked pages page → ((k : ℕ) → k / 1024 ≢ page → get_or new k false ≡ get_or words k false) → ListsPages new pages list capacity
+pub remark : (words new pages : List Bool) (list : List ℕ) (capacity page : ℕ) → ListsPages words pages list capacity → length new ≡ length words → IsMarked pages page → ((k : ℕ) → k / 4096 ≢ page → get_or new k false ≡ get_or words k false) → ListsPages new pages list capacity
 remark words new pages list capacity page h len on same =
     record {
       reach = omega (arith, h.reach);
@@ -104,7 +116,7 @@ remark words new pages list capacity page h len on same =
       few = h.few;
       within = λ k lt. let w = h.within k lt in omega arith;
       covers = λ word m.
-          elim (cases_eq (word / 1024) page) [
+          elim (cases_eq (word / 4096) page) [
             | inl e ↦ subst (λ (x : ℕ). IsMarked pages x) (sym e) on
             | inr ne ↦ h.covers word (sym (same word ne) ∙ m)
           ];
@@ -127,7 +139,7 @@ unset_all pages list page other all m =
     ]
 
 -- the list once its last page is taken, whose words have no mark any more
-pub unlist_page : (words new pages : List Bool) (list : List ℕ) (capacity page : ℕ) → ListsPages words pages (list ++ page ∷ []) capacity → length new ≡ length words → ((k : ℕ) → k / 1024 ≡ page → get_or new k false ≡ false) → ((k : ℕ) → k / 1024 ≢ page → get_or new k false ≡ get_or words k false) → ListsPages new (set pages page false) list capacity
+pub unlist_page : (words new pages : List Bool) (list : List ℕ) (capacity page : ℕ) → ListsPages words pages (list ++ page ∷ []) capacity → length new ≡ length words → ((k : ℕ) → k / 4096 ≡ page → get_or new k false ≡ false) → ((k : ℕ) → k / 4096 ≢ page → get_or new k false ≡ get_or words k false) → ListsPages new (set pages page false) list capacity
 unlist_page words new pages list capacity page h len clear same =
     record {
       reach = omega (arith, h.reach, length-set {A = Bool});
@@ -135,9 +147,9 @@ unlist_page words new pages list capacity page h len clear same =
       few = let n = mark_count-unset pages page in omega (arith, h.few, length-append {A = ℕ});
       within = λ k lt. let w = each_popped list page (length words) h.within k lt in omega arith;
       covers = λ word m.
-          elim (cases_eq (word / 1024) page) [
+          elim (cases_eq (word / 4096) page) [
             | inl e ↦ let c = clear word e in absurd (cc)
-            | inr ne ↦ get_or-set_other pages page (word / 1024) false false ne ∙ h.covers word (sym (same word ne) ∙ m)
+            | inr ne ↦ get_or-set_other pages page (word / 4096) false false ne ∙ h.covers word (sym (same word ne) ∙ m)
           ];
       all = λ other m. unset_all pages list page other h.all m;
     }
@@ -146,7 +158,7 @@ unlist_page words new pages list capacity page h len clear same =
 pub no_marks : (words pages : List Bool) (capacity : ℕ) → ListsPages words pages [] capacity → (k : ℕ) → get_or words k false ≡ false
 no_marks words pages capacity h k =
     elim (cases_Bool (get_or words k false)) [
-      | inl m ↦ let c = h.all (k / 1024) (h.covers k m) in absurd (omega (arith, c.1))
+      | inl m ↦ let c = h.all (k / 4096) (h.covers k m) in absurd (omega (arith, c.1))
       | inr e ↦ e
     ]
 
@@ -155,13 +167,13 @@ pub read_is : (xs : List Bool) (i : ℕ) (read value : Bool) → i < length xs �
 read_is xs i read value l e r = get_or_default xs i false read l ∙ sym e ∙ r
 
 -- the marks of a page that was listed are set
-pub marked_again : (words slice new pages : List Bool) (list : List ℕ) (capacity page : ℕ) → ListsPages words pages list capacity → slice ≡ words → length new ≡ length slice → ((k : ℕ) → k / 1024 ≢ page → get_or new k false ≡ get_or slice k false) → IsMarked pages page → ListsPages new pages list capacity
+pub marked_again : (words slice new pages : List Bool) (list : List ℕ) (capacity page : ℕ) → ListsPages words pages list capacity → slice ≡ words → length new ≡ length slice → ((k : ℕ) → k / 4096 ≢ page → get_or new k false ≡ get_or slice k false) → IsMarked pages page → ListsPages new pages list capacity
 marked_again words slice new pages list capacity page h s len same on =
     remark words new pages list capacity page h (len ∙ ap length s) on
     (λ k ne. same k ne ∙ ap (λ (x : List Bool). get_or x k false) s)
 
 -- the marks of a page that wasn't listed are set, and the page is listed
-pub marked_first : (words slice new pages : List Bool) (list pushed : List ℕ) (capacity room page : ℕ) → ListsPages words pages list capacity → slice ≡ words → length new ≡ length slice → ((k : ℕ) → k / 1024 ≢ page → get_or new k false ≡ get_or slice k false) → get_or pages page false ≡ false → 1024 * page < length words → capacity ≤ room → pushed ≡ list ++ page ∷ [] → ListsPages new (set pages page true) pushed room
+pub marked_first : (words slice new pages : List Bool) (list pushed : List ℕ) (capacity room page : ℕ) → ListsPages words pages list capacity → slice ≡ words → length new ≡ length slice → ((k : ℕ) → k / 4096 ≢ page → get_or new k false ≡ get_or slice k false) → get_or pages page false ≡ false → 4096 * page < length words → capacity ≤ room → pushed ≡ list ++ page ∷ [] → ListsPages new (set pages page true) pushed room
 marked_first words slice new pages list pushed capacity room page h s len same off l more p =
     let within = page_within words pages list capacity page h l in
     let there = list_page words pages list capacity room page h more l off in
@@ -169,7 +181,7 @@ marked_first words slice new pages list pushed capacity room page h s len same o
     (marked_again words slice new (set pages page true) (list ++ page ∷ []) room page there s len same (get_or-set_same pages page true false within))
 
 -- the last page of the list is completed
-pub completed_last : (words slice new pages : List Bool) (list all : List ℕ) (capacity room page : ℕ) → ListsPages words pages all capacity → all ≡ list ++ page ∷ [] → room ≡ capacity → slice ≡ words → length new ≡ length slice → ((k : ℕ) → k / 1024 ≡ page → get_or new k false ≡ false) → ((k : ℕ) → k / 1024 ≢ page → get_or new k false ≡ get_or slice k false) → ListsPages new (set pages page false) list room
+pub completed_last : (words slice new pages : List Bool) (list all : List ℕ) (capacity room page : ℕ) → ListsPages words pages all capacity → all ≡ list ++ page ∷ [] → room ≡ capacity → slice ≡ words → length new ≡ length slice → ((k : ℕ) → k / 4096 ≡ page → get_or new k false ≡ false) → ((k : ℕ) → k / 4096 ≢ page → get_or new k false ≡ get_or slice k false) → ListsPages new (set pages page false) list room
 completed_last words slice new pages list all capacity room page h p r s len clear same =
     let there = subst (λ (x : List ℕ). ListsPages words pages x capacity) p h in
     let more = subst (λ (x : ℕ). ListsPages words pages (list ++ page ∷ []) x) (sym r) there in

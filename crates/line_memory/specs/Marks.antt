@@ -30,11 +30,16 @@ abbrev pub completed_at : List Bool → List ℕ → List ℕ → ℕ → ℕ
 completed_at marks volatile durable word =
     cond (mark_at marks word) (slice_index volatile word) (slice_index durable word)
 
--- the marks of words, whether each page of 1024 words is listed, and the list of these, with room for every page
+-- the marks of words, and one for each group of 64 words: each group that has a marked word has its own
+pub record CoversGroups (words groups : List Bool) : Type 0 where
+  pub reach : length words ≤ 64 * length groups
+  pub covers : (word : ℕ) → IsMarked words word → IsMarked groups (word / 64)
+
+-- the marks of words, whether each page of 4096 words is listed, and the list of these, with room for every page
 pub record ListsPages (words pages : List Bool) (list : List ℕ) (capacity : ℕ) : Type 0 where
-  pub reach : length words ≤ 1024 * length pages
+  pub reach : length words ≤ 4096 * length pages
   pub room : length pages ≤ capacity
   pub few : length list ≤ mark_count pages
-  pub within : (k : ℕ) → k < length list → 1024 * slice_index list k < length words
-  pub covers : (word : ℕ) → IsMarked words word → IsMarked pages (word / 1024)
+  pub within : (k : ℕ) → k < length list → 4096 * slice_index list k < length words
+  pub covers : (word : ℕ) → IsMarked words word → IsMarked pages (word / 4096)
   pub all : (page : ℕ) → IsMarked pages page → Contains list page

@@ -1,6 +1,6 @@
 //! The pending write-backs of a memory, in room that is taken once.
 ghost use Rattle.std.specs.Prelude.{◌≡◌, ◌≢◌, ℕ, ◌+◌, ◌*◌, ◌/◌, ◌<◌, ◌≤◌, false, true, length, replicate, slice_index, slice_index_or, slice_set, IfOk, IfSome, IsNone, vec_len};
-ghost use Rattle.line_memory.specs.Marks.{completed_at, mark_at, IsMarked};
+ghost use Rattle.line_memory.specs.Marks.{completed_at, mark_at, CoversGroups, IsMarked};
 
 use crate::memory;
 use bit_marks::BitMarks;
@@ -10,17 +10,19 @@ use std::marker::Model;
 /// How many words a line has.
 const LINE: u64 = memory::LINE;
 
-/// How many words a page has, and how many marks are looked at together.
-const PAGE: u64 = 1024;
-
+/// How many words a group has, whose marks are looked at together.
 const GROUP: u64 = 64;
 
-/// A mark for each word, one bit each. Since a page is listed once at most, the list never outgrows
-/// its room, and a fence goes over the pages with words that were written back, and not over the
-/// whole memory.
+/// How many words a page has: those of 64 groups.
+const PAGE: u64 = GROUP * GROUP;
+
+/// A mark for each word, one bit each, and one for each group that may have marked words. Since a
+/// page is listed once at most, the list never outgrows its room, and a fence goes over the groups
+/// with words that were written back, and not over the whole memory.
 #[derive(Drop)]
 pub struct Pending {
     marks: BitMarks,
+    groups: BitMarks,
     listed: Vec<bool>,
     pages: Vec<u64>,
 }
@@ -28,14 +30,14 @@ pub struct Pending {
 impl Model for Pending {
     ghost use Rattle.std.specs.Prelude.{List, Bool};
     ghost use Rattle.std.specs.Vec.{vec_capacity};
-    ghost use Rattle.line_memory.specs.Marks.{ListsPages};
+    ghost use Rattle.line_memory.specs.Marks.{CoversGroups, ListsPages};
 
     ghost Value = { List Bool };
 
     ghost view = { λ p. p.marks };
 
-    ghost invariant = { λ p.
-        ListsPages p.marks p.listed.items p.pages.items (vec_capacity p.pages) };
+    ghost invariant = { λ p. CoversGroups p.marks p.groups
+        × ListsPages p.marks p.listed.items p.pages.items (vec_capacity p.pages) };
 }
 
 impl Pending {
@@ -45,6 +47,7 @@ impl Pending {
         let pages = words.div_ceil(PAGE as usize);
         Ok(Pending {
             marks: BitMarks::new(alloc, words as u64)?,
+            groups: BitMarks::new(alloc, (words as u64).div_ceil(GROUP))?,
             listed: vec![in alloc; false; pages]?,
             pages: Vec::with_capacity(alloc, pages)?,
         })
@@ -59,6 +62,7 @@ impl Pending {
     {
         let page = line / (PAGE / LINE);
         mark_words(&mut self.marks, line);
+        self.groups.set(line / (GROUP / LINE));
         if !self.listed[page as usize] {
             self.listed[page as usize] = true;
             self.pages.push_reserved(page);
@@ -81,7 +85,7 @@ impl Pending {
             → ((word : ℕ) → mark_at self.old word ≡ false) × (self.new ≡ self.old) }
     {
         while let Some(page) = self.pages.pop() {
-            if let Some(word) = first_marked(&self.marks, page) {
+            if let Some(word) = first_marked(&self.marks, &mut self.groups, page) {
                 self.pages.push_reserved(page);
                 self.marks.clear(word);
                 return Some(word);
@@ -121,19 +125,19 @@ fn mark_words(marks: &mut BitMarks, line: u64)
     }
 }
 
-/// The first marked word of the page.
-fn first_marked(marks: &BitMarks, page: u64) -> Option<u64>
-    requires { 1024 * page < length marks.now }
-    ensures some { IfSome result (λ word. IsMarked marks.now word × (word / 1024 ≡ page)) }
-    ensures none { IsNone result → (k : ℕ) → k / 1024 ≡ page → mark_at marks.now k ≡ false }
+/// The first marked word of the page. The marks of groups go that have no marked word.
+fn first_marked(marks: &BitMarks, groups: &mut BitMarks, page: u64) -> Option<u64>
+    requires { CoversGroups marks.now groups.old }
+    ensures covers { CoversGroups marks.now groups.new }
+    ensures some { IfSome result (λ word. IsMarked marks.now word × (word / 4096 ≡ page)) }
+    ensures none { IsNone result → (k : ℕ) → k / 4096 ≡ page → mark_at marks.now k ≡ false }
 {
-    let groups = marks.len().div_ceil(GROUP);
-    let first = PAGE / GROUP * page;
-    for group in first..groups.min(first + PAGE / GROUP) {
+    while let Some(group) = groups.first_in(page) {
         let found = marks.first_in(group);
         if found.is_some() {
             return found;
         }
+        groups.clear(group);
     }
     None
 }
