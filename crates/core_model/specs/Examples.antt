@@ -1,13 +1,16 @@
 -- Worked examples by computation: two superblocks, of which the first is in the list of the free ones, and a seat with ticket 3.
-use Rattle.std.specs.Prelude.{◌≡◌, ℕ, ◌+◌, cond, nat_eq, Bool, true, false, [], ◌∷◌, replicate, None, Some, refl, get_or, set}
+use Rattle.std.specs.Prelude.{◌≡◌, ℕ, ◌+◌, cond, nat_eq, Bool, true, false, [], ◌∷◌, ◌++◌, replicate, None, Some, refl, get_or, set}
+use Rattle.heap_model.specs.Geometry.{image_words}
 use Rattle.heap_model.specs.Sizes.{class_sizes, words_of_class, blocks_of}
 use Rattle.core_model.specs.declared.event.Event.TheVariants.{Tick, Load, Store, Settle, LookUsed, TakeFresh, KeepUsed, LookHead, LookLink, Pop, Push, LookAnchor, TakeAll, Give}
 use Rattle.core_model.specs.declared.event.Shift.TheVariants.{Cut, Alloc, Free, Lift, Large, Split}
 use Rattle.core_model.specs.Cells.{Cell, used_cell, head_cell, info_cell, anchor_cell, link_cell, root_cell, data_cell, no_cell, cell_at}
 use Rattle.core_model.specs.Memory.{Memory, write, volatile_at}
-use Rattle.core_model.specs.View.{Setup, View, LastLook, no_batch, times_own, of_class, known}
+use Rattle.core_model.specs.View.{Setup, View, LastLook, no_batch, times_own, times_held, times_free, of_class, known}
 use Rattle.core_model.specs.Effects.{left_there, view_after, chain, steps, learn_fresh}
-use Rattle.core_model.specs.Splitting.{Choice, given_off}
+use Rattle.core_model.specs.Splitting.{Choice, remaining, given_off}
+use Rattle.core_model.specs.Opening.{setup_of, opened_view}
+use Rattle.core_model.specs.Held.{volatile_image, durable_image}
 use Rattle.core_model.specs.Steps.{seat_after}
 
 -- word indices and cells
@@ -150,6 +153,10 @@ has_lost = refl
 pub has_lost_to : (seat_after memory (saw_used 0) (TakeFresh 1)).lost_to ≡ 1
 has_lost_to = refl
 
+-- a mark that was taken further is seen as it was left
+pub sees_taken : (seat_after memory (saw_used 1) (TakeFresh 1)).seen_used ≡ Some 2
+sees_taken = refl
+
 -- it is known to be durable as far as it was seen, and does not fall where less was seen
 pub keeps_used : (seat_after memory (saw_used 2) KeepUsed).floor ≡ 2
 keeps_used = refl
@@ -175,6 +182,16 @@ fresh_link = refl
 
 pub fresh_alone : known (learn_fresh (replicate 1080 None) 1 1) (info_cell 0) ≡ None
 fresh_alone = refl
+
+-- as what loads see, and as what is durable
+abbrev unknown : View
+unknown = record (saw_used 1) { volatile = replicate 1080 None; durable = replicate 1080 None }
+
+pub fresh_now : known (seat_after memory unknown (TakeFresh 1)).volatile (link_cell 1) ≡ Some 0
+fresh_now = refl
+
+pub fresh_durable : known (seat_after memory unknown (TakeFresh 1)).durable (link_cell 1) ≡ Some 0
+fresh_durable = refl
 
 -- a pop counts, and the descriptor is claimed; with an old head it is lost
 abbrev pub saw_head : ℕ → View
@@ -206,6 +223,37 @@ pushes = refl
 
 pub has_pushed : (view_after memory (record (saw_head 33554432) { raw = 0 ∷ [] }) (Push 0) 33554432).raw ≡ []
 has_pushed = refl
+
+-- a pop and a push that are lost are counted, with the word that was found
+pub counts_lost_pop : (seat_after memory (saw_head 1) Pop).losses ≡ 1
+counts_lost_pop = refl
+
+pub pop_lost_to : (seat_after memory (saw_head 1) Pop).lost_to ≡ 16777217
+pop_lost_to = refl
+
+pub counts_lost_push : (seat_after memory (record (saw_head 1) { raw = 0 ∷ [] }) (Push 0)).losses ≡ 1
+counts_lost_push = refl
+
+pub push_lost_to : (seat_after memory (record (saw_head 1) { raw = 0 ∷ [] }) (Push 0)).lost_to ≡ 16777217
+push_lost_to = refl
+
+-- behind a push own words are known as before, and no others
+abbrev knowing : View
+knowing = record (saw_head 16777217) {
+  raw = 0 ∷ [];
+  roots = 1 ∷ [];
+  volatile = replicate 50 (Some 5);
+  durable = replicate 50 (Some 6);
+}
+
+pub still_known : get_or (seat_after memory knowing (Push 0)).volatile 41 None ≡ Some 5
+still_known = refl
+
+pub still_durable : get_or (seat_after memory knowing (Push 0)).durable 41 None ≡ Some 6
+still_durable = refl
+
+pub known_no_more : get_or (seat_after memory knowing (Push 0)).volatile 42 None ≡ None
+known_no_more = refl
 
 -- a descriptor of a class counts as moved where it goes to the list of the free ones; not in its class's list, nor one without a class
 abbrev pub claims_20 : ℕ → View
@@ -262,6 +310,12 @@ knows_given = refl
 
 pub counts_give_behind : (view_after memory (record batched { seen_anchor = Some (record { of = 0; word = 17179869185 }) }) (Give 0) 17179869185).gives ≡ 1
 counts_give_behind = refl
+
+pub counts_lost_give : (view_after memory batched (Give 0) 5).losses ≡ 1
+counts_lost_give = refl
+
+pub give_lost_to : (view_after memory batched (Give 0) 5).lost_to ≡ 5
+give_lost_to = refl
 
 -- four words apart, and so many along the links
 pub three_steps : steps 8 4 3 ≡ 8 ∷ 12 ∷ 16 ∷ []
@@ -349,6 +403,9 @@ is_done_with = refl
 pub loses_all : (view_after memory partial (TakeAll 0) 2).losses ≡ 1
 loses_all = refl
 
+pub take_all_lost_to : (view_after memory partial (TakeAll 0) 2).lost_to ≡ 2
+take_all_lost_to = refl
+
 -- a block is held, freed, and put behind the batch
 abbrev pub cached : View
 cached = record idle { caches = set (replicate 21 []) 20 (1080 ∷ 2872 ∷ []) }
@@ -402,3 +459,99 @@ cuts = refl
 
 pub counts_cut : (view_after of_20 (record idle { cutting = 1 ∷ [] }) (Tick (Some (Cut 1))) 4).cuts ≡ 1
 counts_cut = refl
+
+-- a seat that is split off has the roots that go, and knows its own words; the others stay
+abbrev nothing : Choice
+nothing = record { blocks = λ b. false; spans = λ d. false; roots = λ i. false }
+
+pub new_seat_has : (given_off everything with_root).roots ≡ 1 ∷ []
+new_seat_has = refl
+
+pub new_seat_has_none : (given_off nothing with_root).roots ≡ []
+new_seat_has_none = refl
+
+pub gone : (remaining everything with_root).roots ≡ []
+gone = refl
+
+pub stays : (remaining nothing with_root).roots ≡ 1 ∷ []
+stays = refl
+
+pub new_seat_knows_words : get_or (given_off everything knowing).volatile 41 None ≡ Some 5
+new_seat_knows_words = refl
+
+-- the words of held blocks, of cached ones and of the batch are own words, and those of large blocks
+abbrev pub large : View
+large = record idle { large = record { first = 1; count = 1 } ∷ [] }
+
+pub owns_held : times_own holding (cell_at 2 9272) ≡ 1
+unfolding words_of_class class_sizes
+owns_held = refl
+
+pub owns_cached : times_own cached (cell_at 2 1080) ≡ 1
+unfolding words_of_class class_sizes
+owns_cached = refl
+
+pub owns_batched : times_own batched (cell_at 2 1080) ≡ 1
+unfolding words_of_class class_sizes
+owns_batched = refl
+
+pub owns_large : times_own large (cell_at 2 9272) ≡ 1
+unfolding words_of_class class_sizes
+owns_large = refl
+
+-- of these only the held ones' are held, and only the others are free
+pub held_small : times_held holding (data_cell 9272) ≡ 1
+unfolding words_of_class class_sizes
+held_small = refl
+
+pub held_large : times_held large (data_cell 9272) ≡ 1
+unfolding words_of_class class_sizes
+held_large = refl
+
+pub held_root : times_held with_root (root_cell 1) ≡ 1
+held_root = refl
+
+pub cached_not_held : times_held cached (data_cell 1080) ≡ 0
+unfolding words_of_class class_sizes
+cached_not_held = refl
+
+pub free_cached : times_free cached 1080 ≡ 1
+unfolding words_of_class class_sizes
+free_cached = refl
+
+pub free_batched : times_free batched 1080 ≡ 1
+unfolding words_of_class class_sizes
+free_batched = refl
+
+pub held_not_free : times_free holding 9272 ≡ 0
+unfolding words_of_class class_sizes
+held_not_free = refl
+
+-- a heap is opened with the budget and for the seats that are asked for; a seat then knows its own words, and has looked at each head
+abbrev pub opened : View
+opened = opened_view (record setup { opened = replicate 50 5 }) [] [] (1 ∷ 0 ∷ []) 0
+
+pub opened_budget : (setup_of [] 7 3).budget ≡ 7
+opened_budget = refl
+
+pub opened_seats : (setup_of [] 7 3).seats ≡ 3
+opened_seats = refl
+
+pub opened_known : get_or opened.volatile 41 None ≡ Some 5
+opened_known = refl
+
+pub opened_durable : get_or opened.durable 41 None ≡ Some 5
+opened_durable = refl
+
+pub opened_unknown : get_or opened.volatile 40 None ≡ None
+opened_unknown = refl
+
+pub opened_look : get_or opened.head_looks 20 unread ≡ record { word = 5; ticket = None; wins = 0; taken = 0 }
+opened_look = refl
+
+-- the volatile words come first in the table, and then the durable ones
+pub reads_volatile : volatile_image 0 (replicate (image_words 0) 6 ++ replicate 9 7) 8 ≡ 6
+reads_volatile = refl
+
+pub reads_durable : durable_image 0 (replicate (image_words 0) 6 ++ replicate 9 7) 8 ≡ 7
+reads_durable = refl
