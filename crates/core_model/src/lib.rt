@@ -9,8 +9,9 @@ mod laws;
 
 pub use answer::StepAnswer;
 pub use count_laws::{
-    each_loss_is_a_win_of_another_seat, each_move_is_a_give_or_was_there,
-    the_mark_is_what_was_taken, tickets_end_at_the_budget,
+    a_seat_stops_at_the_budget, each_loss_is_a_win_of_another_seat,
+    each_move_is_a_give_or_was_there, the_mark_is_what_was_taken, tickets_end_at_the_budget,
+    what_a_seat_knows_is_so,
 };
 pub use event::{Event, Shift};
 pub use laws::{
