@@ -4,4 +4,6 @@ pub mod DealLemmas
 pub mod OpeningLemmas
 pub mod ClosingLemmas
 pub mod RuleLemmas
+pub mod BudgetLemmas
+pub mod UntakenLemmas
 pub mod StepLemmas

@@ -11,7 +11,10 @@ mod shared;
 mod steps;
 
 pub use closing::{close_table, fresh_seat, join};
-pub use laws::what_a_heap_comes_to_is_sound;
+pub use laws::{
+    a_heap_without_a_budget_stays_as_it_was_opened,
+    a_superblock_that_was_never_taken_stays_as_it_was_opened, what_a_heap_comes_to_is_sound,
+};
 pub use opening::{open_table, split_first};
 pub use rule::{Known, TableSeat};
 pub use shared::Shared;
