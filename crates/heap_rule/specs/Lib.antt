@@ -12,4 +12,5 @@ pub mod Changed
 pub mod Rooms
 pub mod Fences
 pub mod Examples
+pub mod LeftExamples
 pub mod Stacks
