@@ -4,3 +4,4 @@ pub mod Costs
 pub mod Rows
 pub mod Alone
 pub mod Idle
+pub mod Examples

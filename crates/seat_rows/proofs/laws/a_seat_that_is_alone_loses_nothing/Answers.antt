@@ -1,5 +1,5 @@
 use Rattle.core_model.specs.Memory.{memory_of}
-use Rattle.seat_rows.proofs.AloneLemmas.{event_won, looks_say, none_lost}
+use Rattle.seat_rows.proofs.AloneLemmas.{event_won, left_steady, looks_say, none_lost, opened_steady}
 use Rattle.seat_rows.proofs.laws.a_seat_that_is_alone_loses_nothing.Goals as goal
 
 pub returns-clause-losses : goal.returns-clause-losses
@@ -10,3 +10,9 @@ returns-clause-event c = event_won
 
 pub returns-clause-looks : goal.returns-clause-looks
 returns-clause-looks c = looks_say
+
+pub returns-clause-opened : goal.returns-clause-opened
+returns-clause-opened c = opened_steady
+
+pub returns-clause-left : goal.returns-clause-left
+returns-clause-left c = left_steady
