@@ -5,7 +5,7 @@ use Rattle.heap_model.specs.Sizes.{IsLeastClassFor, largest_small, span_of}
 use Rattle.heap_seat.specs.declared.fault.Looks.{Looks}
 use Rattle.core_model.specs.View.{View, of_class}
 use Rattle.seat_calls.specs.Large.{HasNoRoom}
-use Rattle.seat_calls.specs.Requests.{IsGivenBack}
+use Rattle.seat_calls.specs.Requests.{IsGivenBack, IsGranted}
 use Rattle.seat_fill.specs.Refills.{IsFilledInOrder, IsFull}
 use Rattle.seat_rows.specs.Rows.{IsMade, next_of, parts}
 
@@ -19,17 +19,21 @@ pub record HasSeenRoom (bytes : ℕ) (v w : View) : Type 0 where
   pub made : IsMade (next_of v) (next_of w) v.taken v.taken w.used_look
   pub room : w.used_look.word + span_of bytes ≤ w.setup.capacity
 
--- a granted request; one of a class filled its cache in order
+-- a granted request: a block of a class is the first of its cache, where that had one, and else the cache was filled in order; a large one begins at the mark that was seen; nothing else that the seat had changed, and no batch was given
 pub record IsServed (bytes : ℕ) (v w : View) : Type 0 where
   pub light : IsLight v w
+  pub block : Block
+  pub granted : IsGranted bytes block v w
+  pub gives : w.gives ≡ v.gives
   pub order : (class : ℕ) → IsLeastClassFor bytes class → IsFilledInOrder class v w
   pub large : largest_small < bytes → HasSeenRoom bytes v w
 
--- a refused request: of a class, whose cache is empty, it found both lists empty and the mark past, in this order, and won no exchange from the first of these looks on; one that is too large for a class found the mark past, and won none at all; the seat has what it had, and cut nothing
+-- a refused request: of a class, whose cache is empty, it found both lists empty and the mark past, in this order, and won no exchange from the first of these looks on; one that is too large for a class found the mark past, and won none at all; the seat has what it had, and cut and gave nothing
 pub record IsTurnedAway (bytes : ℕ) (looks : Looks) (v w : View) : Type 0 where
   pub light : IsLight v w
   pub parts_are : parts w ≡ parts v
   pub cuts : w.cuts ≡ v.cuts
+  pub gives : w.gives ≡ v.gives
   pub for_class : (class : ℕ) → IsLeastClassFor bytes class → IsFull class looks v w × (of_class v.caches class ≡ [])
   pub for_span : largest_small < bytes → HasNoRoom (span_of bytes) looks v w
 
