@@ -80,6 +80,7 @@ module _ (v u w : View) (n used found : ℕ) (drawn : HasDrawn v u) (mark : v.se
     room = let r = room in let s = ap (λ (x : View). x.setup.capacity) drawn.left in omega arith;
     look = ap (λ (x : View). x.used_look) left;
     wins = ap (λ (x : View). x.wins) left;
+    taken = ap (λ (x : View). x.taken) left;
     heads = ap (λ (x : View). x.head_looks) left;
     later = let l = ap next_of left in let d = drawn.later in omega arith;
     blank = record {
@@ -147,6 +148,7 @@ mark_kept v u w used found drawn mark event = record {
   durable = let f = ap (λ (x : View). x.floor) left in let s = ap seen mark in omega arith;
   look = ap (λ (x : View). x.used_look) left;
   wins = ap (λ (x : View). x.wins) left;
+  taken = ap (λ (x : View). x.taken) left;
   heads = ap (λ (x : View). x.head_looks) left;
   later = let l = ap next_of left in let d = drawn.later in omega arith;
   blank = λ d n raw. blank_still v w d n (λ e from until. raw_owns v e (inside e (raw e from until)) (raw e from until)) words;
@@ -186,6 +188,7 @@ taken_then v t u w n used sees marked kept = record {
   room = let r = marked.room in let s = ap (λ (p : Parts). p.setup.capacity) sees.goes_on.parts_are in omega arith;
   seen = ap (λ (l : LastLook). l.word) look;
   wins = kept.wins ∙ marked.wins ∙ ap (λ k. k + 1) sees.goes_on.wins;
+  taken = kept.taken ∙ marked.taken ∙ ap (λ k. k + n) sees.taken;
   heads = kept.heads ∙ marked.heads ∙ sees.heads;
   made = let t_is = drawn_ticket t.last_ticket (next_of v) sees.later in record {
     ticket = t_is.0;
@@ -252,7 +255,7 @@ pub tries_less : (t w : View) → HasLostMark 2 t w → w.setup.budget - w.draws
 tries_less t w lost = let same = ap (λ (k : Setup). k.budget) lost.row.passes.setup in let room = lost.room in let more = lost.more in omega arith
 
 pub tries_done : (v t w : View) (n : ℕ) (take : TakeAnswer) → Trying v t → Takes n take t w → Takes n take v w
-tries_done v t w n (Got d) trying got = record { going = got.going; parts_are = got.parts_are ∙ ap (with_fresh d n) trying.parts_are; durable = got.durable; blank = got.blank; room = let r = got.room in let s = ap (λ (k : Setup). k.capacity) trying.row.passes.setup in omega arith; seen = got.seen; wins = got.wins ∙ ap (λ k. k + 1) trying.wins; heads = got.heads ∙ trying.heads; made = made } where
+tries_done v t w n (Got d) trying got = record { going = got.going; parts_are = got.parts_are ∙ ap (with_fresh d n) trying.parts_are; durable = got.durable; blank = got.blank; room = let r = got.room in let s = ap (λ (k : Setup). k.capacity) trying.row.passes.setup in omega arith; seen = got.seen; wins = got.wins ∙ ap (λ k. k + 1) trying.wins; taken = got.taken ∙ ap (λ k. k + n) trying.taken; heads = got.heads ∙ trying.heads; made = made } where
   made : IsMade (next_of v) (next_of w) v.taken v.taken w.used_look
   made = let m = got.made in record {
     ticket = m.ticket;

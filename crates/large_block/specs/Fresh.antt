@@ -42,6 +42,7 @@ pub record HasMarked (n used : ℕ) (v w : View) : Type 0 where
   pub blank : AreBlankFrom used n w
   pub look : w.used_look ≡ v.used_look
   pub wins : w.wins ≡ v.wins + 1
+  pub taken : w.taken ≡ v.taken + n
   pub heads : w.head_looks ≡ v.head_looks
   pub later : next_of v ≤ next_of w
 
@@ -70,10 +71,11 @@ pub record HasKept (used : ℕ) (v w : View) : Type 0 where
   pub blank : (d n : ℕ) → ((e : ℕ) → d ≤ e → e < d + n → 0 < times_raw e v) → AreBlankFrom d n v → AreBlankFrom d n w
   pub look : w.used_look ≡ v.used_look
   pub wins : w.wins ≡ v.wins
+  pub taken : w.taken ≡ v.taken
   pub heads : w.head_looks ≡ v.head_looks
   pub later : next_of v ≤ next_of w
 
--- they are the seat's, no crash forgets that they were taken, and nothing is in their descriptors; the last look at the mark said that there is room for them
+-- they are the seat's and counted as taken, no crash forgets that they were, and nothing is in their descriptors; the last look at the mark said that there is room for them
 pub record HasTakenFresh (n d : ℕ) (v w : View) : Type 0 where
   pub going : w.stopped ≡ None
   pub parts_are : parts w ≡ with_fresh d n (parts v)
@@ -83,6 +85,7 @@ pub record HasTakenFresh (n d : ℕ) (v w : View) : Type 0 where
   pub seen : w.used_look.word ≡ d
   pub made : IsMade (next_of v) (next_of w) v.taken v.taken w.used_look
   pub wins : w.wins ≡ v.wins + 1
+  pub taken : w.taken ≡ v.taken + n
   pub heads : w.head_looks ≡ v.head_looks
 
 -- the mark, as read at the last step, left no room for n more; nothing was won

@@ -36,8 +36,8 @@ taken_and_held d n p raw split =
     (ap (λ i. without_range d n (steps i 1 n)) (let e : d ≡ d + 0 = omega arith in e) ∙ none_left d n 0 n (omega arith) ∙ sym raw)
     ∙ ap (λ l. record p { large = record { first = d; count = n } ∷ p.large; split = l }) (ap (without_range d n) split ∙ sym split)
 
-pub allocated : (v t w : View) (n d : ℕ) (b : Block) → IsIdle v → HasTakenFresh n d v t → HasHeld d n b t w → next_of t ≤ next_of w → HasAllocatedLarge n b v w
-allocated v t w n d b idle taken held later = record {
+pub allocated : (v t w : View) (n d : ℕ) (b : Block) → IsIdle v → HasTakenFresh n d v t → HasHeld d n b t w → next_of t ≤ next_of w → w.taken ≡ t.taken → HasAllocatedLarge n b v w
+allocated v t w n d b idle taken held later same = record {
   going = held.going;
   first = d;
   parts_are = held.parts_are ∙ ap (with_large d n) taken.parts_are ∙ taken_and_held d n (parts v) idle.raw idle.split;
@@ -52,6 +52,7 @@ allocated v t w n d b idle taken held later = record {
     taken_least = let l = m.taken_least in let s = ap (λ (l : LastLook). l.taken) held.look in omega arith;
     taken_most = let l = m.taken_most in let s = ap (λ (l : LastLook). l.taken) held.look in omega arith;
   };
+  taken = same ∙ taken.taken;
 }
 
 pub no_room : (v w : View) (n used : ℕ) → IsPast n used v w → HasNoRoom n (record { class_head = 0; free_head = 0; used = used }) v w

@@ -11,7 +11,7 @@ use Rattle.seat_fill.specs.Refills.{IsLook}
 use Rattle.seat_rows.specs.Costs.{Costs, no_costs}
 use Rattle.seat_rows.specs.Rows.{IsMade, Stops, next_of, parts}
 
--- a block of n superblocks is held, which are the first that were not taken, as the last look at the mark said: there is room for them
+-- a block of n superblocks is held, which are the first that were not taken, as the last look at the mark said: there is room for them, and they count as taken
 pub record HasAllocatedLarge (n : ℕ) (b : Block) (v w : View) : Type 0 where
   pub going : w.stopped ≡ None
   pub first : ℕ
@@ -20,6 +20,7 @@ pub record HasAllocatedLarge (n : ℕ) (b : Block) (v w : View) : Type 0 where
   pub room : first + n ≤ v.setup.capacity
   pub seen : w.used_look.word ≡ first
   pub made : IsMade (next_of v) (next_of w) v.taken v.taken w.used_look
+  pub taken : w.taken ≡ v.taken + n
 
 -- the seat has what it had; the mark left no room for n superblocks, as its last look said, and nothing was won
 pub record HasNoRoom (n : ℕ) (looks : Looks) (v w : View) : Type 0 where

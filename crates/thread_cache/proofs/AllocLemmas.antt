@@ -1,6 +1,6 @@
 -- What a request leaves, granted, refused or stopped, for a seat of a heap.
 use Rattle.std.proofs.Common.{◌≡◌, ◌<◌, ◌≤◌, ◌⊎◌, ℕ, ◌+◌, ◌-◌, ◌*◌, inl, inr, List, [], set, length, None, Result, Ok, Err, IfOk, OnOk, OnErr, IfErr, refl, ap, sym, subst, ◌∙◌, arith}
-use Rattle.std.proofs.lemmas.Bool.{cases_eq}
+use Rattle.std.proofs.lemmas.Bool.{cases_eq, cases_lt}
 use Rattle.std.proofs.lemmas.List.{get_or-set_same, get_or-set_other}
 use Rattle.heap_model.specs.declared.block.Block.{Block}
 use Rattle.heap_model.specs.Sizes.{IsClass, IsLeastClassFor, largest_small, span_of, blocks_of}
@@ -15,7 +15,7 @@ use Rattle.heap_seat.specs.Looks.{FoundEmpty, FoundNoRoom, IsLastSeen}
 use Rattle.heap_seat.specs.Words.{IsOwn, KeepsPending}
 use Rattle.line_memory.specs.Marks.{IsMarked}
 use Rattle.line_memory.specs.Marked.{marked_words-has, marked_words-only}
-use Rattle.core_model.specs.View.{LastLook, View, of_class}
+use Rattle.core_model.specs.View.{LastLook, View, of_class, one_if_some}
 use Rattle.heap_table.specs.Plays.{HasSoundState}
 use Rattle.heap_rule.specs.Seated.{SeatView}
 use Rattle.seat_rows.specs.Costs.{Costs}
@@ -33,7 +33,7 @@ use Rattle.seat_view.proofs.ChangedBlocks.{class_in, holds_by, large_words_stay,
 use Rattle.seat_view.proofs.HeldLemmas.{own_held, word_law}
 use Rattle.thread_cache.specs.Serving.{HasSeenRoom, IsLight, IsServed, IsTurnedAway}
 use Rattle.thread_cache.proofs.CallLemmas.{at_state, runs_law, stops_law}
-use Rattle.thread_cache.proofs.LargeLemmas.{IsFew, LargeStep}
+use Rattle.thread_cache.proofs.LargeLemmas.{IsFew, IsPaid, LargeStep, paid_light, paid_most}
 
 -- the counts after a refusal
 pub full_step : (before s : CacheState) → before ≡ s → (bytes : ℕ) (looks : Looks) (x y : SeatView) → x.view ≡ before.view → x.marks ≡ before.marks → HasSoundState y.view → s.view.stopped ≡ None
@@ -295,3 +295,26 @@ alloc_between bytes v w has (Err (StoppedFault e)) idle short stop going = not_b
 -- what a request costs is few
 pub request_few : (bytes moves : ℕ) → IsFew (request_costs bytes moves)
 request_few bytes moves = record { draws = omega arith; wins = omega arith; gives = omega arith; cuts = omega arith }
+
+-- it draws few tickets, or it cut a superblock or stopped
+module _ (bytes moves : ℕ) (x y : SeatView) (ran : x.view.stopped ≡ None) (passes : Passes (request_costs bytes moves) x.view y.view) where
+  paid_for : x.view.taken + length y.view.large ≤ y.view.taken + length x.view.large → (y.view.cuts ≡ x.view.cuts → HoldingRow (light_request bytes moves) x y) → IsPaid x.view y.view
+  paid_for left light = elim (cases_lt x.view.cuts y.view.cuts) as (λ _. IsPaid x.view y.view) [
+    | inl rose ↦ paid_most (request_costs bytes moves) x.view y.view (request_few bytes moves) passes
+        (let g = passes.more.gives in let going = ap one_if_some ran in omega arith)
+    | inr none ↦ paid_light (light_request bytes moves) x.view y.view (omega arith) (light (let c = passes.more.cuts in omega arith)).passes
+        (let c = passes.more.cuts in let g = passes.more.gives in let going = ap one_if_some ran in omega arith)
+  ]
+
+  pub alloc_paid : (result : Result Block AllocFault) → Answers bytes result x.view y.view → IfGoing result (y.view.cuts ≡ x.view.cuts → HoldingRow (light_request bytes moves) x y) → OnErr result (Row (request_costs bytes moves) x y) → IsPaid x.view y.view
+  alloc_paid (Ok b) (by_class class least allocated) light row =
+      paid_for (let t = passes.more.taken in let spans = ap (λ (p : Parts). length p.large) allocated.parts_are in omega arith) light
+  alloc_paid (Ok b) (by_span large allocated) light row =
+      paid_for (let t = allocated.taken in let spans = ap (λ (p : Parts). length p.large) allocated.parts_are in omega arith) light
+  alloc_paid (Err (Full looks)) (by_class class least full none) light row =
+      paid_for (let t = passes.more.taken in let spans = ap (λ (p : Parts). length p.large) full.parts_are in omega arith) light
+  alloc_paid (Err (Full looks)) (by_span large none) light row =
+      paid_for (let t = passes.more.taken in let spans = ap (λ (p : Parts). length p.large) none.parts_are in omega arith) light
+  alloc_paid (Err (StoppedFault e)) stop light row = paid_most (request_costs bytes moves) x.view y.view (request_few bytes moves) passes
+      (let c = passes.more.cuts in let g = passes.more.gives in let t = passes.more.taken in let spans = ap length row.view.large in
+      let going = ap one_if_some ran in let stops = ap one_if_some stop.at in omega arith)

@@ -125,8 +125,8 @@ module _ (s : CacheState) (x y : SeatView) (n : CallCounts) (step : SmallStep s 
     refusals = record { count = step.refusals; bytes = step.bytes; looks = step.refused };
   }
 
-  pub small_keeps : KeepsCosts s.view s.small_calls s.large_calls y.view n.small_calls n.large_calls
-  small_keeps = record {
+  pub small_keeps : y.view.large ≡ x.view.large → KeepsCosts s.view s.small_calls s.large_calls y.view n.small_calls n.large_calls
+  small_keeps same = record {
     setup = passes.setup;
     roots = passes.roots;
     floor = passes.floor;
@@ -137,6 +137,9 @@ module _ (s : CacheState) (x y : SeatView) (n : CallCounts) (step : SmallStep s 
     wins = let f = step.large in let d = passes.most.wins in let m = passes.more.moves in omega arith;
     gives = let f = step.large in let d = passes.most.gives in omega arith;
     cuts = let f = step.large in let d = passes.most.cuts in omega arith;
+    light = let e = step.small in let f = step.large in let l = passes.more.losses in let d = passes.most.draws in
+        let c = passes.more.cuts in let g = passes.more.gives in let t = passes.more.taken in
+        let ran = ap one_if_some step.ran in let spans = ap length (at_state (λ v. y.view.large ≡ v.large) s x step.was same) in omega arith;
   }
 
   pub small_own : {a : Costs} → Row a x y → KeepsOwn (heap_view s) (heap_view_of y.view y.marks n)

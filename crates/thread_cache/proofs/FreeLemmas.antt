@@ -1,7 +1,8 @@
 -- What the freeing of a block leaves, done or stopped, for a seat of a heap.
-use Rattle.std.proofs.Common.{◌≡◌, ◌≢◌, ◌<◌, ℕ, inl, inr, None, set, Result, Ok, Err, OnOk, IfErr, ap, sym, subst, ◌∙◌, arith}
+use Rattle.std.proofs.Common.{◌≡◌, ◌≢◌, ◌<◌, ◌≤◌, ℕ, ◌+◌, inl, inr, cond, List, [], ◌∷◌, length, None, set, Result, Ok, Err, OnOk, IfErr, ap, sym, subst, ◌∙◌, eq-eqb, ne_eqb, arith}
 use Rattle.std.specs.Bool.{⊤}
 use Rattle.std.specs.Prelude.{Contains}
+use Rattle.std.proofs.lemmas.Bool.{cases_eq, cases_lt}
 use Rattle.heap_model.specs.declared.block.Block.{Block}
 use Rattle.heap_model.specs.Blocks.{IsIn}
 use Rattle.heap_seat.specs.Calls.{SameRefusals}
@@ -9,9 +10,9 @@ use Rattle.heap_seat.specs.Free.{Frees, MayHaveFreed as MayFree}
 use Rattle.heap_seat.specs.Words.{IsOwn}
 use Rattle.line_memory.specs.declared.memory.Stopped.{Stopped}
 use Rattle.heap_model.specs.Counting.{without}
-use Rattle.core_model.specs.Effects.{without_span}
+use Rattle.core_model.specs.Effects.{span_count, without_span}
 use Rattle.core_model.specs.Held.{IsHeld}
-use Rattle.core_model.specs.View.{View, of_class}
+use Rattle.core_model.specs.View.{Span, View, of_class, one_if_some}
 use Rattle.heap_table.specs.Plays.{HasSoundState}
 use Rattle.heap_rule.specs.Seated.{SeatView}
 use Rattle.seat_rows.specs.Costs.{Costs}
@@ -28,7 +29,7 @@ use Rattle.seat_view.proofs.HeldLemmas.{held_is, own_held, word_law}
 use Rattle.thread_cache.specs.Serving.{IsLight, IsPutBack}
 use Rattle.thread_cache.proofs.AllocLemmas.{pending_of, same_between, short_but}
 use Rattle.thread_cache.proofs.CallLemmas.{at_state, runs_law}
-use Rattle.thread_cache.proofs.LargeLemmas.{IsFew, LargeStep}
+use Rattle.thread_cache.proofs.LargeLemmas.{IsFew, IsPaid, LargeStep, paid_light, paid_most}
 
 -- the block that goes
 gives_block : (class : ℕ) (b : Block) (v w : View) → w.setup ≡ v.setup → w.roots ≡ v.roots → IsSmallBlock class b v → w.small ≡ set v.small class (without b.first_word (of_class v.small class)) → w.large ≡ v.large → GivesBlock class b v w
@@ -125,3 +126,46 @@ free_between b v w has (Ok r) idle short (of_a_class class is freed) stop going 
 free_between b v w has (Ok r) idle short (of_a_span d is freed) stop going = same_between v w idle short
     (ap (λ (p : Parts). p.batch) freed.parts_are) (ap (λ (p : Parts). p.raw) freed.parts_are) (ap (λ (p : Parts). p.split) freed.parts_are) (ap (λ (p : Parts). p.cutting) freed.parts_are) (ap (λ (p : Parts). p.classed) freed.parts_are) (ap (λ (p : Parts). p.caches) freed.parts_are)
 free_between b v w has (Err e) idle short given stop going = not_both stop.at going
+
+-- a large block that goes is one
+span_goes : (d : ℕ) (spans : List Span) → 1 ≤ span_count d spans → length (without_span d spans) + 1 ≡ length spans
+span_goes d [] some = absurd (omega arith)
+span_goes d (span ∷ spans) some = elim (cases_eq span.first d) as (λ _. length (without_span d (span ∷ spans)) + 1 ≡ length (span ∷ spans)) [
+  | inl same ↦ let e = ap (λ test. length (cond test spans (span ∷ without_span d spans))) (eq-eqb span.first d same) in omega arith
+  | inr other ↦
+      let apart = ne_eqb span.first d other in
+      let e = ap (λ test. length (cond test spans (span ∷ without_span d spans))) apart in
+      let c = ap (λ test. cond test span.count (span_count d spans)) apart in
+      let rest = span_goes d spans (omega arith) in omega arith
+]
+
+spans_left : (d : ℕ) (spans : List Span) → length (without_span d spans) ≤ length spans
+spans_left d [] = omega arith
+spans_left d (span ∷ spans) = elim (cases_eq span.first d) as (λ _. length (without_span d (span ∷ spans)) ≤ length (span ∷ spans)) [
+  | inl same ↦ let e = ap (λ test. length (cond test spans (span ∷ without_span d spans))) (eq-eqb span.first d same) in omega arith
+  | inr other ↦ let e = ap (λ test. length (cond test spans (span ∷ without_span d spans))) (ne_eqb span.first d other) in let rest = spans_left d spans in omega arith
+]
+
+may_fewer : (b : Block) (v w : View) → MayBeGivenBack b v w → length w.large ≤ length v.large
+may_fewer b v w (of_a_class class is may) = let spans = ap length may.large in omega arith
+may_fewer b v w (of_a_span d is may) = elim may.large [
+  | inl stays ↦ let spans = ap length stays in omega arith
+  | inr less ↦ let spans = ap length less in let l = spans_left d v.large in omega arith
+]
+
+-- it draws few tickets, or it gave a batch, gave up a large block or stopped
+module _ (b : Block) (x y : SeatView) (ran : x.view.stopped ≡ None) (cost : Passes most_free_costs x.view y.view) where
+  pub free_paid : (result : Result ⊤ Stopped) → OnOk result (IsGivenBack b x.view y.view) → MayBeGivenBack b x.view y.view → IfErr result (λ e. Stops e.step x.view y.view)
+      → OnOk result (y.view.gives ≡ x.view.gives → y.view.large ≡ x.view.large → RowBut (IsHeldOutside x.view b) light_free_costs x y) → IsPaid x.view y.view
+  free_paid (Ok r) (of_a_class class is freed) may stop light = elim (cases_lt x.view.gives y.view.gives) as (λ _. IsPaid x.view y.view) [
+    | inl rose ↦ paid_most most_free_costs x.view y.view free_few cost
+        (let c = cost.more.cuts in let t = cost.more.taken in let spans = ap (λ (p : Parts). length p.large) freed.parts_are in let going = ap one_if_some ran in omega arith)
+    | inr none ↦ paid_light light_free_costs x.view y.view (omega arith) (light (let g = cost.more.gives in omega arith) (ap (λ (p : Parts). p.large) freed.parts_are)).passes
+        (let c = cost.more.cuts in let g = cost.more.gives in let t = cost.more.taken in let spans = ap (λ (p : Parts). length p.large) freed.parts_are in let going = ap one_if_some ran in omega arith)
+  ]
+  free_paid (Ok r) (of_a_span d is freed) may stop light = paid_most most_free_costs x.view y.view free_few cost
+      (let c = cost.more.cuts in let g = cost.more.gives in let t = cost.more.taken in let going = ap one_if_some ran in
+      let spans = ap (λ (p : Parts). length p.large) freed.parts_are in let one = span_goes d x.view.large is.there in omega arith)
+  free_paid (Err e) given may stop light = paid_most most_free_costs x.view y.view free_few cost
+      (let c = cost.more.cuts in let g = cost.more.gives in let t = cost.more.taken in let fewer = may_fewer b x.view y.view may in
+      let going = ap one_if_some ran in let stops = ap one_if_some stop.at in omega arith)

@@ -1,5 +1,5 @@
 -- What a call that takes or gives blocks is for a seat of a heap, besides what it does to the blocks.
-use Rattle.std.proofs.Common.{◌≡◌, ◌<◌, ◌≤◌, ◌⊎◌, ℕ, ◌+◌, inl, inr, None, Result, Ok, Err, OnErr, IfErr, refl, ap, sym, ◌∙◌, arith}
+use Rattle.std.proofs.Common.{◌≡◌, ◌<◌, ◌≤◌, ◌⊎◌, ℕ, ◌+◌, ◌*◌, inl, inr, length, None, Result, Ok, Err, OnErr, IfErr, refl, ap, sym, ◌∙◌, arith}
 use Rattle.heap_seat.specs.Calls.{IsLargeCall, counted}
 use Rattle.heap_seat.specs.Looks.{IsMade as IsMadeHeap}
 use Rattle.heap_seat.specs.Tickets.{Stops as HeapStops}
@@ -12,7 +12,7 @@ use Rattle.seat_rows.specs.Costs.{Costs}
 use Rattle.seat_rows.specs.Rows.{IsKeptOrMade, Passes, Row, Stops, ViewRow, after_ticket, head_look, next_of}
 use Rattle.seat_view.specs.CacheState.{CacheState, CallCounts, HasCounts, IsStateOf, counts_of, heap_view, heap_view_of, look_of}
 use Rattle.seat_view.proofs.HeldLemmas.{kept_at, pending_at}
-use Rattle.thread_cache.specs.Keeps.{KeepsCosts, most_draws, most_gives, most_wins}
+use Rattle.thread_cache.specs.Keeps.{KeepsCosts, light_draws, most_draws, most_gives, most_wins, traces}
 use Rattle.thread_cache.proofs.CallLemmas.{at_state, goes_on_law, stops_law}
 
 -- a state, and the seat and the counts after a call of it that counts as a large one
@@ -40,6 +40,17 @@ pub record IsFew (costs : Costs) : Type 0 where
   pub gives : costs.gives ≤ most_gives
   pub cuts : costs.cuts ≤ 1
 
+-- what a call drew is no more than a light one draws, or its traces pay for it
+abbrev pub IsPaid : View → View → Type 0
+IsPaid v w = w.draws + most_draws * (traces v + length w.large) + 16 * v.losses + 16 * v.moves
+    ≤ v.draws + light_draws + most_draws * (traces w + length v.large) + 16 * w.losses + 16 * w.moves
+
+pub paid_light : (a : Costs) (v w : View) → a.draws ≤ light_draws + a.credit → Passes a v w → traces v + length w.large ≤ traces w + length v.large → IsPaid v w
+paid_light a v w few passes left = let d = passes.most.draws in let l = passes.more.losses in omega arith
+
+pub paid_most : (a : Costs) (v w : View) → IsFew a → Passes a v w → traces v + length w.large + 1 ≤ traces w + length v.large → IsPaid v w
+paid_most a v w few passes left = let most = few.draws in let d = passes.most.draws in let l = passes.more.losses in omega arith
+
 -- a last look, for the core and for the heap
 look_law : (v w : View) (before now : LastLook) → IsKeptOrMade v w before now
     → (look_of now ≡ look_of before) ⊎ IsMadeHeap (next_of v) (next_of w) v.taken w.taken (look_of now)
@@ -63,8 +74,8 @@ module _ {a : Costs} (s : CacheState) (x y : SeatView) (n : CallCounts) (step : 
     };
   }
 
-  pub large_keeps : IsFew a → KeepsCosts s.view s.small_calls s.large_calls y.view n.small_calls n.large_calls
-  large_keeps few = record {
+  pub large_keeps : IsFew a → IsPaid x.view y.view → KeepsCosts s.view s.small_calls s.large_calls y.view n.small_calls n.large_calls
+  large_keeps few paid = record {
     setup = passes.setup;
     roots = passes.roots;
     floor = passes.floor;
@@ -75,6 +86,7 @@ module _ {a : Costs} (s : CacheState) (x y : SeatView) (n : CallCounts) (step : 
     wins = let f = step.large in let d = passes.most.wins in let m = passes.more.moves in let most = few.wins in omega arith;
     gives = let f = step.large in let d = passes.most.gives in let most = few.gives in omega arith;
     cuts = let f = step.large in let d = passes.most.cuts in let most = few.cuts in omega arith;
+    light = let e = step.small in let f = step.large in let p : IsPaid s.view y.view = at_state (λ v. IsPaid v y.view) s x step.was paid in omega arith;
   }
 
   pub large_own : {b : Costs} → Row b x y → KeepsOwn (heap_view s) (heap_view_of y.view y.marks n)

@@ -6,7 +6,7 @@ use Rattle.heap_model.specs.Counting.{total}
 use Rattle.heap_model.specs.Sizes.{IsClass, blocks_of, class_sizes}
 use Rattle.heap_model.proofs.SizeLemmas.{four_blocks}
 use Rattle.line_memory.specs.declared.memory.Stopped.{Stopped}
-use Rattle.core_model.specs.View.{View, of_class}
+use Rattle.core_model.specs.View.{View, of_class, one_if_some}
 use Rattle.heap_table.specs.Plays.{HasSoundState}
 use Rattle.seat_flush.specs.All.{HasFlushedAll, all_costs, cached}
 use Rattle.seat_flush.proofs.AllLemmas.{all_runs_few, first_none}
@@ -14,7 +14,7 @@ use Rattle.seat_rows.specs.Idle.{HasShortCaches, IsIdle}
 use Rattle.seat_rows.specs.Rows.{Parts, Passes, Stops, next_of}
 use Rattle.seat_rows.proofs.RowLemmas.{not_both}
 use Rattle.seat_view.specs.CacheState.{IsBetweenCalls}
-use Rattle.thread_cache.proofs.LargeLemmas.{IsFew, draws_later, stop_later}
+use Rattle.thread_cache.proofs.LargeLemmas.{IsFew, IsPaid, draws_later, paid_most, stop_later}
 
 -- the sum of so many values of a function, from one on
 abbrev sum_from : (ℕ → ℕ) → ℕ → ℕ → ℕ
@@ -47,6 +47,13 @@ cached_few v has short =
 
 pub quiet_few : (v : View) → HasSoundState v → HasShortCaches v → IsFew (all_costs v)
 quiet_few v has short = let few = cached_few v has short in let runs = all_runs_few v.setup.capacity v.caches in record { draws = omega arith; wins = omega arith; gives = omega arith; cuts = omega arith }
+
+-- it gave a batch or stopped
+pub quiet_paid : (v w : View) (result : Result ⊤ Stopped) → v.stopped ≡ None → 1 ≤ cached v → IsFew (all_costs v) → Passes (all_costs v) v w → w.large ≡ v.large → OnOk result (HasFlushedAll v w) → IfErr result (λ e. Stops e.step v w) → IsPaid v w
+quiet_paid v w (Ok a) ran some few passes same done stop = paid_most (all_costs v) v w few passes
+    (let gave = done.gave some in let c = passes.more.cuts in let t = passes.more.taken in let spans = ap length same in let going = ap one_if_some ran in omega arith)
+quiet_paid v w (Err e) ran some few passes same done stop = paid_most (all_costs v) v w few passes
+    (let c = passes.more.cuts in let g = passes.more.gives in let t = passes.more.taken in let spans = ap length same in let going = ap one_if_some ran in let stops = ap one_if_some stop.at in omega arith)
 
 -- the seat is idle then, and has no block cached
 pub quiet_between : (v w : View) (result : Result ⊤ Stopped) → IsIdle v → OnOk result (HasFlushedAll v w) → IfErr result (λ e. Stops e.step v w) → IsBetweenCalls w

@@ -1,6 +1,6 @@
 -- What every call of a seat that allocates by caches leaves of the heap, and what it may cost.
-use Rattle.std.specs.Prelude.{◌≡◌, ◌≤◌, ℕ, ◌+◌, ◌*◌, ◌^◌}
-use Rattle.core_model.specs.View.{View}
+use Rattle.std.specs.Prelude.{◌≡◌, ◌≤◌, ℕ, ◌+◌, ◌*◌, ◌^◌, length}
+use Rattle.core_model.specs.View.{View, one_if_some}
 use Rattle.seat_rows.specs.Costs.{NoneFalls}
 use Rattle.heap_rule.specs.Seated.{SeatView}
 use Rattle.seat_view.specs.CacheState.{CacheState}
@@ -15,7 +15,15 @@ most_wins = 2 ^ 15
 abbrev pub most_gives : ℕ
 most_gives = 2 ^ 14
 
--- between two views of a seat, with so many small and large calls by then: the setup and the owned roots stay, no count falls and what is known of the durable mark does not, and each call costs at most so much: a small one a ticket, any other the most, and one superblock that it cuts; with 16 tickets for each lost exchange and each move, and 2 wins for each move
+-- and the most tickets that a light one draws
+abbrev pub light_draws : ℕ
+light_draws = 64
+
+-- what calls that are not light leave behind: superblocks cut and taken, batches given, and a stop
+abbrev pub traces : View → ℕ
+traces v = v.cuts + v.gives + v.taken + one_if_some v.stopped
+
+-- between two views of a seat, with so many small and large calls by then: the setup and the owned roots stay, no count falls and what is known of the durable mark does not, and each call costs at most so much: a small one a ticket, any other the most, and one superblock that it cuts; with 16 tickets for each lost exchange and each move, and 2 wins for each move; and each call but a small one draws as many as a light one, with the most for each trace, and for each large block that is held no more
 pub record KeepsCosts (v : View) (small large : ℕ) (w : View) (smalls larges : ℕ) : Type 0 where
   pub setup : w.setup ≡ v.setup
   pub roots : w.roots ≡ v.roots
@@ -27,6 +35,8 @@ pub record KeepsCosts (v : View) (small large : ℕ) (w : View) (smalls larges :
   pub wins : w.wins + most_wins * large + 2 * v.moves ≤ v.wins + most_wins * larges + 2 * w.moves
   pub gives : w.gives + most_gives * large ≤ v.gives + most_gives * larges
   pub cuts : w.cuts + large ≤ v.cuts + larges
+  pub light : w.draws + small + light_draws * large + most_draws * (traces v + length w.large) + 16 * v.losses + 16 * v.moves
+      ≤ v.draws + smalls + light_draws * larges + most_draws * (traces w + length v.large) + 16 * w.losses + 16 * w.moves
 
 -- it is a seat of the same heap
 abbrev pub KeepsHeap : CacheState → CacheState → Type 0

@@ -15,6 +15,7 @@ costs_none s = record {
   wins = omega arith;
   gives = omega arith;
   cuts = omega arith;
+  light = omega arith;
 }
 
 costs_row : (s t u : CacheState) → KeepsCosts s.view s.small_calls s.large_calls t.view t.small_calls t.large_calls → KeepsCosts t.view t.small_calls t.large_calls u.view u.small_calls u.large_calls
@@ -38,6 +39,7 @@ costs_row s t u p q = record {
   wins = let x = p.wins in let y = q.wins in omega arith;
   gives = let x = p.gives in let y = q.gives in omega arith;
   cuts = let x = p.cuts in let y = q.cuts in omega arith;
+  light = let x = p.light in let y = q.light in omega arith;
 }
 
 pub keeps_none_law : (s : CacheState) → KeepsHeap s s

@@ -1,4 +1,4 @@
-use Rattle.std.proofs.Common.{ℕ, subst}
+use Rattle.std.proofs.Common.{ℕ, arith, subst}
 use Rattle.large_block.specs.Fresh.{IsPast, Takes}
 use Rattle.large_block.specs.declared.fresh.Take.TheVariants.{Got}
 use Rattle.large_block.specs.Holds.{HasHeld}
@@ -32,4 +32,4 @@ returns-clause-allocated g c =
     (subst (λ (n : ℕ). Takes n (Got c.in-Got.d) c.args.seat.now.view c.take_fresh.new.seat.view) c.span_of-n.ensures
     (subst (λ take. Takes c.span_of-n.result take c.args.seat.now.view c.take_fresh.new.seat.view) c.in-Got.is c.in_ok-d.ensures.done))
     (subst (λ (n : ℕ). HasHeld c.in-Got.d n c.in_ok-hold.field-0 c.take_fresh.new.seat.view c.hold.new.seat.view) c.span_of-n.ensures c.in_ok-hold.ensures.held)
-    c.hold.ensures.row.passes.next
+    c.hold.ensures.row.passes.next (let least = c.hold.ensures.row.passes.more.taken in let most = c.hold.ensures.row.passes.most.taken in omega arith)

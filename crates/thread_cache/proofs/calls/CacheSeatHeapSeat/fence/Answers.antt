@@ -23,7 +23,7 @@ pub returns-clause-counted : goal.returns-clause-counted
 returns-clause-counted g c = small_counted c.args.self.now c.self.inside.seat c.fence-answer.new.seat _ (small_step _ c.args.self.now c.self.view_is c.self.inside.seat c.fence-answer.new.seat refl refl c.has_a_sound_state-2.ensures c.in_ok-check_running.ensures.ok) c.fence-answer.ensures.row.view.passes c.fence-answer.ensures.looks
 
 pub returns-clause-kept : goal.returns-clause-kept
-returns-clause-kept g c = (c.fence-answer.ensures.seat.table ∙ sym c.self.inside.of.table ∙ ap (λ (s : CacheState). s.table) c.self.view_is, small_keeps c.args.self.now c.self.inside.seat c.fence-answer.new.seat _ (small_step _ c.args.self.now c.self.view_is c.self.inside.seat c.fence-answer.new.seat refl refl c.has_a_sound_state-2.ensures c.in_ok-check_running.ensures.ok) c.fence-answer.ensures.row.view.passes)
+returns-clause-kept g c = (c.fence-answer.ensures.seat.table ∙ sym c.self.inside.of.table ∙ ap (λ (s : CacheState). s.table) c.self.view_is, small_keeps c.args.self.now c.self.inside.seat c.fence-answer.new.seat _ (small_step _ c.args.self.now c.self.view_is c.self.inside.seat c.fence-answer.new.seat refl refl c.has_a_sound_state-2.ensures c.in_ok-check_running.ensures.ok) c.fence-answer.ensures.row.view.passes c.fence-answer.ensures.row.view.large)
 
 pub returns-clause-stopped : goal.returns-clause-stopped
 returns-clause-stopped g c = small_stops c.args.self.now c.self.inside.seat c.fence-answer.new.seat _ (small_step _ c.args.self.now c.self.view_is c.self.inside.seat c.fence-answer.new.seat refl refl c.has_a_sound_state-2.ensures c.in_ok-check_running.ensures.ok) c.fence-answer.ensures.row.view.passes c.fence-answer.result c.fence-answer.ensures.stopped

@@ -41,7 +41,7 @@ pub returns-clause-counted : goal.returns-clause-counted
 returns-clause-counted g c = small_counted c.args.self.now c.self.inside.seat c.store-answer.new.seat _ (small_step _ c.args.self.now c.self.view_is c.self.inside.seat c.store-answer.new.seat refl refl c.has_a_sound_state-2.ensures c.in_ok-check_running.ensures.ok) c.store-answer.ensures.row.but.passes c.store-answer.ensures.looks
 
 pub returns-clause-kept : goal.returns-clause-kept
-returns-clause-kept g c = (c.store-answer.ensures.seat.table ∙ sym c.self.inside.of.table ∙ ap (λ (s : CacheState). s.table) c.self.view_is, small_keeps c.args.self.now c.self.inside.seat c.store-answer.new.seat _ (small_step _ c.args.self.now c.self.view_is c.self.inside.seat c.store-answer.new.seat refl refl c.has_a_sound_state-2.ensures c.in_ok-check_running.ensures.ok) c.store-answer.ensures.row.but.passes)
+returns-clause-kept g c = (c.store-answer.ensures.seat.table ∙ sym c.self.inside.of.table ∙ ap (λ (s : CacheState). s.table) c.self.view_is, small_keeps c.args.self.now c.self.inside.seat c.store-answer.new.seat _ (small_step _ c.args.self.now c.self.view_is c.self.inside.seat c.store-answer.new.seat refl refl c.has_a_sound_state-2.ensures c.in_ok-check_running.ensures.ok) c.store-answer.ensures.row.but.passes c.store-answer.ensures.row.large)
 
 pub returns-clause-stopped : goal.returns-clause-stopped
 returns-clause-stopped g c = small_stops c.args.self.now c.self.inside.seat c.store-answer.new.seat _ (small_step _ c.args.self.now c.self.view_is c.self.inside.seat c.store-answer.new.seat refl refl c.has_a_sound_state-2.ensures c.in_ok-check_running.ensures.ok) c.store-answer.ensures.row.but.passes c.store-answer.result c.store-answer.ensures.stopped
