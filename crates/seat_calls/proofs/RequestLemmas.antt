@@ -27,7 +27,7 @@ use Rattle.heap_rule.proofs.HeldLemmas.{held_placed}
 use Rattle.heap_rule.proofs.SettleLemmas.{own_index, own_there}
 use Rattle.heap_rule.proofs.ViewLemmas.{block_class}
 use Rattle.large_block.specs.Splits.{MayHaveSplit}
-use Rattle.seat_rows.specs.Costs.{IsWithin, no_costs}
+use Rattle.seat_rows.specs.Costs.{IsWithin, no_costs, one_draw}
 use Rattle.seat_rows.specs.Rows.{HoldingRow, IsHeldBoth, Parts, Row, RowBut}
 use Rattle.seat_rows.specs.Words.{IsHeldWord, times_held}
 use Rattle.seat_rows.proofs.RowLemmas.{but_fewer, holding_within, row_within}
@@ -98,6 +98,14 @@ pub span_order : (bytes : ℕ) (v w : View) (result : Result Block AllocFault) �
 span_order bytes v w (Ok b) large = λ c least. absurd (let small = least_small bytes c least in omega arith)
 span_order bytes v w (Err (Full looks)) large = λ c least. absurd (let small = least_small bytes c least in omega arith)
 span_order bytes v w (Err (StoppedFault e)) large = tt
+
+-- the cache of the least class served it
+pub class_cached : (bytes class : ℕ) (v w : SeatView) → IsLeastClassFor bytes class → (1 ≤ length (of_class v.view.caches class) → HoldingRow one_draw v w)
+    → (c : ℕ) → IsLeastClassFor bytes c → 1 ≤ length (of_class v.view.caches c) → HoldingRow one_draw v w
+class_cached bytes class v w least cached c other some = cached (subst (λ k. 1 ≤ length (of_class v.view.caches k)) (sym (one_least bytes class c least other)) some)
+
+pub span_cached : (bytes : ℕ) (v w : SeatView) → largest_small < bytes → (c : ℕ) → IsLeastClassFor bytes c → 1 ≤ length (of_class v.view.caches c) → HoldingRow one_draw v w
+span_cached bytes v w large c least some = absurd (let small = least_small bytes c least in omega arith)
 
 -- a held block, by its size
 module _ (v : View) (has : HasSoundState v) where

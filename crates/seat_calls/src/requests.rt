@@ -1,9 +1,11 @@
 //! Requests of any size, and the freeing of any block.
 
-ghost use Rattle.std.specs.Prelude.{◌≡◌, ◌<◌, ◌-◌, ℕ, None, OnOk, OnErr, IfErr};
+ghost use Rattle.std.specs.Prelude.{◌≡◌, ◌<◌, ◌≤◌, ◌-◌, ℕ, None, length, OnOk, OnErr, IfErr};
 ghost use Rattle.core_model.specs.Held.{IsHeld};
 ghost use Rattle.heap_model.specs.Sizes.{IsLeastClassFor};
+ghost use Rattle.core_model.specs.View.{of_class};
 ghost use Rattle.heap_rule.specs.Seated.{IsSeatOf};
+ghost use Rattle.seat_rows.specs.Costs.{one_draw};
 ghost use Rattle.seat_rows.specs.Idle.{HasShortCaches, IsIdle};
 ghost use Rattle.seat_rows.specs.Rows.{HoldingRow, Row, RowBut, Stops, next_of};
 ghost use Rattle.seat_fill.specs.Refills.{IsFilledInOrder};
@@ -38,6 +40,9 @@ pub fn alloc<C: Chance>(
         seat.old seat.new) }
     ensures order { IfGoing result ((class : ℕ) → IsLeastClassFor bytes class
         → IsFilledInOrder class seat.old.view seat.new.view) }
+    ensures cached { (class : ℕ) → IsLeastClassFor bytes class
+        → 1 ≤ length (of_class seat.old.view.caches class)
+        → HoldingRow one_draw seat.old seat.new }
     ensures drew { next_of seat.old.view < next_of seat.new.view }
     ensures light { IfGoing result (seat.new.view.cuts ≡ seat.old.view.cuts
         → HoldingRow (light_request bytes (seat.new.view.moves - seat.old.view.moves))

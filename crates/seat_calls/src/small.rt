@@ -78,6 +78,8 @@ pub fn alloc_small<C: Chance>(
         seat.old seat.new) }
     ensures order { IfGoing result (IsFilledInOrder class.number
         seat.old.view seat.new.view) }
+    ensures cached { 1 ≤ length (of_class seat.old.view.caches class.number)
+        → HoldingRow one_draw seat.old seat.new }
     ensures drew { next_of seat.old.view < next_of seat.new.view }
     ensures light { IfGoing result (seat.new.view.cuts ≡ seat.old.view.cuts
         → HoldingRow (light_alloc (seat.new.view.moves - seat.old.view.moves))

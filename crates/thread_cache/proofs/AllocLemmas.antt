@@ -18,7 +18,7 @@ use Rattle.line_memory.specs.Marked.{marked_words-has, marked_words-only}
 use Rattle.core_model.specs.View.{LastLook, View, of_class, one_if_some}
 use Rattle.heap_table.specs.Plays.{HasSoundState}
 use Rattle.heap_rule.specs.Seated.{SeatView}
-use Rattle.seat_rows.specs.Costs.{Costs}
+use Rattle.seat_rows.specs.Costs.{Costs, one_draw}
 use Rattle.seat_rows.specs.Idle.{HasShortCaches, IsIdle}
 use Rattle.seat_rows.specs.Rows.{HoldingRow, Parts, Passes, Row, head_look, next_of, parts}
 use Rattle.seat_rows.specs.Words.{IsDurableAt, IsHeldWord, KeepsWord as KeepsRowWord}
@@ -206,13 +206,15 @@ module _ (bytes : ℕ) (s : CacheState) (x y : SeatView) (n : CallCounts) (step 
       let least = passes.more.gives in let most = passes.most.gives in omega arith
 
   pub alloc_room : (moves : ℕ) (result : Result Block AllocFault) → Answers bytes result x.view y.view → Passes (request_costs bytes moves) x.view y.view → IfGoing result (y.view.cuts ≡ x.view.cuts → HoldingRow (light_request bytes moves) x y)
-      → IfGoing result ((class : ℕ) → IsLeastClassFor bytes class → IsFilledInOrder class x.view y.view) → OnOk result (IsServed bytes s.view y.view)
-  alloc_room moves (Ok b) answers passed light order = record {
+      → IfGoing result ((class : ℕ) → IsLeastClassFor bytes class → IsFilledInOrder class x.view y.view)
+      → ((class : ℕ) → IsLeastClassFor bytes class → 1 ≤ length (of_class x.view.caches class) → HoldingRow one_draw x y) → OnOk result (IsServed bytes s.view y.view)
+  alloc_room moves (Ok b) answers passed light order cached = record {
     light = light_by light;
     block = b;
     granted = answers_state (Ok b) answers;
     gives = no_gives passed;
     order = λ class least. at_state (λ v. IsFilledInOrder class v y.view) s x step.was (order class least);
+    cached = λ class least. at_state (λ v. 1 ≤ length (of_class v.caches class) → Passes one_draw v y.view) s x step.was (λ some. (cached class least some).passes);
     large = by_kind (answers_state (Ok b) answers);
   } where
     by_kind : IsGranted bytes b s.view y.view → largest_small < bytes → HasSeenRoom bytes s.view y.view
@@ -221,7 +223,7 @@ module _ (bytes : ℕ) (s : CacheState) (x y : SeatView) (n : CallCounts) (step 
       made = allocated.made;
       room = let seen = allocated.seen in let room = allocated.room in let capacity = ap (λ (p : Parts). p.setup.capacity) allocated.parts_are in omega arith;
     }
-  alloc_room moves (Err fault) answers passed light order = tt
+  alloc_room moves (Err fault) answers passed light order cached = tt
 
   pub alloc_none : (moves : ℕ) (result : Result Block AllocFault) → Answers bytes result x.view y.view → Passes (request_costs bytes moves) x.view y.view → IfGoing result (y.view.cuts ≡ x.view.cuts → HoldingRow (light_request bytes moves) x y)
       → IfErr result (λ fault. (looks : Looks) → fault ≡ Full looks → IsTurnedAway bytes looks s.view y.view)

@@ -1,5 +1,5 @@
 -- What a granted and a refused request, and a freed block, leave of a seat that allocates by caches.
-use Rattle.std.specs.Prelude.{◌≡◌, ◌<◌, ◌≤◌, ℕ, ◌+◌, ◌*◌, []}
+use Rattle.std.specs.Prelude.{◌≡◌, ◌<◌, ◌≤◌, ℕ, ◌+◌, ◌*◌, [], length}
 use Rattle.heap_model.specs.declared.block.Block.{Block}
 use Rattle.heap_model.specs.Sizes.{IsLeastClassFor, largest_small, span_of}
 use Rattle.heap_seat.specs.declared.fault.Looks.{Looks}
@@ -7,7 +7,8 @@ use Rattle.core_model.specs.View.{View, of_class}
 use Rattle.seat_calls.specs.Large.{HasNoRoom}
 use Rattle.seat_calls.specs.Requests.{IsGivenBack, IsGranted}
 use Rattle.seat_fill.specs.Refills.{IsFilledInOrder, IsFull}
-use Rattle.seat_rows.specs.Rows.{IsMade, next_of, parts}
+use Rattle.seat_rows.specs.Costs.{one_draw}
+use Rattle.seat_rows.specs.Rows.{IsMade, Passes, next_of, parts}
 
 -- a call that cuts, gives and takes nothing, and holds or frees no large block, draws 64 tickets at most, and 16 for each lost exchange and each superblock that it moves
 abbrev pub IsLight : View → View → Type 0
@@ -19,13 +20,14 @@ pub record HasSeenRoom (bytes : ℕ) (v w : View) : Type 0 where
   pub made : IsMade (next_of v) (next_of w) v.taken v.taken w.used_look
   pub room : w.used_look.word + span_of bytes ≤ w.setup.capacity
 
--- a granted request: a block of a class is the first of its cache, where that had one, and else the cache was filled in order; a large one begins at the mark that was seen; nothing else that the seat had changed, and no batch was given
+-- a granted request: a block of a class is the first of its cache, where that had one, by one ticket, and else the cache was filled in order; a large one begins at the mark that was seen; nothing else that the seat had changed, and no batch was given
 pub record IsServed (bytes : ℕ) (v w : View) : Type 0 where
   pub light : IsLight v w
   pub block : Block
   pub granted : IsGranted bytes block v w
   pub gives : w.gives ≡ v.gives
   pub order : (class : ℕ) → IsLeastClassFor bytes class → IsFilledInOrder class v w
+  pub cached : (class : ℕ) → IsLeastClassFor bytes class → 1 ≤ length (of_class v.caches class) → Passes one_draw v w
   pub large : largest_small < bytes → HasSeenRoom bytes v w
 
 -- a refused request: of a class, whose cache is empty, it found both lists empty and the mark past, in this order, and won no exchange from the first of these looks on; one that is too large for a class found the mark past, and won none at all; the seat has what it had, and cut and gave nothing

@@ -1,5 +1,5 @@
 use Rattle.std.proofs.Common.{◌-◌, refl}
-use Rattle.seat_calls.proofs.RequestLemmas.{answers_class, answers_span, class_light, class_none, class_order, class_row, span_light, span_none, span_order, span_row}
+use Rattle.seat_calls.proofs.RequestLemmas.{answers_class, answers_span, class_cached, class_light, class_none, class_order, class_row, span_cached, span_light, span_none, span_order, span_row}
 use Rattle.seat_calls.proofs.requests.alloc.Goals as goal
 
 pub returns-in-Some-clause-answers : goal.returns-in-Some-clause-answers
@@ -31,3 +31,9 @@ returns-in-Some-clause-order g c = class_order c.args.bytes c.in-Some.class.numb
 
 pub returns-in-None-clause-order : goal.returns-in-None-clause-order
 returns-in-None-clause-order g c = span_order c.args.bytes c.args.seat.now.view c.alloc_large.new.seat.view c.alloc_large.result (c.in-None.ensures.none.0 refl)
+
+pub returns-in-Some-clause-cached : goal.returns-in-Some-clause-cached
+returns-in-Some-clause-cached g c = class_cached c.args.bytes c.in-Some.class.number c.args.seat.now c.alloc_small.new.seat c.in-Some.ensures.some c.alloc_small.ensures.cached
+
+pub returns-in-None-clause-cached : goal.returns-in-None-clause-cached
+returns-in-None-clause-cached g c = span_cached c.args.bytes c.args.seat.now c.alloc_large.new.seat (c.in-None.ensures.none.0 refl)

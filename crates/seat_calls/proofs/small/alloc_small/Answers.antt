@@ -40,3 +40,15 @@ returns-in-Full-clause-order g c = c.in_ok-looks.ensures.order
 
 pub returns-in_ok-block-in-Filled-clause-order : goal.returns-in_ok-block-in-Filled-clause-order
 returns-in_ok-block-in-Filled-clause-order g c = order_still c.args.class.number c.args.seat.now.view c.refill.new.seat c.alloc_cached-in-Filled.new.seat c.in_ok-looks.ensures.order c.in_ok-block-in-Filled.ensures.looks c.alloc_cached-in-Filled.ensures.row
+
+pub returns-then-count-gt0-clause-cached : goal.returns-then-count-gt0-clause-cached
+returns-then-count-gt0-clause-cached g c = λ some. c.alloc_cached.ensures.row
+
+pub returns-in-Full-clause-cached : goal.returns-in-Full-clause-cached
+returns-in-Full-clause-cached g c = λ some. absurd (let n = c.cache-count.ensures.count in omega (arith, some, n))
+
+pub returns-in_err-block-in-Filled-clause-cached : goal.returns-in_err-block-in-Filled-clause-cached
+returns-in_err-block-in-Filled-clause-cached g c = λ some. absurd (let n = c.cache-count.ensures.count in omega (arith, some, n))
+
+pub returns-in_ok-block-in-Filled-clause-cached : goal.returns-in_ok-block-in-Filled-clause-cached
+returns-in_ok-block-in-Filled-clause-cached g c = λ some. absurd (let n = c.cache-count.ensures.count in omega (arith, some, n))
