@@ -240,6 +240,7 @@ module _ (v t : View) (has : HasSoundState v) (class block : ℕ) (is : IsClass 
     flushed = λ more. absurd (let m = one_more in omega (arith, few, more));
     gave = λ more. absurd (let m = one_more in omega (arith, few, more));
     gives = λ more. absurd (let m = one_more in omega (arith, few, more));
+    by = λ more. absurd (let m = one_more in omega (arith, few, more));
     short = let m = one_more in omega (arith, few);
     parts_are = cached.parts_are;
   }
@@ -255,6 +256,7 @@ module _ (v t : View) (has : HasSoundState v) (class block : ℕ) (is : IsClass 
     flushed = λ more. refl;
     gave = λ more. let four = four_blocks class is in let now = flushed.gave (omega (arith, many)) in omega (arith, before, now);
     gives = λ more. let now = flushed.gives in let r = same_runs in omega (arith, before, none, now);
+    by = λ more. (t, (cached, flushed.by));
     short = let four = four_blocks class is in omega arith;
     parts_are = flushed.parts_are ∙ ap (with_cache class []) cached.parts_are
         ∙ ap (λ l. record (with_freed class block [] (parts v)) { caches = l }) (set-set v.caches class (block ∷ of_class v.caches class) []);

@@ -10,6 +10,7 @@ use Rattle.core_model.specs.View.{View, of_class}
 use Rattle.heap_rule.specs.Shown.{Shows}
 use Rattle.seat_rows.specs.Costs.{Costs, no_costs}
 use Rattle.heap_seat.specs.declared.fault.AllocFault.{AllocFault}
+use Rattle.seat_flush.specs.Flushes.{GivesRuns}
 use Rattle.seat_flush.specs.Runs.{runs_of}
 use Rattle.heap_seat.specs.declared.fault.AllocFault.TheVariants.{Full, Stopped}
 use Rattle.seat_fill.specs.Refills.{IsFull}
@@ -54,7 +55,7 @@ pub record HasCached (block class : ℕ) (v w : View) : Type 0 where
   pub going : w.stopped ≡ None
   pub parts_are : parts w ≡ with_freed class block (block ∷ of_class v.caches class) (parts v)
 
--- the cache is flushed once it has as many blocks as a superblock, in one batch for each run
+-- the cache is flushed once it has as many blocks as a superblock, in one batch for each run, each of which lists its superblock where that falls to the seat
 pub record HasFreed (block class : ℕ) (v w : View) : Type 0 where
   pub going : w.stopped ≡ None
   pub cache : List ℕ
@@ -62,6 +63,7 @@ pub record HasFreed (block class : ℕ) (v w : View) : Type 0 where
   pub flushed : blocks_of class ≤ length (of_class v.caches class) + 1 → cache ≡ []
   pub gave : blocks_of class ≤ length (of_class v.caches class) + 1 → v.gives < w.gives
   pub gives : blocks_of class ≤ length (of_class v.caches class) + 1 → w.gives ≡ v.gives + runs_of v.setup.capacity (block ∷ of_class v.caches class)
+  pub by : blocks_of class ≤ length (of_class v.caches class) + 1 → (t : View) × (HasCached block class v t × GivesRuns class t w)
   pub short : length cache < blocks_of class
   pub parts_are : parts w ≡ with_freed class block cache (parts v)
 

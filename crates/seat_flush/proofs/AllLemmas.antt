@@ -11,7 +11,7 @@ use Rattle.heap_rule.proofs.ViewLemmas.{block_class}
 use Rattle.heap_table.specs.Plays.{HasSoundState}
 use Rattle.seat_rows.specs.Rows.{Parts, Stops, ViewRow, parts}
 use Rattle.seat_rows.proofs.RowLemmas.{stops_later, view_row_none, view_row_then, view_row_within}
-use Rattle.seat_flush.specs.All.{HasFlushedAll, all_costs, cached, cached_runs}
+use Rattle.seat_flush.specs.All.{GivesCaches, HasFlushedAll, all_costs, cached, cached_runs, gave_cache, gave_no_cache}
 use Rattle.seat_flush.specs.Flushes.{HasFlushed, cache_costs, cache_runs, flush_costs}
 use Rattle.seat_flush.specs.Runs.{runs_of}
 use Rattle.seat_flush.proofs.LiftLemmas.{cache_set}
@@ -42,6 +42,7 @@ pub record FlushedBelow (number : ℕ) (v t : View) : Type 0 where
   pub given : ℕ
   pub runs : given + cached_runs t ≡ cached_runs v
   pub gives : t.gives ≡ v.gives + given
+  pub by : GivesCaches v t
   pub row : ViewRow (flush_costs flushed given) v t
 
 pub all_begins : (v : View) → v.stopped ≡ None → FlushedBelow 1 v v
@@ -57,6 +58,7 @@ all_begins v going = record {
   given = 0;
   runs = omega arith;
   gives = omega arith;
+  by = gave_no_cache v refl;
   row = view_row_none v;
 }
 
@@ -101,6 +103,7 @@ module _ (v t : View) (has : HasSoundState t) (number : ℕ) (is : IsClass numbe
         given = so_far.given + cache_runs t number;
         runs = let less = less_one in let r = so_far.runs in let e = ap (λ (p : Parts). total (runs_of p.setup.capacity) p.caches) done.parts_are in omega arith;
         gives = let before = so_far.gives in let now = done.gives in omega arith;
+        by = gave_cache number t w so_far.by done.by;
         row = view_row_within (flush_costs (so_far.flushed + length (of_class t.caches number)) (so_far.given + cache_runs t number)) v w (record { draws = omega arith; wins = omega arith; gives = omega arith; cuts = omega arith; taken = omega arith; moves = omega arith }) (view_row_then v t w so_far.row row);
       }
 
@@ -129,6 +132,7 @@ all_done v t number has past so_far =
       more = λ some. so_far.more (let f = so_far.few in omega arith);
       gave = λ some. so_far.gave (let f = so_far.few in omega arith);
       gives = let left = all_runs_few t.setup.capacity t.caches in let r = so_far.runs in let e = so_far.gives in omega arith;
+      by = so_far.by;
       parts_are = so_far.parts_are;
       empty = empty;
     }

@@ -13,7 +13,7 @@ use Rattle.heap_table.specs.Plays.{HasSoundState}
 use Rattle.heap_rule.specs.Shown.{CanList, as_free, by_look, of_its_class}
 use Rattle.seat_lists.specs.Pushes.{HasPushed, IsClaimOf}
 use Rattle.seat_lists.proofs.AnchorLemmas.{claim_added, claim_free, claim_of_class, claim_pushed, raw_none}
-use Rattle.seat_flush.specs.Flushes.{HasFlushed, HasFlushedPrefix, HasListed, HasListedBy, cache_costs, cache_runs, flush_costs, with_cache}
+use Rattle.seat_flush.specs.Flushes.{GivesRun, GivesRuns, HasFlushed, HasFlushedPrefix, HasListed, HasListedBy, gave_more, gave_none, cache_costs, cache_runs, flush_costs, with_cache}
 use Rattle.seat_lists.specs.Anchors.{HasSeenAnchor, anchor_seen}
 use Rattle.seat_flush.specs.Gives.{HasGiven, IsBatchOf, given_parts}
 use Rattle.seat_flush.specs.Lifts.{HasLiftedPrefix}
@@ -100,6 +100,13 @@ module _ (v t x : View) (has : HasSoundState v) (class d last : ℕ) (is : IsCla
       ∙ ap (λ test. record (parts v) { caches = set v.caches class rest; batch = no_batch; classed = cond test v.classed (record { descriptor = d; class = class } ∷ without_claim d v.classed) }) (eq-eqb d d refl)
       ∙ same_batch v.classed
 
+  -- what was done with the first run
+  pub gave_free : HasGiven d class false t x → GivesRun class v x
+  gave_free given = record { d = d; last = last; full = false; lifted = t; given = x; lifts = prefix; gives = given; lists = refl }
+
+  pub gave_full : (w : View) → HasGiven d class true t x → HasListed d x w → GivesRun class v w
+  gave_full w given listed = record { d = d; last = last; full = true; lifted = t; given = x; lifts = prefix; gives = given; lists = listed }
+
   few : length lifted ≤ length (of_class v.caches class)
   few = let all = ap length prefix.lifting.both in let sum = length-append lifted rest in omega arith
 
@@ -110,8 +117,8 @@ module _ (v t x : View) (has : HasSoundState v) (class d last : ℕ) (is : IsCla
   prefix_row w less row = let f = few in let r = one_run in
       view_row_within (cache_costs v class) v w (record { draws = let l = less.draws in omega arith; wins = let l = less.wins in omega arith; gives = let l = less.gives in omega arith; cuts = let l = less.cuts in omega arith; taken = let l = less.taken in omega arith; moves = let l = less.moves in omega arith }) (view_row_then v t w prefix.lifting.row row)
 
-  pub prefix_done : {a : Costs} (w : View) → IsWithin a (record no_costs { draws = 7; wins = 2; gives = 1; moves = 1 }) → ViewRow a t w → w.stopped ≡ None → t.gives < w.gives → parts w ≡ with_cache class rest (parts v) → HasFlushedPrefix class v w
-  prefix_done w less row going gave same = record {
+  pub prefix_done : {a : Costs} (w : View) → IsWithin a (record no_costs { draws = 7; wins = 2; gives = 1; moves = 1 }) → ViewRow a t w → w.stopped ≡ None → t.gives < w.gives → parts w ≡ with_cache class rest (parts v) → GivesRun class v w → HasFlushedPrefix class v w
+  prefix_done w less row going gave same by = record {
     ran = prefix.lifting.ran;
     going = going;
     room = prefix.lifting.room;
@@ -123,6 +130,7 @@ module _ (v t x : View) (has : HasSoundState v) (class d last : ℕ) (is : IsCla
     some = prefix.lifting.some;
     runs = one_run;
     parts_are = same;
+    by = by;
     row = view_row_within (flush_costs (length lifted) 1) v w (record { draws = let l = less.draws in omega arith; wins = let l = less.wins in omega arith; gives = let l = less.gives in omega arith; cuts = let l = less.cuts in omega arith; taken = let l = less.taken in omega arith; moves = let l = less.moves in omega arith }) (view_row_then v t w prefix.lifting.row row);
   }
 
@@ -138,6 +146,7 @@ pub record Flushing (class : ℕ) (v t : View) : Type 0 where
   pub some : 1 ≤ length flushed → 1 ≤ given
   pub runs : cache_runs v class ≡ given + runs_of v.setup.capacity rest
   pub gives : t.gives ≡ v.gives + given
+  pub by : GivesRuns class v t
   pub parts_are : parts t ≡ with_cache class rest (parts v)
   pub row : ViewRow (flush_costs (length flushed) given) v t
 
@@ -162,6 +171,7 @@ flushing_begins v class going = record {
   some = λ some. absurd (omega arith);
   runs = omega arith;
   gives = omega arith;
+  by = gave_none v refl;
   parts_are = ap (λ l. record (parts v) { caches = l }) (sym (set_own v.caches class));
   row = view_row_none v;
 }
@@ -189,7 +199,7 @@ module _ (v t : View) (has : HasSoundState v) (class : ℕ) (is : IsClass class)
   flushing_stops w step stop = stops_later v t w step flushing.ran flushing.going flushing.row stop
 
   pub flushing_done : length (of_class t.caches class) ≡ 0 → HasFlushed class v t
-  flushing_done none = record { going = flushing.going; more = λ some. flushing.more (let f = few_left in omega arith); gave = λ some. let g = flushing.some (let f = few_left in omega arith) in let e = flushing.gives in omega arith; gives = let no_runs = ap (runs_of v.setup.capacity) no_rest in let all = flushing.runs in let e = flushing.gives in omega arith; parts_are = flushing.parts_are ∙ ap (λ bs. with_cache class bs (parts v)) no_rest } where
+  flushing_done none = record { going = flushing.going; more = λ some. flushing.more (let f = few_left in omega arith); gave = λ some. let g = flushing.some (let f = few_left in omega arith) in let e = flushing.gives in omega arith; gives = let no_runs = ap (runs_of v.setup.capacity) no_rest in let all = flushing.runs in let e = flushing.gives in omega arith; by = flushing.by; parts_are = flushing.parts_are ∙ ap (λ bs. with_cache class bs (parts v)) no_rest } where
     empty : (bs : List ℕ) → length bs ≡ 0 → bs ≡ []
     empty [] e = refl
     empty (b ∷ bs) e = absurd (omega arith)
@@ -208,6 +218,7 @@ module _ (v t : View) (has : HasSoundState v) (class : ℕ) (is : IsClass class)
     some = λ some. omega arith;
     runs = let left = runs_left in let e = prefix.runs in let same = ap (λ (p : Parts). runs_of p.setup.capacity prefix.rest) flushing.parts_are in omega arith;
     gives = let before = flushing.gives in let now = prefix.gives in omega arith;
+    by = gave_more t w flushing.by prefix.by;
     both = flushing.both ∙ ap (λ bs. flushing.flushed ++ bs) (sym flushing_cache ∙ prefix.both) ∙ sym (append_three flushing.flushed prefix.flushed prefix.rest);
     parts_are = prefix.parts_are ∙ ap (with_cache class prefix.rest) flushing.parts_are ∙ ap (λ l. record (parts v) { caches = l }) (set-set v.caches class flushing.rest prefix.rest);
     row = let many = length-append flushing.flushed prefix.flushed in

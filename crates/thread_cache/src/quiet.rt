@@ -6,10 +6,10 @@ use seat_flush::flush_all;
 use size_table::{LAST_CLASS, SizeClass};
 
 impl<'a, C: Chance> CacheSeat<'a, C> {
-    ghost use Rattle.std.specs.Prelude.{◌≡◌, ◌≤◌, ℕ, None, Some, false, IsTrue, OnOk, IfErr};
+    ghost use Rattle.std.specs.Prelude.{◌≡◌, ◌<◌, ◌≤◌, ℕ, None, Some, false, IsTrue, OnOk, IfErr};
     ghost use Rattle.heap_seat.specs.Tickets.{Stops};
     ghost use Rattle.heap_seat.specs.Words.{IsOwn, KeepsOwn, KeepsPending};
-    ghost use Rattle.seat_flush.specs.All.{all_costs, cached};
+    ghost use Rattle.seat_flush.specs.All.{HasFlushedAll, all_costs, cached};
     ghost use Rattle.seat_rows.specs.Rows.{Passes};
     ghost use Rattle.seat_view.specs.CacheState.{heap_view};
     ghost use Rattle.thread_cache.specs.Keeps.{KeepsHeap};
@@ -42,6 +42,8 @@ impl<'a, C: Chance> CacheSeat<'a, C> {
             → KeepsPending (heap_view self.old) (heap_view self.new) word }
         ensures counted { IsQuietCall self.old self.new }
         ensures costs { Passes (all_costs self.old.view) self.old.view self.new.view }
+        ensures gave { OnOk result (self.old.view.gives < self.new.view.gives
+            → HasFlushedAll self.old.view self.new.view) }
         ensures light { OnOk result (self.new.view.gives ≡ self.old.view.gives
             → self.new ≡ self.old) }
         ensures idle { (ticket : ℕ) → self.old.view.stopped ≡ Some ticket

@@ -1,7 +1,7 @@
 use Rattle.std.proofs.Common.{true, false, subst, arith}
 use Rattle.seat_rows.proofs.RowLemmas.{marks_behind, row_then}
 use Rattle.seat_flush.specs.Gives.{HasGiven}
-use Rattle.seat_flush.proofs.FlushLemmas.{given_claimed, given_free, given_listed, lifted_batch, on_ok_then, prefix_done, prefix_row}
+use Rattle.seat_flush.proofs.FlushLemmas.{gave_free, gave_full, given_claimed, given_free, given_listed, lifted_batch, on_ok_then, prefix_done, prefix_row}
 use Rattle.seat_flush.proofs.flushes.flush_prefix.Goals as goal
 
 pub give-requires-clause-batch : goal.give-requires-clause-batch
@@ -28,6 +28,7 @@ returns-then-not-branch-clause-flushed g c =
     let given : HasGiven c.in_ok-prefix.prefix.d c.args.class.number false t x = subst (λ full. HasGiven c.in_ok-prefix.prefix.d c.args.class.number full t x) c.if-not-branch.true c.in_ok-give.ensures.given in
     prefix_done v t x c.has_a_sound_state.ensures c.args.class.number c.in_ok-prefix.prefix.d c.in_ok-prefix.prefix.last c.args.class.is c.requires.no_batch c.in_ok-prefix.ensures.lifted x (record { draws = omega arith; wins = omega arith; gives = omega arith; cuts = omega arith; taken = omega arith; moves = omega arith }) c.give.ensures.row.view given.going given.gave
     (given_free v t x c.has_a_sound_state.ensures c.args.class.number c.in_ok-prefix.prefix.d c.in_ok-prefix.prefix.last c.args.class.is c.requires.no_batch c.in_ok-prefix.ensures.lifted given)
+    (gave_free v t x c.has_a_sound_state.ensures c.args.class.number c.in_ok-prefix.prefix.d c.in_ok-prefix.prefix.last c.args.class.is c.requires.no_batch c.in_ok-prefix.ensures.lifted given)
 
 pub list-requires-clause-claim : goal.list-requires-clause-claim
 list-requires-clause-claim g c =
@@ -51,4 +52,5 @@ returns-clause-flushed g c =
     let given : HasGiven c.in_ok-prefix.prefix.d c.args.class.number true t x = subst (λ full. HasGiven c.in_ok-prefix.prefix.d c.args.class.number full t x) c.if-not-branch.false c.in_ok-give.ensures.given in
     on_ok_then c.list.result (λ listed. prefix_done v t x c.has_a_sound_state.ensures c.args.class.number c.in_ok-prefix.prefix.d c.in_ok-prefix.prefix.last c.args.class.is c.requires.no_batch c.in_ok-prefix.ensures.lifted w (record { draws = omega arith; wins = omega arith; gives = omega arith; cuts = omega arith; taken = omega arith; moves = omega arith })
     (row_then c.lift_prefix.new.seat c.give.new.seat c.list.new.seat c.give.ensures.row c.list.ensures.row).view listed.by.going (let more = c.list.ensures.row.view.passes.more.gives in let gave = given.gave in omega arith)
-    (given_listed v t x c.has_a_sound_state.ensures c.args.class.number c.in_ok-prefix.prefix.d c.in_ok-prefix.prefix.last c.args.class.is c.requires.no_batch c.in_ok-prefix.ensures.lifted w given listed)) c.list.ensures.listed
+    (given_listed v t x c.has_a_sound_state.ensures c.args.class.number c.in_ok-prefix.prefix.d c.in_ok-prefix.prefix.last c.args.class.is c.requires.no_batch c.in_ok-prefix.ensures.lifted w given listed)
+    (gave_full v t x c.has_a_sound_state.ensures c.args.class.number c.in_ok-prefix.prefix.d c.in_ok-prefix.prefix.last c.args.class.is c.requires.no_batch c.in_ok-prefix.ensures.lifted w given listed)) c.list.ensures.listed

@@ -1,6 +1,7 @@
-use Rattle.std.proofs.Common.{ap, refl, arith, ◌∙◌, sym, subst}
+use Rattle.std.proofs.Common.{◌<◌, OnOk, ap, refl, arith, ◌∙◌, sym, subst}
 use Rattle.core_model.specs.View.{View}
-use Rattle.seat_flush.specs.All.{all_costs, cached}
+use Rattle.seat_flush.specs.All.{HasFlushedAll, all_costs, cached}
+use Rattle.seat_flush.proofs.FlushLemmas.{on_ok_then}
 use Rattle.seat_rows.specs.Rows.{Passes}
 use Rattle.seat_view.specs.CacheState.{CacheState}
 use Rattle.thread_cache.specs.Quiet.{as_large, had_stopped}
@@ -55,3 +56,7 @@ returns-clause-costs g c = subst (λ (v : View). Passes (all_costs v) v c.flush_
 
 pub returns-in_err-check_running-clause-counted : goal.returns-in_err-check_running-clause-counted
 returns-in_err-check_running-clause-counted g c = had_stopped c.in_err-check_running.field-0.0.step c.in_err-check_running.ensures.stopped.stopped refl
+
+pub returns-clause-gave : goal.returns-clause-gave
+returns-clause-gave g c = subst (λ (v : View). OnOk c.flush_all-answer.result (v.gives < c.flush_all-answer.new.seat.view.gives → HasFlushedAll v c.flush_all-answer.new.seat.view)) (ap (λ (s : CacheState). s.view) c.self.view_is)
+    (on_ok_then c.flush_all-answer.result (λ done more. done) c.flush_all-answer.ensures.flushed)
