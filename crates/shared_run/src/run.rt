@@ -1,7 +1,7 @@
 //! A whole run of a trace by several workers: from a recovered heap to the replies and the image
 //! that is left.
 
-ghost use Rattle.std.specs.Prelude.{◌≡◌, ◌^◌, ◌<◌, ◌≤◌, ◌↔◌, ℕ, All, List, Contains, false, IfOk, IfSome, IsSome, length, slice_index};
+ghost use Rattle.std.specs.Prelude.{◌≡◌, ◌^◌, ◌<◌, ◌≤◌, ◌↔◌, ℕ, All, List, Contains, false, true, IfOk, IfSome, IsSome, length, map, slice_index};
 ghost use Rattle.heap_model.specs.Header.{capacity_of};
 ghost use Rattle.heap_model.specs.Rest.{IsReady};
 ghost use Rattle.dict_model.specs.Links.{shards};
@@ -12,10 +12,12 @@ ghost use Rattle.run_model.specs.Runs.{AnswerInOrder, IsFullRightly, answered, L
 ghost use Rattle.worker_run.specs.Left.{AreWholeImage};
 ghost use Rattle.worker_run.specs.Said.{requests_of, replies_of, ValuesAreShort};
 ghost use Rattle.tool_ports.specs.Chances.{ComesFrom};
+ghost use Rattle.crash_image.specs.Crash.{GivesAll, transient_words};
 ghost use Rattle.shared_run.specs.Closed.{LeavesOrderly};
 ghost use Rattle.shared_run.specs.Dealing.{AreInTurn};
 ghost use Rattle.shared_run.specs.Following.{AreAfter, FollowMapsOf};
 ghost use Rattle.shared_run.specs.Jobs.{IsJobOf, IsWorkedOf};
+ghost use Rattle.shared_run.specs.Scrambled.{IsScrambled};
 ghost use Rattle.seat_owners.specs.Owning.{AreOwnersByRoot};
 ghost use Rattle.shared_run.specs.Together.{HaveWorked, IsLeftOf, opening_for};
 
@@ -66,6 +68,8 @@ fn image_left<C: Chances>(
     ensures left { IsLeftOf stopped closed.now closed.kept result.items }
     ensures long { length closed.kept ≡ length closed.now → length result.items ≡ length closed.now }
     ensures chances { ComesFrom C.chance_gives C.word_gives chances.old chances.new }
+    ensures scrambled { stopped ≡ true → GivesAll C.word_gives chances.old
+        (map (slice_index result.items) (transient_words geometry.capacity)) chances.new }
 {
     let Closed { now, kept } = closed;
     if stopped {
@@ -202,6 +206,9 @@ fn run_workers<R: Threads + Sync, G: Gate + Sync, C: Chances>(
         (answered (requests_of requests.now) (replies_of o.replies.items)) new.items)) }
     ensures known { IfOk result (λ o. IsSome o.maps ↔ (o.stopped ≡ false)) }
     ensures chances { ComesFrom C.chance_gives C.word_gives chances.old chances.new }
+    ensures scrambled { IfOk result (λ o. o.stopped ≡ true → IsScrambled C.chance_gives C.word_gives
+        (capacity_of (slice_index mapped.words)) (slice_index o.image.items)
+        chances.old chances.new) }
 {
     let geometry = mapped.heap().geometry();
     let mut replies = Vec::with_capacity(alloc, requests.len())?;
@@ -277,8 +284,11 @@ pub fn run_trace<R: Threads + Sync, G: Gate + Sync, C: Chances>(
     ensures orderly { IfOk result (λ o. LeavesOrderly o.stopped (length o.image.items)
         (slice_index o.image.items)) }
 
-    // What the chances were asked for.
+    // What the chances were asked for; last of all the words that a crash leaves at random.
     ensures chances { ComesFrom C.chance_gives C.word_gives chances.old chances.new }
+    ensures scrambled { IfOk result (λ o. o.stopped ≡ true → IsScrambled C.chance_gives C.word_gives
+        (capacity_of (slice_index mapped.words)) (slice_index o.image.items)
+        chances.old chances.new) }
 {
     let outcome = run_workers(rt, alloc, mapped, requests, workers, budget, gate, chances)?;
     Ok(outcome)

@@ -13,6 +13,11 @@ module _ {S C One N : Type 0} (chances : S → C) (name : S → N) (chance_gives
   name_stays from to [] same = sym (ap name same)
   name_stays from to (number ∷ numbers) all = name_stays all.0 to numbers all.2 ∙ all.1.0
 
+  -- its numbers are the words of its chances
+  pub words_given : (from to : S) (numbers : List ℕ) → GivesAll Gives from numbers to → GivesAll word_gives (chances from) numbers (chances to)
+  words_given from to [] same = ap chances same
+  words_given from to (number ∷ numbers) all = (chances all.0, all.1.1, words_given all.0 to numbers all.2)
+
   -- and asks its chances for words alone
   pub words_come : (old : C) (from to : S) (numbers : List ℕ) → ComesFrom chance_gives word_gives old (chances from) → GivesAll Gives from numbers to
       → ComesFrom chance_gives word_gives old (chances to)

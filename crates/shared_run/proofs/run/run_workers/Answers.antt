@@ -1,7 +1,8 @@
-use Rattle.std.proofs.Common.{◌≡◌, ◌<◌, List, length, slice_index, ap, sym, subst, ◌∙◌, arith}
+use Rattle.std.proofs.Common.{◌≡◌, ◌<◌, List, length, map, slice_index, ap, sym, subst, ◌∙◌, arith}
 use Rattle.std.proofs.lemmas.List.{length-map}
 use Rattle.std.proofs.lemmas.Option.{IfSome_then}
 use Rattle.heap_model.specs.Header.{capacity_of}
+use Rattle.crash_image.specs.Crash.{GivesAll, transient_words}
 use Rattle.super_block.specs.Contents.{Contents}
 use Rattle.core_model.specs.View.{Setup}
 use Rattle.heap_table.specs.AtTable.{IsClosedSound}
@@ -90,3 +91,12 @@ returns-in_err-maps-clause-chances g c = comes_then _ _ _ _ _ c.open.ensures.cha
 
 pub returns-clause-chances : goal.returns-clause-chances
 returns-clause-chances g c = comes_then _ _ _ _ _ c.open.ensures.chances c.image_left-image.ensures.chances
+
+pub returns-clause-scrambled : goal.returns-clause-scrambled
+returns-clause-scrambled g c stops = record {
+  before = _;
+  asked = c.open.ensures.chances;
+  drawn = subst (λ n. GivesAll g.C.Chances.word_gives _ (map (slice_index c.image_left-image.result.items) (transient_words n)) _)
+      (c.geometry-geometry.ensures ∙ ap (λ (heap : Contents). capacity_of (slice_index heap.words)) c.heap.ensures)
+      (c.image_left-image.ensures.scrambled stops);
+}
