@@ -6,6 +6,7 @@ ghost use Rattle.heap_seat.specs.declared.fault.AllocFault.TheVariants.{Full};
 ghost use Rattle.heap_seat.specs.declared.fault.Looks.{Looks};
 ghost use Rattle.heap_seat.specs.View.{View};
 ghost use Rattle.heap_seat.specs.Tickets.{Runs};
+ghost use Rattle.heap_seat.specs.Calls.{SameRefusals};
 ghost use Rattle.heap_seat.specs.Rows.{IsRow};
 ghost use Rattle.dict_model.specs.Nodes.{largest_value, shard_of, value_words, node_bytes};
 ghost use Rattle.dict_model.specs.Requests.{with_key};
@@ -37,6 +38,7 @@ pub(crate) fn put_first<H: HeapSeat>(
     ensures ok { OnOk result (Changes (shard_of key) (λ map. with_key map key value.now)
         (H.view seat.old) (H.view seat.new)) }
     ensures runs { OnOk result (Runs (H.view seat.old) (H.view seat.new)) }
+    ensures refusals { OnOk result (SameRefusals (H.view seat.old) (H.view seat.new)) }
     ensures exact { OnOk result (ReachesAllHeld (H.view seat.old)
         → ReachesAllHeld (H.view seat.new)) }
     ensures cause { IfErr result (λ fault. PutFails (node_bytes (length value.now)) fault
@@ -70,6 +72,7 @@ pub(crate) fn put_over<H: HeapSeat>(
     ensures ok { OnOk result (Changes (shard_of key) (λ map. with_key map key value.now)
         (H.view seat.old) (H.view seat.new)) }
     ensures runs { OnOk result (Runs (H.view seat.old) (H.view seat.new)) }
+    ensures refusals { OnOk result (SameRefusals (H.view seat.old) (H.view seat.new)) }
     ensures exact { OnOk result (ReachesAllHeld (H.view seat.old)
         → ReachesAllHeld (H.view seat.new)) }
     ensures cause { IfErr result (λ fault. PutFails (node_bytes (length value.now)) fault

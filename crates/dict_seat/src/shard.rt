@@ -119,6 +119,7 @@ impl Shard {
         ensures ok { OnOk result (Changes (shard_of key) (λ map. with_key map key value.now)
             (H.view seat.old) (H.view seat.new)) }
         ensures runs { OnOk result (Runs (H.view seat.old) (H.view seat.new)) }
+        ensures refusals { OnOk result (SameRefusals (H.view seat.old) (H.view seat.new)) }
         ensures exact { OnOk result (ReachesAllHeld (H.view seat.old)
             → ReachesAllHeld (H.view seat.new)) }
         ensures exact_full { IfErr result (λ fault. (looks : Looks) → fault ≡ Full looks

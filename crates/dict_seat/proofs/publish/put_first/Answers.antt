@@ -3,7 +3,7 @@ use Rattle.std.proofs.lemmas.Result.{err_from_is_err_and}
 use Rattle.heap_model.specs.declared.block.Block.{Block}
 use Rattle.heap_model.specs.Sizes.{span_of}
 use Rattle.heap_seat.specs.Words.{MayHaveStored}
-use Rattle.heap_seat.proofs.RowLemmas.{row_then, row_more}
+use Rattle.heap_seat.proofs.RowLemmas.{row_then, row_more, same_refusals_then}
 use Rattle.dict_model.specs.Nodes.{shard_of, bucket_of, value_words, node_bytes}
 use Rattle.dict_model.specs.Requests.{with_key}
 use Rattle.dict_seat.specs.Quiet.{FollowsLink}
@@ -150,3 +150,12 @@ returns-in_err-node-clause-none g c =
     rw (p.1, p.2)
     (λ looks is. turned_down_behind heap.keeps heap.has_none g.met.H.HeapSeat.keeps_row (node_bytes (length c.args.value.now)) looks c.args.seat.now c.follow.new.seat c.make_node.new.seat
     c.follow.ensures.kept (c.in_err-node.ensures.none looks is))
+
+pub returns-clause-refusals : goal.returns-clause-refusals
+returns-clause-refusals g c =
+    let view = g.H.HeapSeat.view in
+    let v = view c.args.seat.now in
+    let t = view c.follow.new.seat in
+    let u = view c.make_node.new.seat in
+    let w = view c.persist.new.heap in
+    same_refusals_then v u w (same_refusals_then v t u c.follow.ensures.quiet.refusals c.in_ok-node.ensures.ok.refusals) c.persist.ensures.refusals

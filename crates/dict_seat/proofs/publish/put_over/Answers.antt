@@ -2,7 +2,7 @@ use Rattle.std.proofs.Common.{◌+◌, ◌*◌, length, ◌∙◌, arith}
 use Rattle.std.proofs.lemmas.Result.{err_from_is_err_and}
 use Rattle.heap_model.specs.Sizes.{span_of}
 use Rattle.heap_seat.specs.View.{word_of}
-use Rattle.heap_seat.proofs.RowLemmas.{row_then, row_more, row_large}
+use Rattle.heap_seat.proofs.RowLemmas.{row_then, row_more, row_large, same_refusals_then}
 use Rattle.dict_model.specs.Nodes.{shard_of, value_words, node_bytes}
 use Rattle.dict_model.specs.Requests.{with_key}
 use Rattle.dict_seat.specs.Trails.{IsDurableAt}
@@ -224,3 +224,14 @@ returns-in_err-node-clause-none g c =
     rw (p.1, p.2)
     (λ looks is. turned_down_behind heap.keeps heap.has_none g.met.H.HeapSeat.keeps_row (node_bytes (length c.args.value.now)) looks c.args.seat.now c.take.new.seat c.make_node.new.seat
     c.take.ensures.kept (c.in_err-node.ensures.none looks is))
+
+pub returns-clause-refusals : goal.returns-clause-refusals
+returns-clause-refusals g c =
+    let view = g.H.HeapSeat.view in
+    let v = view c.args.seat.now in
+    let t = view c.take.new.seat in
+    let u = view c.make_node.new.seat in
+    let w = view c.persist.new.heap in
+    let y = view c.free.new.self in
+    let made = same_refusals_then v t u c.take.ensures.quiet.refusals c.in_ok-node.ensures.ok.refusals in
+    same_refusals_then v w y (same_refusals_then v u w made c.persist.ensures.refusals) c.free.ensures.others.refusals

@@ -5,7 +5,7 @@ use Rattle.heap_seat.specs.declared.fault.AllocFault.{AllocFault}
 use Rattle.heap_seat.specs.declared.fault.AllocFault.TheVariants.{Full}
 use Rattle.heap_seat.specs.declared.fault.Looks.{Looks}
 use Rattle.dict_seat.specs.Reached.{ReachesAllHeld}
-use Rattle.heap_seat.proofs.RowLemmas.{row_then, row_more}
+use Rattle.heap_seat.proofs.RowLemmas.{row_then, row_more, same_refusals_then}
 use Rattle.dict_model.specs.Nodes.{shard_of, value_words, node_bytes, table_bytes}
 use Rattle.dict_model.specs.Requests.{with_key}
 use Rattle.dict_seat.specs.declared.search.SearchEnd.{SearchEnd}
@@ -447,3 +447,24 @@ returns-in-Missing-clause-none g c =
     let w = c.put_first.new.seat in
     ends_turned_down heap.keeps heap.has_none g.met.H.HeapSeat.keeps_row c.put_first.result (node_bytes (length c.args.value.now)) (heap.view u) (heap.view w) c.args.seat.now u w
     c.search.ensures.kept c.put_first.ensures.cause c.put_first.ensures.none
+
+pub returns-in-Found-clause-refusals : goal.returns-in-Found-clause-refusals
+returns-in-Found-clause-refusals g c =
+    let view = g.H.HeapSeat.view in
+    let u = view c.search.new.seat in
+    on_ok_weaker c.put_over.result (λ same. same_refusals_then (view c.args.seat.now) u (view c.put_over.new.seat) c.search.ensures.quiet.quiet.refusals same) c.put_over.ensures.refusals
+
+pub returns-in-Missing-clause-refusals : goal.returns-in-Missing-clause-refusals
+returns-in-Missing-clause-refusals g c =
+    let view = g.H.HeapSeat.view in
+    let u = view c.search.new.seat in
+    on_ok_weaker c.put_first.result (λ same. same_refusals_then (view c.args.seat.now) u (view c.put_first.new.seat) c.search.ensures.quiet.quiet.refusals same) c.put_first.ensures.refusals
+
+pub returns-in_ok-table-in-NoTable-clause-refusals : goal.returns-in_ok-table-in-NoTable-clause-refusals
+returns-in_ok-table-in-NoTable-clause-refusals g c =
+    let view = g.H.HeapSeat.view in
+    let v = view c.args.seat.now in
+    let u = view c.search.new.seat in
+    let y = view c.make_table.new.seat in
+    let before = same_refusals_then v u y c.search.ensures.quiet.quiet.refusals c.in_ok-table-in-NoTable.ensures.ok.refusals in
+    on_ok_weaker c.put_first-in-NoTable.result (λ same. same_refusals_then v y (view c.put_first-in-NoTable.new.seat) before same) c.put_first-in-NoTable.ensures.refusals
