@@ -50,14 +50,15 @@ pub record IsRoomFor (image : Image) (requests : List Request) (key room : ℕ) 
   pub enough : (long : ℕ) → IsLengthFor image requests key long → long ≤ room
   pub needed : IsLengthFor image requests key room
 
--- the room is as long as a get's value may be
+-- the room is as long as a get's value may be; another request has none
 abbrev pub HasRoom : Image → List Request → Request → ℕ → Type 0
 HasRoom image requests (get key) room = IsRoomFor image requests key room
-HasRoom image requests (put key value) room = Unit {0}
-HasRoom image requests (del key) room = Unit {0}
+HasRoom image requests (put key value) room = room ≡ 0
+HasRoom image requests (del key) room = room ≡ 0
 
+-- each request has its room, and there is no other
 abbrev pub HaveRoom : Image → List Request → List Request → List (List ℕ) → Type 0
-HaveRoom image requests [] rooms = Unit {0}
+HaveRoom image requests [] rooms = rooms ≡ []
 HaveRoom image requests (q ∷ qs) [] = ⊥
 HaveRoom image requests (q ∷ qs) (room ∷ rooms) = HasRoom image requests q (length room) × HaveRoom image requests qs rooms
 

@@ -101,7 +101,7 @@ longest_same qs q longest are not = record {
 -- one room more
 pub rooms_push : (image : Image) (requests qs : List Request) (q : Request) (rooms : List (List ℕ)) (room : List ℕ) → HaveRoom image requests qs rooms → length rooms ≡ length qs
     → HasRoom image requests q (length room) → HaveRoom image requests (qs ++ (q ∷ [])) (rooms ++ (room ∷ []))
-rooms_push image requests [] q [] room have long has = (has, tt)
+rooms_push image requests [] q [] room have long has = (has, refl)
 rooms_push image requests [] q (r ∷ rooms) room have long has = absurd (omega arith)
 rooms_push image requests (x ∷ qs) q [] room have long has = absurd have
 rooms_push image requests (x ∷ qs) q (r ∷ rooms) room have long has = (have.0, rooms_push image requests qs q rooms room have.1 (omega arith) has)
