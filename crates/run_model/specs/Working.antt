@@ -3,6 +3,7 @@ use Rattle.std.specs.Prelude.{◌≡◌, ℕ, ◌+◌, ◌*◌, ◌<◌, ◌≤�
 use Rattle.heap_model.specs.Image.{Image}
 use Rattle.heap_seat.specs.declared.fault.Looks.{Looks}
 use Rattle.heap_seat.specs.View.{View}
+use Rattle.heap_seat.specs.Calls.{SameRefusals}
 use Rattle.heap_seat.specs.Rows.{IsRow}
 use Rattle.heap_seat.specs.Sound.{IsSeat}
 use Rattle.dict_model.specs.Links.{shards}
@@ -94,13 +95,14 @@ pub record WasRefused {S : Type 0} (view : S → View) (keeps : S → S → Type
   pub asked : AsksFor request (view t).refused_bytes
   pub none : WasTurnedDown keeps has_none (view t).refused_bytes (view t).refused_looks s t
 
--- a request went from one state of a seat to the next: its reply is right, and what every call keeps was kept; one that was told full had a request for a block refused
+-- a request went from one state of a seat to the next: its reply is right, and what every call keeps was kept; one that was told full had a request for a block refused, and no other had
 pub record TakesRequest {S : Type 0} (view : S → View) (keeps : S → S → Type 0) (has_none : S → S → ℕ → Looks → Type 0) (request : Request) (reply : Reply)
     (s t : S) : Type 0 where
   pub answers : Answers request reply (view s) (view t)
   pub may : MayAnswer request (view s) (view t)
   pub keeps_it : keeps s t
   pub refused : reply ≡ full → WasRefused view keeps has_none request s t
+  pub granted : (reply ≡ full → ⊥) → SameRefusals (view s) (view t)
 
 -- and so request by request
 abbrev pub TakesRequests : {S : Type 0} → (S → View) → (S → S → Type 0) → (S → S → ℕ → Looks → Type 0) → List (Request × Reply) → S → S → Type 0

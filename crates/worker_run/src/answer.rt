@@ -2,6 +2,7 @@
 ghost use Rattle.std.specs.Prelude.{◌≡◌, ℕ, ◌+◌, ◌*◌, ◌≤◌, List, length, Some, IfOk, OnOk, IfErr};
 ghost use Rattle.heap_seat.specs.View.{View};
 ghost use Rattle.heap_seat.specs.Tickets.{Runs, Stops};
+ghost use Rattle.heap_seat.specs.Calls.{SameRefusals};
 ghost use Rattle.dict_model.specs.Nodes.{shard_of, largest_value};
 ghost use Rattle.dict_model.specs.Requests.{put, get, del, full};
 ghost use Rattle.dict_seat.specs.Reached.{ReachesAllHeld};
@@ -28,6 +29,8 @@ fn put_reply<H: HeapSeat>(seat: &mut H, key: u64, value: &[u8]) -> Result<Reply,
     ensures runs { OnOk result (Runs (H.view seat.old) (H.view seat.new)) }
     ensures refused { IfOk result (λ reply. reply_of reply ≡ Some full
         → WasRefused H.view H.keeps H.has_none (put key value.now) seat.old seat.new) }
+    ensures granted { IfOk result (λ reply. (reply_of reply ≡ Some full → ⊥)
+        → SameRefusals (H.view seat.old) (H.view seat.new)) }
     ensures exact { OnOk result (ReachesAllHeld (H.view seat.old)
         → ReachesAllHeld (H.view seat.new)) }
     ensures cause { IfErr result (λ e. Stops e.step (H.view seat.old) (H.view seat.new)) }
@@ -55,6 +58,8 @@ fn get_reply<H: HeapSeat>(seat: &mut H, key: u64, mut room: Vec<u8>) -> Result<R
     ensures runs { OnOk result (Runs (H.view seat.old) (H.view seat.new)) }
     ensures refused { IfOk result (λ reply. reply_of reply ≡ Some full
         → WasRefused H.view H.keeps H.has_none (get key) seat.old seat.new) }
+    ensures granted { IfOk result (λ reply. (reply_of reply ≡ Some full → ⊥)
+        → SameRefusals (H.view seat.old) (H.view seat.new)) }
     ensures exact { OnOk result (ReachesAllHeld (H.view seat.old)
         → ReachesAllHeld (H.view seat.new)) }
     ensures cause { IfErr result (λ e. Stops e.step (H.view seat.old) (H.view seat.new)) }
@@ -81,6 +86,8 @@ fn del_reply<H: HeapSeat>(seat: &mut H, key: u64) -> Result<Reply, Stopped>
     ensures runs { OnOk result (Runs (H.view seat.old) (H.view seat.new)) }
     ensures refused { IfOk result (λ reply. reply_of reply ≡ Some full
         → WasRefused H.view H.keeps H.has_none (del key) seat.old seat.new) }
+    ensures granted { IfOk result (λ reply. (reply_of reply ≡ Some full → ⊥)
+        → SameRefusals (H.view seat.old) (H.view seat.new)) }
     ensures exact { OnOk result (ReachesAllHeld (H.view seat.old)
         → ReachesAllHeld (H.view seat.new)) }
     ensures cause { IfErr result (λ e. Stops e.step (H.view seat.old) (H.view seat.new)) }
@@ -110,6 +117,8 @@ pub(crate) fn answer<H: HeapSeat>(
     ensures runs { OnOk result (Runs (H.view seat.old) (H.view seat.new)) }
     ensures refused { IfOk result (λ reply. reply_of reply ≡ Some full
         → WasRefused H.view H.keeps H.has_none (request_of request.now) seat.old seat.new) }
+    ensures granted { IfOk result (λ reply. (reply_of reply ≡ Some full → ⊥)
+        → SameRefusals (H.view seat.old) (H.view seat.new)) }
     ensures exact { OnOk result (ReachesAllHeld (H.view seat.old)
         → ReachesAllHeld (H.view seat.new)) }
     ensures cause { IfErr result (λ e. Stops e.step (H.view seat.old) (H.view seat.new)) }

@@ -1,4 +1,4 @@
-use Rattle.std.proofs.Common.{◌+◌, length, subst, arith}
+use Rattle.std.proofs.Common.{◌+◌, length, refl, subst, arith}
 use Rattle.heap_seat.specs.declared.fault.AllocFault.{AllocFault}
 use Rattle.heap_model.specs.Sizes.{span_of}
 use Rattle.dict_model.specs.Nodes.{shard_of, value_words, node_bytes, table_bytes}
@@ -54,3 +54,9 @@ returns-in-Err-Full-clause-refused g c = λ told.
 
 pub returns-in-Err-Full-clause-exact : goal.returns-in-Err-Full-clause-exact
 returns-in-Err-Full-clause-exact g c = c.in-Err-Full.ensures.exact_full _ c.in-Err-Full.field-0-is
+
+pub returns-in-Err-Full-clause-granted : goal.returns-in-Err-Full-clause-granted
+returns-in-Err-Full-clause-granted g c = λ not. absurd (not refl)
+
+pub returns-in-Ok-clause-granted : goal.returns-in-Ok-clause-granted
+returns-in-Ok-clause-granted g c = λ _. c.in-Ok.ensures.refusals

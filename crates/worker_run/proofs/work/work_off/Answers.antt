@@ -220,6 +220,7 @@ loop-request-preserved-in-Ok g c =
             may = c.answer-answered.ensures.crash;
             keeps_it = c.answer-answered.ensures.kept;
             refused = λ full. c.in-Ok.ensures.refused (replied.told_is ∙ ap Some full);
+            granted = λ not. c.in-Ok.ensures.granted (λ told. let is = sym replied.told_is ∙ told in not (cc));
           }));
       roots = c.answer-answered.ensures.crash.others.roots ∙ c.loop-request.invariant.roots;
       going = λ none. c.in-Ok.ensures.runs.running;
