@@ -92,6 +92,7 @@ module _ (old new : Image) (to : RecoversTo old new) (maps : List (BTreeMap ℕ 
           leaves.others.blocks_are b kind word (others_reach b kind reached) within
           ∙ words_unchanged old new (kinds_of old) dict_links to.recovered b word
           (record { kind = kind; reach = more_roots old (kinds_of old) dict_links (λ root c. tt) b kind reached }) within;
+      still_reached = λ b kind reached. leaves.others.still_reached b kind (others_reach b kind reached);
     };
     used = record {
       least = let least = leaves.used.least in omega (arith, least, used_stays);

@@ -122,6 +122,8 @@ pub record LeavesOthers (image left : Image) : Type 0 where
   pub roots_are : (root : ℕ) → IsOtherRoot root → root < roots → left (root_word root) ≡ image (root_word root)
   pub blocks_are : (b : Block) (kind word : ℕ) → ReachFrom image IsOtherRoot (kinds_of image) dict_links b kind → IsIn b word
       → left word ≡ image word
+  pub still_reached : (b : Block) (kind : ℕ) → ReachFrom image IsOtherRoot (kinds_of image) dict_links b kind
+      → ReachFrom left IsOtherRoot (kinds_of left) dict_links b kind
 
 -- no superblock is lost: there are taken those from before, and at most those that the workers' requests and the tables of the trace took
 pub record LeavesUsed (image : Image) (workers : ℕ) (requests : List Request) (replies : Replies) (left : Image) : Type 0 where

@@ -19,6 +19,7 @@ use Rattle.run_model.specs.Workers.{Replies}
 use Rattle.run_model.specs.Runs.{IsOtherRoot, LeavesOthers}
 use Rattle.run_model.specs.Stands.{IsOwnOther, HasOthers}
 use Rattle.shared_run.specs.Together.{HaveWorked}
+use Rattle.worker_run.proofs.StandsLemmas.{reached_left}
 use Rattle.shared_run.proofs.ShareLemmas.{share, mixes, stands_last, owns_other}
 
 -- each image that may be left has the seat's other roots, and what the image that was opened reaches from them
@@ -42,11 +43,14 @@ module _ (words : List ℕ) (held : List Block) (workers budget : ℕ) (requests
   leaves_others =
       let mixed = mixes words held workers budget requests replies stopped now kept left h in
       let first = heap_view (h.last 0) in
-      let others = (stands_last words held workers budget requests replies stopped now kept left h 0 h.some).others in
+      let stands = stands_last words held workers budget requests replies stopped now kept left h 0 h.some in
+      let others = stands.others in
       let owns = owns_other words held workers budget requests replies stopped now kept left h in
       record {
         nothing_outside = nothing_outside workers (λ i. heap_view (h.last i)) (slice_index left) (share words held workers budget requests replies stopped now kept left h) mixed;
         roots_are = λ root other below. root_left (slice_index words) first others (slice_index left) (mixed.mixes 0 h.some) root (other, owns root other below);
         blocks_are = λ b kind word reach inside. block_left (slice_index words) first others (slice_index left) (mixed.mixes 0 h.some) b kind word
             (there_are_roots {chosen = IsOtherRoot} {chosen' = IsOwnOther first} (slice_index words) (kinds_of (slice_index words)) (λ root below other. (other, owns root other below)) b kind reach) inside;
+        still_reached = λ b kind reach. reached_left (slice_index words) first stands.kinds others (slice_index left) (mixed.mixes 0 h.some) (mixed.names 0 h.some) (record { each = mixed.kinds 0 h.some }) b kind
+            (there_are_roots {chosen = IsOtherRoot} {chosen' = IsOwnOther first} (slice_index words) (kinds_of (slice_index words)) (λ root below other. (other, owns root other below)) b kind reach);
       }

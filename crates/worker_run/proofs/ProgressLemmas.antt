@@ -22,7 +22,7 @@ use Rattle.worker_run.proofs.LeftLemmas.{nothing_outside, map_left}
 use Rattle.worker_run.proofs.OpenLemmas.{only_opened, gives_opened, others_opened}
 use Rattle.dict_seat.proofs.OthersLemmas.{gives_others}
 use Rattle.dict_seat.proofs.GrownLemmas.{grown_keeps, gives_grown, only_grown}
-use Rattle.worker_run.proofs.StandsLemmas.{others_stay, others_still, root_in_left, block_in_left}
+use Rattle.worker_run.proofs.StandsLemmas.{others_stay, others_still, root_in_left, block_in_left, reach_in_left}
 
 -- the map after one request more
 after_push : (map : Map) (xs : List (Request × Reply)) (x : Request × Reply) → after map (xs ++ (x ∷ [])) ≡ after_one (after map xs) x.0 x.1
@@ -131,6 +131,7 @@ left_others image v left seat all stands mixes named kinds = record {
   nothing_outside = nothing_outside v left seat stands.only mixes named kinds all;
   roots_are = root_in_left image v stands.kinds stands.others all left mixes;
   blocks_are = block_in_left image v stands.kinds stands.others all left mixes;
+  still_reached = reach_in_left image v stands.kinds stands.others all left mixes named kinds;
 }
 
 -- a run that begins

@@ -1,16 +1,18 @@
 -- What belongs to no shard stays over requests to shards.
-use Rattle.std.proofs.Common.{◌≡◌, ◌≢◌, ℕ, ◌+◌, ◌<◌, inl, List, Option, Contains, refl, subst, sym, ◌∙◌, arith}
+use Rattle.std.proofs.Common.{◌≡◌, ◌≢◌, ℕ, ◌+◌, ◌*◌, ◌<◌, inl, List, Option, Contains, refl, subst, sym, ◌∙◌, arith}
 use Rattle.heap_model.specs.declared.block.Block.{Block}
 use Rattle.heap_model.specs.Geometry.{roots, root_word}
 use Rattle.heap_model.specs.Image.{Image}
 use Rattle.heap_model.specs.Header.{kinds_of}
 use Rattle.heap_model.specs.Blocks.{IsIn}
-use Rattle.heap_model.specs.Reach.{ReachFrom, by_start, by_link}
+use Rattle.heap_model.specs.Pointers.{IsPointerTo, Leads}
+use Rattle.heap_model.specs.Reach.{ReachFrom, by_start, by_link, words_in}
+use Rattle.heap_model.proofs.ImageLemmas.{length-words_from}
 use Rattle.heap_model.proofs.ReachLemmas.{closure_least, closure_included, more_roots}
 use Rattle.heap_seat.specs.View.{View}
-use Rattle.heap_seat.specs.Words.{in_root, in_block, MayBe, MayRead, MixesOwn, KeepsWord, KeepsOwn, StoresKinds}
+use Rattle.heap_seat.specs.Words.{in_root, in_block, MayBe, MayRead, MixesOwn, NamesAll, KeepsWord, KeepsOwn, StoresKinds}
 use Rattle.dict_model.specs.Links.{shards, dict_links}
-use Rattle.dict_model.proofs.LinkLemmas.{link_in_block}
+use Rattle.dict_model.proofs.LinkLemmas.{link_in_block, link_listed}
 use Rattle.dict_seat.specs.Maps.{KeepsOtherShards}
 use Rattle.dict_seat.specs.Reached.{MayReach, ReachesOnlyHeld}
 use Rattle.dict_seat.specs.Trails.{IsDurableAt}
@@ -98,6 +100,37 @@ module _ (image : Image) (v : View) (kinds : StoresKinds v image) (has : HasOthe
       let h = has.blocks b kind reach in
       (subst (λ (bs : List Block). Contains bs b) (sym keeps.held) h, λ word inside. keeps.words word (in_block b word h inside)))
 
+  -- each image that may be left reaches from other roots what the image reaches from those of the seat: the blocks are named there, and the words that lead to them are the same
+  module _ (left : Image) (mixes : MixesOwn v left) (named : NamesAll left v.held) (stored : StoresKinds v left) where
+    leads_left : (word : ℕ) (b : Block) → left word ≡ image word → Contains v.held b → Leads image (image word) b → Leads left (left word) b
+    leads_left word b same held leads = record {
+      pointer = subst (λ x. IsPointerTo x (8 * b.first_word)) (sym same) leads.pointer;
+      names = named b held;
+    }
+
+    pub reached_left : (b : Block) (kind : ℕ) → ReachFrom image (IsOwnOther v) (kinds_of image) dict_links b kind → ReachFrom left IsOtherRoot (kinds_of left) dict_links b kind
+    reached_left = closure_included
+        (λ b kind start.
+        let at = root_word start.root in
+        let same = settled_in v left mixes at (image at) (in_root start.root at start.is_chosen.1 refl) (has.root_words start.root start.is_chosen) in
+        record {
+          root = start.root;
+          below = start.below;
+          is_chosen = start.is_chosen.0;
+          kind_is = start.kind_is ∙ kinds.each start.root start.below ∙ sym (stored.each start.root start.below);
+          leads = leads_left at b same (has.blocks b kind (by_start b kind start)) start.leads;
+        })
+        (λ a b from kind reached link.
+        let is = link_in_block image a from link.position kind link.listed in
+        let inside = link_in a from link.position kind is in
+        let at = a.first_word + link.position in
+        let same = settled_in v left mixes at (image at) (in_block a at (has.blocks a from reached) inside) (has.words a from at reached inside) in
+        record {
+          position = link.position;
+          listed = link_listed from a.words link.position kind is (words_in left a) (length-words_from left a.first_word a.words);
+          leads = leads_left at b same (has.blocks b kind (by_link a b from kind reached link)) link.leads;
+        })
+
   -- where the seat has all roots, each image that may be left has them
   module _ (all : HasAllRoots v) (left : Image) (mixes : MixesOwn v left) where
     own_other : (b : Block) (kind : ℕ) → ReachFrom image IsOtherRoot (kinds_of image) dict_links b kind → ReachFrom image (IsOwnOther v) (kinds_of image) dict_links b kind
@@ -113,3 +146,7 @@ module _ (image : Image) (v : View) (kinds : StoresKinds v image) (has : HasOthe
     block_in_left b kind word reach inside =
         let own = own_other b kind reach in
         settled_in v left mixes word (image word) (in_block b word (has.blocks b kind own) inside) (has.words b kind word own inside)
+
+    pub reach_in_left : NamesAll left v.held → StoresKinds v left → (b : Block) (kind : ℕ) → ReachFrom image IsOtherRoot (kinds_of image) dict_links b kind
+        → ReachFrom left IsOtherRoot (kinds_of left) dict_links b kind
+    reach_in_left named stored b kind reach = reached_left left mixes named stored b kind (own_other b kind reach)
