@@ -1,5 +1,6 @@
 pub mod AlikeLemmas
 pub mod ExampleLemmas
 pub mod FullLemmas
+pub mod LeavingExamples
 pub mod OneMapLemmas
 pub mod SumLemmas
