@@ -1,3 +1,2 @@
-pub mod ExactLemmas
 pub mod OpenedLemmas
 pub mod OpeningLemmas

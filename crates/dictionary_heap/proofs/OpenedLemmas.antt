@@ -19,10 +19,10 @@ use Rattle.dictionary.specs.Reading.{RecoversTo}
 use Rattle.dictionary.proofs.SameLemmas.{map_kept}
 use Rattle.run_model.specs.Opened.{IsDictionary, IsReachedFrom, IsOpenedOver, HasAllRoots}
 use Rattle.run_model.specs.Progress.{HasAnswered}
+use Rattle.worker_run.proofs.OpenLemmas.{all_opened}
 use Rattle.worker_run.proofs.ProgressLemmas.{begins}
 use Rattle.worker_run.proofs.WorkLemmas.{asked_shard}
 use Rattle.dictionary_heap.specs.Opened.{GivesMapsOf, HasDoneNothing}
-use Rattle.dictionary_heap.proofs.ExactLemmas.{opened_exact}
 
 -- one thread has every root
 pub has_root : (root : ℕ) → root < roots → Contains all_roots root
@@ -82,7 +82,7 @@ module _ (words : List ℕ) (held : List Block) (budget : ℕ) (s : SeqState) (i
 
     -- each held block is reached
     pub all_reached : ReachesAllHeld (seat_of s)
-    all_reached = opened_exact (slice_index words) (seat_of s) opened_over (seat_law s)
+    all_reached = all_opened (slice_index words) (seat_of s) (seat_law s) opened_over
 
     -- and each shard gives the map of the image that was recovered
     pub opened_maps : (image : Image) → RecoversTo image (slice_index words) → GivesMapsOf image (seat_of s)
