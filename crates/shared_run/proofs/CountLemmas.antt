@@ -1,7 +1,7 @@
 -- What of a trace is each worker's adds up to the trace: its requests, the shards that are put into, and what is unanswered.
 use Rattle.std.proofs.Common.{◌≡◌, ℕ, zero, suc, ◌+◌, ◌<◌, ◌≤◌, inl, inr, Bool, true, false, cond, List, [], ◌∷◌, ◌++◌, length, replicate, sum_by, None, Some, refl, ap, subst, sym, ◌∙◌, arith}
 use Rattle.std.specs.Prelude.{count_by}
-use Rattle.std.proofs.lemmas.Bool.{cases_lt, eq-eqb, ne_eqb, eqb-true, or_cases, or_left, or_right}
+use Rattle.std.proofs.lemmas.Bool.{cases_lt, eq-eqb, ne_eqb, eqb-true, false_from_ne_true, or_cases, or_left, or_right}
 use Rattle.std.proofs.lemmas.List.Sums.{sum_by-cons, length-filter, count_by-le-length}
 use Rattle.heap_model.specs.Image.{words_from}
 use Rattle.dict_model.specs.Links.{shards}
@@ -10,24 +10,21 @@ use Rattle.run_model.specs.Needs.{is_to, put_into, shards_put_into}
 use Rattle.run_model.specs.Runs.{answered, unanswered, worker_unanswered}
 use Rattle.run_model.specs.Workers.{Replies, shard_asked, worker_of, is_of_worker, worker_requests, worker_replies, worker_numbers}
 use Rattle.run_model.proofs.SumLemmas.{sum_over, sum_within, sum_both, sum_one, sum_none}
+use Rattle.worker_run.proofs.SpendLemmas.{answered_none}
 
 -- a test that at most one of the workers passes, and only where the whole passes it
 count_one : (tests : ℕ → Bool) (whole : Bool) (owner workers : ℕ) → ((w : ℕ) → tests w ≡ true → (whole ≡ true) × (owner ≡ w))
     → sum_over (λ w. cond (tests w) 1 0) 0 workers ≤ cond whole 1 0
 count_one tests whole owner workers only = elim (cases_lt owner workers) as (λ _. sum_over (λ w. cond (tests w) 1 0) 0 workers ≤ cond whole 1 0) [
   | inl below ↦
-      let one = sum_one (λ w. cond (tests w) 1 0) owner 0 workers (omega arith) (omega arith) (λ w other. ap (λ b. cond b 1 0) (fails (tests w) (λ is. other (sym (only w is).1)))) in
+      let one = sum_one (λ w. cond (tests w) 1 0) owner 0 workers (omega arith) (omega arith) (λ w other. ap (λ b. cond b 1 0) (false_from_ne_true (tests w) (λ is. other (sym (only w is).1)))) in
       let here = least (tests owner) whole (λ is. (only owner is).0) in
       omega arith
   | inr above ↦
-      let none = sum_none (λ w. cond (tests w) 1 0) 0 workers (λ w low high. ap (λ b. cond b 1 0) (fails (tests w) (λ is. let e = (only w is).1 in omega arith))) in
+      let none = sum_none (λ w. cond (tests w) 1 0) 0 workers (λ w low high. ap (λ b. cond b 1 0) (false_from_ne_true (tests w) (λ is. let e = (only w is).1 in omega arith))) in
       omega arith
 ]
   where
-    fails : (b : Bool) → (b ≡ true → ⊥) → b ≡ false
-    fails true not = absurd (not refl)
-    fails false not = refl
-
     least : (a b : Bool) → (a ≡ true → b ≡ true) → cond a 1 0 ≤ cond b 1 0
     least true true more = let all : 1 ≤ 1 = omega arith in all
     least true false more = let e : false ≡ true = more refl in absurd (cc)
@@ -147,16 +144,12 @@ all_answered workers (request ∷ requests) (Some reply ∷ replies) some each =
     by_test w false none = none
 
 -- replies that are missing at the end answer nothing
-none_told : (requests : List Request) → answered requests [] ≡ []
-none_told [] = refl
-none_told (request ∷ requests) = refl
-
 pub answered_padded : (requests : List Request) (told : Replies) (more : ℕ) → answered requests (told ++ replicate more None) ≡ answered requests told
 answered_padded requests [] more = unanswered_end requests more where
   unanswered_end : (qs : List Request) (n : ℕ) → answered qs (replicate n None) ≡ answered qs []
   unanswered_end [] n = refl
   unanswered_end (q ∷ qs) zero = refl
-  unanswered_end (q ∷ qs) (suc n) = unanswered_end qs n ∙ none_told qs
+  unanswered_end (q ∷ qs) (suc n) = unanswered_end qs n ∙ answered_none qs
 answered_padded [] (reply ∷ told) more = refl
 answered_padded (request ∷ requests) (None ∷ told) more = answered_padded requests told more
 answered_padded (request ∷ requests) (Some reply ∷ told) more = ap (λ rs. (request, reply) ∷ rs) (answered_padded requests told more)

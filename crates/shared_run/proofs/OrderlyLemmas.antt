@@ -1,6 +1,7 @@
 -- What a run leaves that wasn't stopped: the anchors hold what the seats hold, and the roots reach exactly that.
 use Rattle.std.proofs.Common.{◌≡◌, ◌≢◌, ℕ, ◌+◌, ◌*◌, ◌<◌, ◌↔◌, List, length, slice_index, Option, None, Some, Contains, refl, subst, sym, ◌∙◌, arith}
 use Rattle.std.specs.Prelude.{Bool, true, false}
+use Rattle.std.proofs.lemmas.Bool.{false_from_ne_true}
 use Rattle.heap_model.specs.declared.block.Block.{Block}
 use Rattle.heap_model.specs.Geometry.{root_word}
 use Rattle.heap_model.specs.Image.{Image}
@@ -45,10 +46,6 @@ not_some : {A : Type 0} (o : Option A) → ((o ≢ None) → ⊥) → o ≡ None
 not_some None none = refl
 not_some (Some x) none = absurd (none (λ e. let both : Some x ≡ None = e in absurd (cc)))
 
-not_true : (b : Bool) → (b ≡ true → ⊥) → b ≡ false
-not_true true none = absurd (none refl)
-not_true false none = refl
-
 module _ (words : List ℕ) (held : List Block) (workers budget : ℕ) (requests : List Request) (replies : Replies) (now kept left : List ℕ)
     (h : HaveWorked words held workers budget requests replies false now kept left) where
   abbrev k : Setup
@@ -56,7 +53,7 @@ module _ (words : List ℕ) (held : List Block) (workers budget : ℕ) (requests
 
   -- no worker was stopped
   going : (i : ℕ) → i < workers → h.stops i ≡ false
-  going i below = not_true (h.stops i) (λ e. let stopped : ◌≡◌ {A = Bool} false true = h.stopped_by.1 (i, below, e) in absurd (cc))
+  going i below = false_from_ne_true (h.stops i) (λ e. let stopped : ◌≡◌ {A = Bool} false true = h.stopped_by.1 (i, below, e) in absurd (cc))
 
   keeps_none : (i : ℕ) → i < workers → KeepsNothing (h.last i).view
   keeps_none i below =

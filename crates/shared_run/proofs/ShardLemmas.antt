@@ -6,11 +6,7 @@ use Rattle.dict_model.specs.Requests.{Request, Reply}
 use Rattle.run_model.specs.Workers.{Replies, worker_of, shard_asked, is_of_worker, worker_requests, worker_replies}
 use Rattle.run_model.specs.Needs.{is_to}
 use Rattle.run_model.specs.Runs.{answered, of_shard, worker_answered}
-
--- with no replies nothing is answered
-none_without : (requests : List Request) → answered requests [] ≡ []
-none_without [] = refl
-none_without (request ∷ requests) = refl
+use Rattle.worker_run.proofs.SpendLemmas.{answered_none}
 
 -- an unanswered request adds nothing, whosever it is
 none_added : (mine : Bool) (request : Request) (requests : List Request) (replies : Replies)
@@ -40,7 +36,7 @@ module _ (workers shard : ℕ) where
   pub of_its_worker : (requests : List Request) (replies : Replies)
       → of_shard shard (answered requests replies) ≡ of_shard shard (worker_answered workers (worker_of workers shard) requests replies)
   of_its_worker [] replies = refl
-  of_its_worker (request ∷ requests) [] = ap (of_shard shard) (sym (none_without (worker_requests workers (worker_of workers shard) (request ∷ requests))))
+  of_its_worker (request ∷ requests) [] = ap (of_shard shard) (sym (answered_none (worker_requests workers (worker_of workers shard) (request ∷ requests))))
   of_its_worker (request ∷ requests) (None ∷ replies) = of_its_worker requests replies
       ∙ ap (of_shard shard) (none_added (mine request) request (worker_requests workers (worker_of workers shard) requests) (worker_replies workers (worker_of workers shard) requests replies))
   of_its_worker (request ∷ requests) (Some reply ∷ replies) = ap (λ (rs : List (Request × Reply)). cond (is_to shard request) ((request, reply) ∷ rs) rs) (of_its_worker requests replies)
