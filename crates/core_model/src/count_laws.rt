@@ -56,15 +56,16 @@ pub fn the_mark_is_what_was_taken()
         (v.used_look.taken ≤ v.taken) × (v.used_look.wins ≤ v.wins)) }
 {}
 
-/// The tickets of a seat were drawn, and those of its last looks too. One in hand is the seat's last
-/// one, and below the budget; so is the last one of a seat that has not stopped. A seat stops at
-/// its last ticket, which is not below the budget. All heads together count no more pops than the
-/// budget, with the tickets in hand.
+/// The tickets of a seat were drawn, and those of its last looks too. One in hand is its last one,
+/// and below the budget; so is the last one of a seat that has not stopped. A seat stops at its last
+/// ticket, which is not below the budget. All heads together count no more pops than the budget,
+/// with the tickets in hand.
 pub fn a_seat_stops_at_the_budget()
     ensures drawn { (k : Setup) (s : TableState) → IsSoundState k s → Each s.views (λ v. (t : ℕ)
         → v.last_ticket ≡ Some t → t < (memory_of k.capacity s.words).drawn) }
-    ensures looked_used { (k : Setup) (s : TableState) → IsSoundState k s → Each s.views (λ v. (t : ℕ)
-        → v.used_look.ticket ≡ Some t → t < (memory_of k.capacity s.words).drawn) }
+    ensures looked_used { (k : Setup) (s : TableState) → IsSoundState k s
+        → Each s.views (λ v. (t : ℕ) → v.used_look.ticket ≡ Some t
+        → t < (memory_of k.capacity s.words).drawn) }
     ensures looked_heads { (k : Setup) (s : TableState) → IsSoundState k s
         → Each s.views (λ v. (list t : ℕ) → list < lists
         → (get_or v.head_looks list v.used_look).ticket ≡ Some t
