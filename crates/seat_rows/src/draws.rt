@@ -5,7 +5,8 @@ ghost use Rattle.std.specs.Prelude.{◌≡◌, ◌<◌, ℕ, None, Some, OnOk, I
 ghost use Rattle.core_model.specs.declared.event.Event.TheVariants.{Tick};
 ghost use Rattle.core_model.specs.View.{View};
 ghost use Rattle.heap_table.specs.Plays.{IsEvent};
-ghost use Rattle.heap_rule.specs.Seated.{KeepsStores, TellsDraw};
+ghost use Rattle.heap_rule.specs.Fences.{SettlesEarly};
+ghost use Rattle.heap_rule.specs.Seated.{KeepsStores, SeatView, TellsDraw};
 ghost use Rattle.heap_rule.specs.Shown.{Can};
 ghost use Rattle.seat_rows.specs.Draws.{Settles};
 ghost use Rattle.seat_rows.specs.Costs.{one_draw};
@@ -16,7 +17,7 @@ use heap_rule::{Seat, Shared};
 use line_memory::{Chance, Stopped};
 
 /// Draws a ticket, with a change of the seat's parts where there is one, after some word may have
-/// become durable by chance.
+/// become durable by chance. Chance is asked once, and not at all where the seat had stopped.
 pub fn draw_with<C: Chance>(
     seat: &mut Seat,
     shared: &Shared,
@@ -27,7 +28,12 @@ pub fn draw_with<C: Chance>(
     requires can { seat.old.view.stopped ≡ None → Can seat.old.view (Tick shift) }
     ensures event { seat.old.view.stopped ≡ None → (early : View) × Settles seat.old.view early
         × (found : ℕ) × IsEvent (Tick shift) early found seat.new.view }
+    ensures asked { seat.old.view.stopped ≡ None
+        → (r : ℕ) × C.draw_gives chance.old r chance.new
+        × ((early : SeatView) × SettlesEarly r seat.old early
+        × (found : ℕ) × IsEvent (Tick shift) early.view found seat.new.view) }
     ensures had_stopped { (step : ℕ) → seat.old.view.stopped ≡ Some step → seat.new ≡ seat.old }
+    ensures not_asked { (step : ℕ) → seat.old.view.stopped ≡ Some step → chance.new ≡ chance.old }
     ensures told { TellsDraw seat.new.view result }
     ensures drew { seat.old.view.stopped ≡ None → next_of seat.old.view < next_of seat.new.view }
     ensures losses { seat.new.view.losses ≡ seat.old.view.losses }
@@ -42,6 +48,8 @@ pub fn draw<C: Chance>(seat: &mut Seat, shared: &Shared, chance: &mut C) -> Resu
     requires seat { IsSeatOf shared.now seat.old }
     ensures drawn { OnOk result (HasDrawn seat.old.view seat.new.view) }
     ensures stopped { IfErr result (λ e. Stops e.step seat.old.view seat.new.view) }
+    ensures asked { seat.old.view.stopped ≡ None → (r : ℕ) × C.draw_gives chance.old r chance.new }
+    ensures not_asked { (step : ℕ) → seat.old.view.stopped ≡ Some step → chance.new ≡ chance.old }
     ensures row { Row one_draw seat.old seat.new }
     ensures looks { SameLooks seat.old.view seat.new.view }
     ensures losses { seat.new.view.losses ≡ seat.old.view.losses }

@@ -19,3 +19,9 @@ returns-clause-row g c = row_of c.args.seat.now c.draw_with.new.seat c.draw_with
 pub returns-clause-looks : goal.returns-clause-looks
 returns-clause-looks g c =
     told_looks c.args.seat.now.view c.draw_with.new.seat.view c.draw_with.ensures.event (λ step stop. ap (λ (x : SeatView). x.view) (c.draw_with.ensures.had_stopped step stop))
+
+pub returns-clause-asked : goal.returns-clause-asked
+returns-clause-asked g c = λ going. let e = c.draw_with.ensures.asked going in (e.0, e.1)
+
+pub returns-clause-not_asked : goal.returns-clause-not_asked
+returns-clause-not_asked g c = c.draw_with.ensures.not_asked
