@@ -19,3 +19,4 @@ pub mod ShareLemmas
 pub mod TurnLemmas
 pub mod UsedLemmas
 pub mod WorkerLemmas
+pub mod ScrambledLemmas

@@ -1,8 +1,7 @@
-use Rattle.std.proofs.Common.{◌≡◌, ◌<◌, List, length, map, slice_index, ap, sym, subst, ◌∙◌, arith}
+use Rattle.std.proofs.Common.{◌≡◌, ◌<◌, List, length, slice_index, ap, sym, subst, ◌∙◌, arith}
 use Rattle.std.proofs.lemmas.List.{length-map}
 use Rattle.std.proofs.lemmas.Option.{IfSome_then}
 use Rattle.heap_model.specs.Header.{capacity_of}
-use Rattle.crash_image.specs.Crash.{GivesAll, transient_words}
 use Rattle.super_block.specs.Contents.{Contents}
 use Rattle.core_model.specs.View.{Setup}
 use Rattle.heap_table.specs.AtTable.{IsClosedSound}
@@ -15,6 +14,7 @@ use Rattle.tool_ports.proofs.ChanceLemmas.{comes_then}
 use Rattle.shared_run.specs.Dealing.{AreParts}
 use Rattle.shared_run.specs.Following.{AreAfter}
 use Rattle.shared_run.proofs.ClosedLemmas.{both_long, first_of, kept_capacity, kept_whole, now_capacity, now_long, now_whole, parts_back}
+use Rattle.shared_run.proofs.ScrambledLemmas.{at_capacity}
 use Rattle.shared_run.proofs.RunLemmas.{have_worked}
 use Rattle.shared_run.proofs.run.run_workers.Goals as goal
 
@@ -96,7 +96,6 @@ pub returns-clause-scrambled : goal.returns-clause-scrambled
 returns-clause-scrambled g c stops = record {
   before = _;
   asked = c.open.ensures.chances;
-  drawn = subst (λ n. GivesAll g.C.Chances.word_gives _ (map (slice_index c.image_left-image.result.items) (transient_words n)) _)
-      (c.geometry-geometry.ensures ∙ ap (λ (heap : Contents). capacity_of (slice_index heap.words)) c.heap.ensures)
+  drawn = at_capacity _ _ _ _ _ _ (c.geometry-geometry.ensures ∙ ap (λ (heap : Contents). capacity_of (slice_index heap.words)) c.heap.ensures)
       (c.image_left-image.ensures.scrambled stops);
 }
