@@ -20,8 +20,9 @@ use Rattle.heap_rule.specs.Shown.{Can, CanStore}
 use Rattle.heap_rule.proofs.RawLemmas.{volatile_long}
 use Rattle.heap_rule.proofs.SettleLemmas.{own_below}
 use Rattle.heap_rule.proofs.ViewLemmas.{block_class}
-use Rattle.seat_rows.specs.Rows.{HasDrawn, SameLooks, Stops, after_ticket, parts}
-use Rattle.seat_rows.specs.Words.{IsHeldWord, KeepsWord, MayBe, seen_at, times_held}
+use Rattle.seat_rows.specs.Costs.{Costs}
+use Rattle.seat_rows.specs.Rows.{HasDrawn, Row, SameLooks, Stops, ViewRow, after_ticket, parts}
+use Rattle.seat_rows.specs.Words.{IsDurableAt, IsHeldWord, KeepsWord, MayBe, seen_at, times_held}
 use Rattle.seat_rows.proofs.OnceLemmas.{not_held}
 use Rattle.seat_rows.proofs.RowLemmas.{not_both}
 use Rattle.seat_rows.proofs.StoreLemmas.{fenced}
@@ -183,6 +184,15 @@ module _ (v u w : SeatView) (drawn : HasDrawn v.view u.view) where
   marked_line word line = record {
     runs = runs_on v.view u.view w.view drawn (ap (λ (y : View). y.stopped) line.view) (ap parts line.view) (ap (λ (y : View). y.last_ticket) line.view);
     marked = λ k below same. line.in_line k (subst (λ n. k < image_words n) (sym (ap (λ (y : View). y.setup.capacity) drawn.left)) below) same;
+  }
+
+  pub line_row : (costs : Costs) (word : ℕ) → Row costs v u → IsLineMarked word u w → Row costs v w
+  line_row costs word row line = record {
+    view = subst (ViewRow costs v.view) (sym line.view) row.view;
+    marks = λ k held on. elim (row.marks k held on) as (λ _. IsMarked w.marks k ⊎ IsDurableAt w.view k) [
+      | inl still ↦ inl (line.kept k still)
+      | inr durable ↦ inr (subst (λ (y : View). IsDurableAt y k) (sym line.view) durable)
+    ];
   }
 
   pub line_looks : (word : ℕ) → IsLineMarked word u w → SameLooks v.view u.view → SameLooks v.view w.view

@@ -1,5 +1,8 @@
-use Rattle.seat_words.proofs.OwnLemmas.{marked_line, runs_drew}
+use Rattle.seat_words.proofs.OwnLemmas.{line_row, marked_line, runs_drew}
 use Rattle.seat_words.proofs.words.write_back.Goals as goal
 
 pub returns-clause-drew : goal.returns-clause-drew
 returns-clause-drew g c = runs_drew c.args.seat.now.view c.write_back.new.self.view (marked_line c.args.seat.now c.draw.new.seat c.write_back.new.self c.in_ok-draw.ensures.drawn c.args.word c.write_back.ensures.marked).runs
+
+pub returns-clause-row : goal.returns-clause-row
+returns-clause-row g c = line_row c.args.seat.now c.draw.new.seat c.write_back.new.self c.in_ok-draw.ensures.drawn _ c.args.word c.in_ok-draw.ensures.row c.write_back.ensures.marked
