@@ -55,8 +55,11 @@ pub returns-in-Some-clause-counted : goal.returns-in-Some-clause-counted
 returns-in-Some-clause-counted g c = large_counted c.args.self.now c.self.inside.seat c.alloc-answer.new.seat _ (full_step _ c.args.self.now c.self.view_is c.args.bytes c.in-Some.looks c.self.inside.seat c.alloc-answer.new.seat refl refl c.has_a_sound_state-2.ensures c.in_ok-check_running.ensures.ok) c.alloc-answer.ensures.row.passes _ (omega arith)
 
 pub returns-in-Some-clause-kept : goal.returns-in-Some-clause-kept
-returns-in-Some-clause-kept g c = (c.alloc-answer.ensures.seat.table ∙ sym c.self.inside.of.table ∙ ap (λ (s : CacheState). s.table) c.self.view_is, large_keeps c.args.self.now c.self.inside.seat c.alloc-answer.new.seat _ (full_step _ c.args.self.now c.self.view_is c.args.bytes c.in-Some.looks c.self.inside.seat c.alloc-answer.new.seat refl refl c.has_a_sound_state-2.ensures c.in_ok-check_running.ensures.ok) c.alloc-answer.ensures.row.passes (request_few c.args.bytes _)
-    (alloc_paid c.args.bytes _ c.self.inside.seat c.alloc-answer.new.seat (ap (λ (s : CacheState). s.view.stopped) c.self.view_is ∙ c.in_ok-check_running.ensures.ok) c.alloc-answer.ensures.row.passes c.alloc-answer.result c.alloc-answer.ensures.answers c.alloc-answer.ensures.light c.alloc-answer.ensures.none))
+returns-in-Some-clause-kept g c = (
+  c.alloc-answer.ensures.seat.table ∙ sym c.self.inside.of.table ∙ ap (λ (s : CacheState). s.table) c.self.view_is,
+  large_keeps c.args.self.now c.self.inside.seat c.alloc-answer.new.seat _ (full_step _ c.args.self.now c.self.view_is c.args.bytes c.in-Some.looks c.self.inside.seat c.alloc-answer.new.seat refl refl c.has_a_sound_state-2.ensures c.in_ok-check_running.ensures.ok) c.alloc-answer.ensures.row.passes (request_few c.args.bytes _)
+      (alloc_paid c.args.bytes _ c.self.inside.seat c.alloc-answer.new.seat (ap (λ (s : CacheState). s.view.stopped) c.self.view_is ∙ c.in_ok-check_running.ensures.ok) c.alloc-answer.ensures.row.passes c.alloc-answer.result c.alloc-answer.ensures.answers c.alloc-answer.ensures.light c.alloc-answer.ensures.none),
+)
 
 pub returns-in-None-clause-unchanged : goal.returns-in-None-clause-unchanged
 returns-in-None-clause-unchanged g c = large_refused c.args.self.now c.self.inside.seat c.alloc-answer.new.seat _ (large_step _ c.args.self.now c.self.view_is c.self.inside.seat c.alloc-answer.new.seat refl refl c.has_a_sound_state-2.ensures c.in_ok-check_running.ensures.ok) c.alloc-answer.ensures.row.passes _ c.alloc-answer.result c.alloc-answer.ensures.none
@@ -65,8 +68,11 @@ pub returns-in-None-clause-counted : goal.returns-in-None-clause-counted
 returns-in-None-clause-counted g c = large_counted c.args.self.now c.self.inside.seat c.alloc-answer.new.seat _ (large_step _ c.args.self.now c.self.view_is c.self.inside.seat c.alloc-answer.new.seat refl refl c.has_a_sound_state-2.ensures c.in_ok-check_running.ensures.ok) c.alloc-answer.ensures.row.passes _ (omega arith)
 
 pub returns-in-None-clause-kept : goal.returns-in-None-clause-kept
-returns-in-None-clause-kept g c = (c.alloc-answer.ensures.seat.table ∙ sym c.self.inside.of.table ∙ ap (λ (s : CacheState). s.table) c.self.view_is, large_keeps c.args.self.now c.self.inside.seat c.alloc-answer.new.seat _ (large_step _ c.args.self.now c.self.view_is c.self.inside.seat c.alloc-answer.new.seat refl refl c.has_a_sound_state-2.ensures c.in_ok-check_running.ensures.ok) c.alloc-answer.ensures.row.passes (request_few c.args.bytes _)
-    (alloc_paid c.args.bytes _ c.self.inside.seat c.alloc-answer.new.seat (ap (λ (s : CacheState). s.view.stopped) c.self.view_is ∙ c.in_ok-check_running.ensures.ok) c.alloc-answer.ensures.row.passes c.alloc-answer.result c.alloc-answer.ensures.answers c.alloc-answer.ensures.light c.alloc-answer.ensures.none))
+returns-in-None-clause-kept g c = (
+  c.alloc-answer.ensures.seat.table ∙ sym c.self.inside.of.table ∙ ap (λ (s : CacheState). s.table) c.self.view_is,
+  large_keeps c.args.self.now c.self.inside.seat c.alloc-answer.new.seat _ (large_step _ c.args.self.now c.self.view_is c.self.inside.seat c.alloc-answer.new.seat refl refl c.has_a_sound_state-2.ensures c.in_ok-check_running.ensures.ok) c.alloc-answer.ensures.row.passes (request_few c.args.bytes _)
+      (alloc_paid c.args.bytes _ c.self.inside.seat c.alloc-answer.new.seat (ap (λ (s : CacheState). s.view.stopped) c.self.view_is ∙ c.in_ok-check_running.ensures.ok) c.alloc-answer.ensures.row.passes c.alloc-answer.result c.alloc-answer.ensures.answers c.alloc-answer.ensures.light c.alloc-answer.ensures.none),
+)
 
 pub returns-in-None-clause-ok : goal.returns-in-None-clause-ok
 returns-in-None-clause-ok g c = alloc_ok c.args.bytes c.args.self.now c.self.inside.seat c.alloc-answer.new.seat _ (large_step _ c.args.self.now c.self.view_is c.self.inside.seat c.alloc-answer.new.seat refl refl c.has_a_sound_state-2.ensures c.in_ok-check_running.ensures.ok) c.has_a_sound_state.ensures c.alloc-answer.ensures.drew c.alloc-answer.result c.alloc-answer.ensures.answers c.alloc-answer.ensures.row (record { count = ap (λ (s : CacheState). s.refusals) c.self.view_is; bytes = ap (λ (s : CacheState). s.refused_bytes) c.self.view_is; looks = ap (λ (s : CacheState). s.refused_looks) c.self.view_is })

@@ -42,5 +42,8 @@ pub returns-clause-counted : goal.returns-clause-counted
 returns-clause-counted g c = large_counted c.args.self.now c.self.inside.seat c.free-answer.new.seat _ (large_step _ c.args.self.now c.self.view_is c.self.inside.seat c.free-answer.new.seat refl refl c.has_a_sound_state-2.ensures c.in_ok-check_running.ensures.ok) c.free-answer.ensures.row.passes 0 (omega arith)
 
 pub returns-clause-kept : goal.returns-clause-kept
-returns-clause-kept g c = (c.free-answer.ensures.seat.table ∙ sym c.self.inside.of.table ∙ ap (λ (s : CacheState). s.table) c.self.view_is, large_keeps c.args.self.now c.self.inside.seat c.free-answer.new.seat _ (large_step _ c.args.self.now c.self.view_is c.self.inside.seat c.free-answer.new.seat refl refl c.has_a_sound_state-2.ensures c.in_ok-check_running.ensures.ok) c.free-answer.ensures.row.passes free_few
-    (free_paid c.args.b c.self.inside.seat c.free-answer.new.seat (ap (λ (s : CacheState). s.view.stopped) c.self.view_is ∙ c.in_ok-check_running.ensures.ok) c.free-answer.ensures.row.passes c.free-answer.result c.free-answer.ensures.freed c.free-answer.ensures.may c.free-answer.ensures.stopped c.free-answer.ensures.light))
+returns-clause-kept g c = (
+  c.free-answer.ensures.seat.table ∙ sym c.self.inside.of.table ∙ ap (λ (s : CacheState). s.table) c.self.view_is,
+  large_keeps c.args.self.now c.self.inside.seat c.free-answer.new.seat _ (large_step _ c.args.self.now c.self.view_is c.self.inside.seat c.free-answer.new.seat refl refl c.has_a_sound_state-2.ensures c.in_ok-check_running.ensures.ok) c.free-answer.ensures.row.passes free_few
+      (free_paid c.args.b c.self.inside.seat c.free-answer.new.seat (ap (λ (s : CacheState). s.view.stopped) c.self.view_is ∙ c.in_ok-check_running.ensures.ok) c.free-answer.ensures.row.passes c.free-answer.result c.free-answer.ensures.freed c.free-answer.ensures.may c.free-answer.ensures.stopped c.free-answer.ensures.light),
+)
