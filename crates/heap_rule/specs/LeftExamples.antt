@@ -1,9 +1,9 @@
 -- Worked examples by computation: what of a seat's view must be in an image that is left, and what of it steps keep.
-use Rattle.std.specs.Prelude.{◌≡◌, ◌<◌, ℕ, true, [], ◌∷◌, None, refl, length}
+use Rattle.std.specs.Prelude.{◌≡◌, ◌<◌, ℕ, true, false, [], ◌∷◌, None, refl, length}
 use Rattle.std.proofs.Common.{inl, inr, true≢false, ap, sym, arith}
 use Rattle.heap_model.specs.Durability.{is_head}
 use Rattle.heap_model.specs.Image.{Image}
-use Rattle.core_model.specs.declared.event.Event.TheVariants.{Tick, Store, LookUsed, Push}
+use Rattle.core_model.specs.declared.event.Event.TheVariants.{Tick, Load, Store, Settle, LookUsed, Push}
 use Rattle.core_model.specs.View.{Setup, View, one_if_some}
 use Rattle.heap_rule.specs.Examples.{only, seat}
 use Rattle.heap_rule.specs.Held.{IsPlacedBelow}
@@ -21,7 +21,7 @@ has_root = record seat { roots = 3 ∷ []; volatile = only 43 7; durable = only 
 abbrev pub all_are : ℕ → Image
 all_are value word = value
 
-differ : (a b : ℕ) → a ≡ b → a < b → ⊥
+pub differ : (a b : ℕ) → a ≡ b → a < b → ⊥
 differ a b same less = omega (arith, same)
 
 pub close_needs_the_volatile : HasVolatileRecords has_root (all_are 6) → ⊥
@@ -45,6 +45,9 @@ left_has_one_of_both mixes = elim (mixes.each 43 (omega arith) (a_root 3)) as (�
 
 pub picked_is_picked : HasPickedRecords has_root (λ word. true) (all_are 6) → ⊥
 picked_is_picked has = differ 6 7 (has.each 43 (omega arith) 7 refl) (omega arith)
+
+pub picked_for_false_is_durable : HasPickedRecords has_root (λ word. false) (all_are 7) → ⊥
+picked_for_false_is_durable has = differ 6 7 (sym (has.each 43 (omega arith) 6 refl)) (omega arith)
 
 -- the first word was opened as 5
 abbrev pub opened_with : Setup
@@ -74,6 +77,12 @@ store_is_on_its_word = refl
 pub store_is_on_no_other : IsOn (Store 8 1) 9 → ⊥
 store_is_on_no_other on = differ 8 9 on (omega arith)
 
+pub load_is_on_no_other : IsOn (Load 8) 9 → ⊥
+load_is_on_no_other on = differ 8 9 on (omega arith)
+
+pub settle_is_on_no_other : IsOn (Settle 8) 9 → ⊥
+settle_is_on_no_other on = differ 8 9 on (omega arith)
+
 pub draw_is_on_none : IsOn (Tick None) 8 → ⊥
 draw_is_on_none on = on
 
@@ -102,3 +111,6 @@ not_past_the_mark placed = let until = placed.until in omega arith
 
 pub not_before_the_first : IsPlacedBelow 2 1 (record { first_word = 1079; words = 8 }) → ⊥
 not_before_the_first placed = let from = placed.from in omega arith
+
+pub not_past_the_capacity : IsPlacedBelow 2 3 (record { first_word = 1080; words = 8 }) → ⊥
+not_past_the_capacity placed = let low = placed.low in omega arith

@@ -13,4 +13,5 @@ pub mod Rooms
 pub mod Fences
 pub mod Examples
 pub mod LeftExamples
+pub mod SeatExamples
 pub mod Stacks
