@@ -1,7 +1,7 @@
 -- Worked examples: a shard of one key, and the first bad places of damaged ones.
-use Rattle.std.specs.Prelude.{◌≡◌, ◌≢◌, ℕ, zero, suc, ◌+◌, ◌*◌, ◌<◌, ◌≤◌, List, [], ◌∷◌, None, Some, cond, nat_eq, refl}
-use Rattle.std.proofs.Common.{arith, ap, subst, sym, ◌∙◌}
-use Rattle.std.proofs.lemmas.Bool.{cond-false, ne_eqb, cond_both}
+use Rattle.std.specs.Prelude.{◌≡◌, ◌≢◌, ℕ, zero, suc, ◌+◌, ◌*◌, ◌<◌, ◌≤◌, List, [], ◌∷◌, None, Some, Contains, cond, nat_eq, refl}
+use Rattle.std.proofs.Common.{arith, ap, subst, sym, inl, inr, ◌∙◌}
+use Rattle.std.proofs.lemmas.Bool.{cond-false, ne_eqb, cases_eq, cond_both}
 use Rattle.heap_model.specs.declared.block.Block.{Block}
 use Rattle.heap_model.specs.Image.{Image}
 use Rattle.heap_model.specs.Header.{kinds_of}
@@ -11,7 +11,7 @@ use Rattle.heap_model.specs.Pointers.{Leads}
 use Rattle.heap_model.specs.Counting.{put}
 use Rattle.heap_model.specs.Geometry.{magic, root_word}
 use Rattle.heap_model.specs.Examples.{formatted, image_with}
-use Rattle.heap_model.specs.Reach.{ReachFrom, by_start}
+use Rattle.heap_model.specs.Reach.{ReachFrom, by_start, words_in}
 use Rattle.dict_model.specs.Links.{dict_links}
 use Rattle.heap_model.proofs.ReachLemmas.{one_block, not_null, closure_least}
 use Rattle.dict_model.specs.Nodes.{shard_of, bucket_of, key_in, IsNode, find}
@@ -230,28 +230,30 @@ bad_loop = at_link (block_at 0) (λ _. []) 0 1328 (block_at 2 ∷ [])
 elsewhere : (f : Image) (at value w : ℕ) → w ≢ at → f w ≡ 0 → put f at value w ≡ 0
 elsewhere f at value w other null = cond-false (nat_eq w at) value (f w) (ne_eqb w at other) ∙ null
 
--- all other words are null
-null_word : (root first w : ℕ) → 8 < w → w ≢ 40 → w ≢ 1064 → w ≢ 1072 → w ≢ 1080 → w ≢ 17464 → shard_with root first [] w ≡ 0
+-- all other words are null, where these words are
+null_word : (root first : ℕ) (words : List (ℕ × ℕ)) (w : ℕ) → image_with words w ≡ 0 → 8 < w → w ≢ 40 → w ≢ 1064 → w ≢ 1072 → w ≢ 1080 → w ≢ 17464
+    → shard_with root first words w ≡ 0
 unfolding shard_with
-null_word root first w behind a b c d e =
-    let e0 = elsewhere (λ _. 0) 17464 1 w e refl in
-    let e1 = elsewhere (put (λ _. 0) 17464 1) 1080 first w d e0 in
-    let e2 = elsewhere (put (put (λ _. 0) 17464 1) 1080 first) 40 root w a e1 in
-    let e3 = elsewhere (put (put (put (λ _. 0) 17464 1) 1080 first) 40 root) 1072 2 w c e2 in
-    let e4 = elsewhere (put (put (put (put (λ _. 0) 17464 1) 1080 first) 40 root) 1072 2) 1064 12 w b e3 in
-    let words : List (ℕ × ℕ) = (8, 2) ∷ (1064, 12) ∷ (1072, 2) ∷ (40, root) ∷ (1080, first) ∷ (17464, 1) ∷ [] in
-    let e5 = elsewhere (put (put (put (put (put (λ _. 0) 17464 1) 1080 first) 40 root) 1072 2) 1064 12) 8 2 w (λ e. omega arith) e4 in
-    let e6 = elsewhere (image_with words) 3 1 w (λ e. omega arith) e5 in
-    let e7 = elsewhere (put (image_with words) 3 1) 2 2 w (λ e. omega arith) e6 in
-    let e8 = elsewhere (put (put (image_with words) 3 1) 2 2) 1 2 w (λ e. omega arith) e7 in
-    elsewhere (put (put (put (image_with words) 3 1) 2 2) 1 2) 0 magic w (λ e. omega arith) e8
+null_word root first words w null behind a b c d e =
+    let f0 : Image = image_with words in
+    let e0 = elsewhere f0 17464 1 w e null in
+    let e1 = elsewhere (put f0 17464 1) 1080 first w d e0 in
+    let e2 = elsewhere (put (put f0 17464 1) 1080 first) 40 root w a e1 in
+    let e3 = elsewhere (put (put (put f0 17464 1) 1080 first) 40 root) 1072 2 w c e2 in
+    let e4 = elsewhere (put (put (put (put f0 17464 1) 1080 first) 40 root) 1072 2) 1064 12 w b e3 in
+    let all : List (ℕ × ℕ) = (8, 2) ∷ (1064, 12) ∷ (1072, 2) ∷ (40, root) ∷ (1080, first) ∷ (17464, 1) ∷ words in
+    let e5 = elsewhere (put (put (put (put (put f0 17464 1) 1080 first) 40 root) 1072 2) 1064 12) 8 2 w (λ e. omega arith) e4 in
+    let e6 = elsewhere (image_with all) 3 1 w (λ e. omega arith) e5 in
+    let e7 = elsewhere (put (image_with all) 3 1) 2 2 w (λ e. omega arith) e6 in
+    let e8 = elsewhere (put (put (image_with all) 3 1) 2 2) 1 2 w (λ e. omega arith) e7 in
+    elsewhere (put (put (put (image_with all) 3 1) 2 2) 1 2) 0 magic w (λ e. omega arith) e8
 
 -- so no other root leads anywhere
 alone : (root first : ℕ) (b : Block) (kind : ℕ) → ReachFrom (shard_with root first []) (λ i. i ≢ 0) (kinds_of (shard_with root first [])) dict_links b kind → ⊥
 alone root first = closure_least (λ b kind. ⊥)
     (λ b kind start.
     not_null (shard_with root first [] (root_word start.root)) (8 * b.first_word) start.leads.pointer
-    (null_word root first (root_word start.root) (omega (arith, start.below)) (λ e. start.is_chosen (omega arith))
+    (null_word root first [] (root_word start.root) refl (omega (arith, start.below)) (λ e. start.is_chosen (omega arith))
     (λ e. omega (arith, start.below))
     (λ e. omega (arith, start.below)) (λ e. omega (arith, start.below)) (λ e. omega (arith, start.below))))
     (λ a b from kind reached none leads. none)
@@ -272,7 +274,7 @@ good_chains zero below = record {
 }
 good_chains (suc k) below = record {
   path = tt;
-  ends = null_word to_table to_node (1080 + suc k) (omega arith)
+  ends = null_word to_table to_node [] (1080 + suc k) refl (omega arith)
       (λ e. omega arith) (λ e. omega arith) (λ e. omega arith) (λ e. omega arith) (λ e. omega (arith, below));
 }
 
@@ -310,7 +312,7 @@ other_kind_table first words = at_kind (λ e. omega arith)
 empty_shard : MapOf (formatted 2 ((17471, 1) ∷ [])) 7 (λ key. None)
 empty_shard = record { kind_is = refl; is_map = is_empty refl (λ key. refl) }
 
--- another root that leads to the table, and one that leads to the node
+-- another root that leads to the table
 shared_table : BadShard (shard_with to_table to_node ((41, to_table) ∷ [])) 0 40
 unfolding shard_with
 shared_table = in_table 40 refl (at_root (record {
@@ -318,3 +320,43 @@ shared_table = in_table 40 refl (at_root (record {
   nowhere = λ b leads size.
       leads.1 0 (by_start b 0 (record { root = 1; below = omega arith; is_chosen = λ e. omega arith; kind_is = refl; leads = leads.0 }));
 }))
+
+-- Root 8 leads to the node too, and by its kind the node has no links: so the table is the shard's alone.
+abbrev node_words : List (ℕ × ℕ)
+node_words = (48, to_node) ∷ []
+
+abbrev with_node : Image
+with_node = shard_with to_table to_node node_words
+
+beside_node : (b : Block) (kind : ℕ) → ReachFrom with_node (λ i. i ≢ 0) (kinds_of with_node) dict_links b kind → (b ≡ node) × (kind ≡ 0)
+unfolding shard_with
+beside_node = closure_least (λ b kind. (b ≡ node) × (kind ≡ 0))
+    (λ b kind start. elim (cases_eq start.root 8) [
+      | inl is ↦ (
+        only_node to_table to_node node_words b (subst (λ r. Leads with_node (with_node (root_word r)) b) is start.leads),
+        start.kind_is ∙ ap (kinds_of with_node) is,
+      )
+      | inr other ↦ absurd (not_null (with_node (root_word start.root)) (8 * b.first_word) start.leads.pointer
+          (null_word to_table to_node node_words (root_word start.root)
+          (elsewhere (λ _. 0) 48 to_node (root_word start.root) (λ e. other (omega arith)) refl)
+          (omega (arith, start.below)) (λ e. start.is_chosen (omega arith))
+          (λ e. omega (arith, start.below)) (λ e. omega (arith, start.below)) (λ e. omega (arith, start.below)) (λ e. omega (arith, start.below))))
+    ])
+    (λ a b from kind reached was link.
+    let listed : Contains (dict_links 0 (words_in with_node a)) (link.position, kind) =
+    subst (λ k. Contains (dict_links k (words_in with_node a)) (link.position, kind)) was.1 link.listed in
+    absurd (omega (arith, listed.1)))
+
+-- and the first link of bucket 0 leads astray, where this root leads to its node
+shared_node : BadShard with_node 0 1080
+unfolding shard_with
+shared_node = in_table 1080 refl (at_link table (λ _. []) 0 1080 []
+    (record {
+      leads_there = (table_leads to_table to_node node_words, λ kind reached. apart (sym (beside_node table kind reached).0));
+      size = refl;
+    }) (omega arith) (λ k less. absurd (omega arith)) tt refl
+    (record {
+      not_null = λ null. omega arith;
+      nowhere = λ b leads next.
+          leads.0.1 0 (by_start b 0 (record { root = 8; below = omega arith; is_chosen = λ e. omega arith; kind_is = refl; leads = leads.0.0 }));
+    }))
