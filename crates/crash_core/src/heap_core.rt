@@ -1,6 +1,6 @@
 //! The core: a heap opened for some seats, that takes their steps in any order.
 
-ghost use Rattle.std.specs.Prelude.{◌≡◌, ◌<◌, ◌≤◌, ◌+◌, ℕ, length, map, slice_index, IfOk, IfErr, Contains};
+ghost use Rattle.std.specs.Prelude.{◌≡◌, ◌<◌, ◌≤◌, ◌+◌, ℕ, List, length, map, slice_index, IfOk, IfErr, Contains};
 ghost use Rattle.heap_model.specs.Geometry.{image_words};
 ghost use Rattle.heap_model.specs.Durability.{IsCrashImage};
 ghost use Rattle.core_model.specs.declared.event.Event.{Event};
@@ -115,6 +115,8 @@ impl Core {
         ensures drawn { IfOk result (λ image. (k : Setup) (s : TableState)
             → StandsFor self.now.state k s → GivesAll C.draw_gives scramble.old
             (map (slice_index image.items) (transient_words k.capacity)) scramble.new) }
+        ensures asked { (numbers : List ℕ)
+            × GivesAll C.draw_gives scramble.old numbers scramble.new }
     {
         let words = durable_words(alloc, &self.state.words, self.state.geometry)?;
         Ok(crash_image(words, self.state.geometry, scramble))
