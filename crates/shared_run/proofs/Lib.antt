@@ -2,6 +2,7 @@ pub mod BoundLemmas
 pub mod ClosedLemmas
 pub mod CountLemmas
 pub mod DealLemmas
+pub mod DealtLemmas
 pub mod FollowLemmas
 pub mod FullLemmas
 pub mod HeaderLemmas

@@ -1,5 +1,7 @@
 pub mod Closed
 pub mod Dealing
+pub mod Dealt
+pub mod DealtExamples
 pub mod Following
 pub mod Jobs
 pub mod Parts

@@ -11,6 +11,7 @@ ghost use Rattle.worker_run.specs.Rooms.{AreLongest};
 ghost use Rattle.tool_ports.specs.Chances.{ComesFrom};
 ghost use Rattle.shared_run.specs.Jobs.{IsJobOf};
 ghost use Rattle.shared_run.specs.Dealing.{AreFresh, AreInTurn};
+ghost use Rattle.shared_run.specs.Dealt.{AreGiven};
 
 use crate::job::Job;
 use heap_rule::{Seat, Shared};
@@ -49,6 +50,8 @@ pub(crate) fn deal<C: Chances>(
         jobs.items) }
     ensures count { IfOk result (λ jobs. length jobs.items ≡ length seats.items) }
     ensures chances { ComesFrom C.chance_gives C.word_gives chances.old chances.new }
+    ensures given { IfOk result (λ jobs. AreGiven C.chance_gives chances.old jobs.items
+        chances.new) }
 {
     let workers = seats.len();
     let mut jobs = Vec::with_capacity(alloc, workers)?;

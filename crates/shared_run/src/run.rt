@@ -15,6 +15,7 @@ ghost use Rattle.tool_ports.specs.Chances.{ComesFrom};
 ghost use Rattle.crash_image.specs.Crash.{GivesAll, transient_words};
 ghost use Rattle.shared_run.specs.Closed.{LeavesOrderly};
 ghost use Rattle.shared_run.specs.Dealing.{AreInTurn};
+ghost use Rattle.shared_run.specs.Dealt.{AreGiven, HaveAsked};
 ghost use Rattle.shared_run.specs.Following.{AreAfter, FollowMapsOf};
 ghost use Rattle.shared_run.specs.Jobs.{IsJobOf, IsWorkedOf};
 ghost use Rattle.shared_run.specs.Scrambled.{IsScrambled};
@@ -70,6 +71,7 @@ fn image_left<C: Chances>(
     ensures chances { ComesFrom C.chance_gives C.word_gives chances.old chances.new }
     ensures scrambled { stopped ≡ true → GivesAll C.word_gives chances.old
         (map (slice_index result.items) (transient_words geometry.capacity)) chances.new }
+    ensures unasked { stopped ≡ false → chances.new ≡ chances.old }
 {
     let Closed { now, kept } = closed;
     if stopped {
@@ -117,6 +119,8 @@ fn open<C: Chances>(
     ensures maps { IfOk result (λ r.
         AreMaps (slice_index mapped.words) shards r.maps.items) }
     ensures chances { ComesFrom C.chance_gives C.word_gives chances.old chances.new }
+    ensures given { IfOk result (λ r. AreGiven C.chance_gives chances.old r.jobs.items
+        chances.new) }
 {
     let longest = longest_puts(alloc, requests)?;
     let owners = owners_by_trace(alloc, &mapped, workers)?;
@@ -209,6 +213,9 @@ fn run_workers<R: Threads + Sync, G: Gate + Sync, C: Chances>(
     ensures scrambled { IfOk result (λ o. o.stopped ≡ true → IsScrambled C.chance_gives C.word_gives
         (capacity_of (slice_index mapped.words)) (slice_index o.image.items)
         chances.old chances.new) }
+    ensures asked { IfOk result (λ o. HaveAsked C.chance_gives C.word_gives workers o.stopped
+        (capacity_of (slice_index mapped.words)) (slice_index o.image.items)
+        chances.old chances.new) }
 {
     let geometry = mapped.heap().geometry();
     let mut replies = Vec::with_capacity(alloc, requests.len())?;
@@ -284,9 +291,13 @@ pub fn run_trace<R: Threads + Sync, G: Gate + Sync, C: Chances>(
     ensures orderly { IfOk result (λ o. LeavesOrderly o.stopped (length o.image.items)
         (slice_index o.image.items)) }
 
-    // What the chances were asked for; last of all the words that a crash leaves at random.
+    // What the chances were asked for: a chance for each worker, and last of all the words that a
+    // crash leaves at random.
     ensures chances { ComesFrom C.chance_gives C.word_gives chances.old chances.new }
     ensures scrambled { IfOk result (λ o. o.stopped ≡ true → IsScrambled C.chance_gives C.word_gives
+        (capacity_of (slice_index mapped.words)) (slice_index o.image.items)
+        chances.old chances.new) }
+    ensures asked { IfOk result (λ o. HaveAsked C.chance_gives C.word_gives workers o.stopped
         (capacity_of (slice_index mapped.words)) (slice_index o.image.items)
         chances.old chances.new) }
 {

@@ -8,6 +8,7 @@ use Rattle.worker_run.specs.Said.{requests_of}
 use Rattle.shared_run.specs.Dealing.{AreFresh}
 use Rattle.shared_run.specs.Jobs.{IsJobOf, IsOpenedFor}
 use Rattle.shared_run.proofs.DealLemmas.{fresh_last, fresh_rest, rooms_long, turn_push}
+use Rattle.shared_run.proofs.DealtLemmas.{given_none, given_more}
 use Rattle.shared_run.proofs.deal.deal.Goals as goal
 
 pub loop-seat-preserved : goal.loop-seat-preserved
@@ -45,6 +46,7 @@ loop-seat-preserved g c =
       workers = was.workers;
       room = c.push_reserved.ensures.capacity ∙ was.room;
       comes = by_chance _ _ _ _ was.comes c.chance.ensures;
+      given = given_more g.C.Chances.chance_gives c.args.chances.now c.loop-seat.chances c.chance.new.self c.loop-seat.jobs.items c.push_reserved.new.self.items _ c.push_reserved.ensures.items was.given c.chance.ensures;
     }
 
 pub returns-in_err-jobs-clause-chances : goal.returns-in_err-jobs-clause-chances
@@ -60,4 +62,5 @@ loop-seat-init g c =
       workers = workers;
       room = (let k = c.in_ok-jobs.ensures.exact in let l = c.in_ok-jobs.ensures.capacity in omega arith);
       comes = unasked;
+      given = given_none g.C.Chances.chance_gives c.args.chances.now c.in_ok-jobs.jobs.items c.in_ok-jobs.ensures.items;
     }

@@ -3,6 +3,7 @@ use Rattle.tool_ports.specs.Chances.{ComesFrom}
 use Rattle.worker_run.specs.Said.{requests_of}
 use Rattle.shared_run.specs.Jobs.{IsJobOf}
 use Rattle.shared_run.specs.Dealing.{AreFresh, AreInTurn}
+use Rattle.shared_run.specs.Dealt.{AreGiven}
 use Rattle.std.specs.Vec.{vec_capacity}
 use Rattle.shared_run.proofs.deal.deal.Given as goal
 
@@ -15,6 +16,7 @@ invariant-loop-seat g l = record {
   workers : l.workers ≡ length l.fn.seats.items;
   room : vec_capacity l.jobs ≡ l.workers;
   comes : ComesFrom g.C.Chances.chance_gives g.C.Chances.word_gives l.fn.chances l.chances;
+  given : AreGiven g.C.Chances.chance_gives l.fn.chances l.jobs.items l.chances;
 }
 
 abbrev pub decreases-loop-seat : goal.decreases-loop-seat

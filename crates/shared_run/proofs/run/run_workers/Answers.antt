@@ -14,6 +14,7 @@ use Rattle.tool_ports.proofs.ChanceLemmas.{comes_then}
 use Rattle.shared_run.specs.Dealing.{AreParts}
 use Rattle.shared_run.specs.Following.{AreAfter}
 use Rattle.shared_run.proofs.ClosedLemmas.{both_long, first_of, kept_capacity, kept_whole, now_capacity, now_long, now_whole, parts_back}
+use Rattle.shared_run.proofs.DealtLemmas.{dealt_in_turn}
 use Rattle.shared_run.proofs.ScrambledLemmas.{at_capacity}
 use Rattle.shared_run.proofs.RunLemmas.{have_worked}
 use Rattle.shared_run.proofs.run.run_workers.Goals as goal
@@ -97,5 +98,14 @@ returns-clause-scrambled g c stops = record {
   before = _;
   asked = c.open.ensures.chances;
   drawn = at_capacity _ _ _ _ _ _ (c.geometry-geometry.ensures ∙ ap (λ (heap : Contents). capacity_of (slice_index heap.words)) c.heap.ensures)
+      (c.image_left-image.ensures.scrambled stops);
+}
+
+pub returns-clause-asked : goal.returns-clause-asked
+returns-clause-asked g c = record {
+  dealt = c.open.new.chances;
+  workers_first = dealt_in_turn g.C.Chances.chance_gives c.args.chances.now c.open.new.chances c.in_ok-shared.field-0.jobs.items c.args.workers c.in_ok-shared.ensures.count c.in_ok-shared.ensures.turns c.in_ok-shared.ensures.given;
+  then_nothing = c.image_left-image.ensures.unasked;
+  then_words = λ stops. at_capacity _ _ _ _ _ _ (c.geometry-geometry.ensures ∙ ap (λ (heap : Contents). capacity_of (slice_index heap.words)) c.heap.ensures)
       (c.image_left-image.ensures.scrambled stops);
 }
