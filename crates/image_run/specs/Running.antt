@@ -1,6 +1,7 @@
 -- What a run of a trace puts and prints.
 use Rattle.std.specs.Prelude.{◌≡◌, ℕ, Bool, List, ◌++◌, length, slice_index}
 use Rattle.heap_model.specs.declared.block.Block.{Block}
+use Rattle.heap_model.specs.Header.{capacity_of}
 use Rattle.heap_model.specs.Image.{Image, bytes_of_words}
 use Rattle.region_header.specs.Words.{AreWordsOf}
 use Rattle.dict_model.specs.Requests.{Request}
@@ -8,6 +9,7 @@ use Rattle.dictionary.specs.Reading.{RecoversTo}
 use Rattle.run_model.specs.Runs.{AnswerInOrder, StopsRightly, IsFullRightly, RepliesRightly, LeavesMaps, LeavesHeader, LeavesOthers, LeavesUsed, LeavesState}
 use Rattle.run_model.specs.Workers.{Replies}
 use Rattle.shared_run.specs.Closed.{LeavesOrderly}
+use Rattle.shared_run.specs.Dealt.{HaveAsked}
 use Rattle.shared_run.specs.Together.{HaveWorked}
 use Rattle.worker_run.specs.Said.{Told, replies_of}
 use Rattle.trace_text.specs.Replies.{replies_text}
@@ -70,3 +72,14 @@ pub record RunsRequests (image : Image) (requests : List Request) (options : Opt
   pub report : List ℕ
   pub reports : Reports (slice_index left) options.with_sum options.with_map report
   pub text_is : text ≡ replies_text told stopped options.with_sum ++ report
+
+-- the chances of a run that puts these bytes began anew by the seed, first of all and once. Then each worker was given its chance and, where the run was stopped, the words were taken that the crash leaves at random
+pub record RunAsks {C One : Type 0} (seed_gives : C → ℕ → C → Type 0) (chance_gives : C → ℕ → One → C → Type 0) (word_gives : C → ℕ → C → Type 0)
+    (image : Image) (options : Options) (put : List ℕ) (old new : C) : Type 0 where
+  pub begun : C
+  pub anew : seed_gives old options.seed begun
+  pub stopped : Bool
+  pub left : List ℕ
+  pub put_is : put ≡ bytes_of_words left
+  pub state : LeavesState stopped (slice_index left)
+  pub asked : HaveAsked chance_gives word_gives options.workers stopped (capacity_of image) (slice_index left) begun new

@@ -1,8 +1,14 @@
 //! Replays a schedule over a heap at rest, and makes what is printed.
 ghost use Rattle.std.specs.Prelude.{◌≡◌, ◌*◌, ◌++◌, Some, None, length, replicate, slice_index, IfOk, IfErr, IsErr, ℕ};
-ghost use Rattle.heap_model.specs.Geometry.{roots, version, version_word};
+ghost use Rattle.heap_model.specs.Durability.{IsCrashImage};
+ghost use Rattle.heap_model.specs.Geometry.{image_words, roots, version, version_word};
 ghost use Rattle.heap_model.specs.Header.{header_fault, HasKindsBelow};
+ghost use Rattle.core_model.specs.Held.{durable_image};
+ghost use Rattle.core_model.specs.Steps.{TableState};
+ghost use Rattle.core_model.specs.View.{Setup};
+ghost use Rattle.crash_core.specs.Standing.{StandsFor};
 ghost use Rattle.dict_model.specs.Links.{kind_count};
+ghost use Rattle.tool_ports.specs.Chances.{ComesFrom, ComesFromSeed};
 ghost use Rattle.trace_text.specs.Answered.{answers_text_of, tickets_line_of};
 ghost use Rattle.image_run.specs.Replaying.{CanBeReplayed, IsReplayed, LeavesOutside, Replays, StopsReplay};
 
@@ -48,6 +54,8 @@ pub fn replay_image<C: Chances>(
         schedule.now.seats schedule.now.lines.items) }
     ensures always_outside { (at value : ℕ) → LeavesOutside heap.now.words heap.now.held
         schedule.now.seats schedule.now.lines.items at value → IsErr result }
+    ensures seeded { ComesFromSeed C.seed_gives C.chance_gives C.word_gives
+        chances.old seed chances.new }
 {
     chances.seed(seed);
     let replayed = replay_lines(alloc, heap, schedule, chances)?;
@@ -72,18 +80,38 @@ fn replay_lines<C: Chances>(
     ensures good { IfOk result (λ r. header_fault (Some kind_count) (8 * length r.left.items)
         (slice_index r.left.items) ≡ None) }
     ensures version { IfOk result (λ r. slice_index r.left.items version_word ≡ version) }
+    ensures chances { ComesFrom C.chance_gives C.word_gives chances.old chances.new }
 {
     let owners = owned_by_the_first(alloc, heap.held().len())?;
     let mut core = Core::of(alloc, heap, &owners, schedule.seats, MOST_BUDGET)?;
     let events = events_of(alloc, &schedule.lines)?;
     let answers = core.replay(alloc, &events)?;
-    let left = core.image(alloc, &mut CrashWords { chances })?;
+    let mut scramble = CrashWords { chances };
+    let left = left_by_words(alloc, &core, &mut scramble)?;
     let tickets = core.tickets();
     Ok(Replayed {
         answers,
         tickets,
         left,
     })
+}
+
+// The image that a crash leaves, with the chances that something else has.
+fn left_by_words<C: Chances>(
+    alloc: Global,
+    core: &Core,
+    scramble: &mut CrashWords<'_, C>,
+) -> Result<Vec<u64>, AllocError>
+    ensures ok { IfOk result (λ left. (k : Setup) (s : TableState)
+        → StandsFor core.now.state k s
+        → IsCrashImage (durable_image k.capacity s.words) (slice_index left.items)) }
+    ensures length { IfOk result (λ left. (k : Setup) (s : TableState)
+        → StandsFor core.now.state k s → length left.items ≡ image_words k.capacity) }
+    ensures same_reference { scramble.new.chances.ghost_name ≡ scramble.old.chances.ghost_name }
+    ensures chances { ComesFrom C.chance_gives C.word_gives
+        scramble.old.chances.now scramble.new.chances.now }
+{
+    core.image(alloc, scramble)
 }
 
 // So many blocks, and all roots, are seat 0's.

@@ -6,7 +6,7 @@ ghost use Rattle.run_model.specs.Opened.{IsDictionary, CanBeRun};
 ghost use Rattle.worker_run.specs.Said.{requests_of, ValuesAreShort};
 ghost use Rattle.tool_ports.specs.Chances.{ComesFromSeed};
 ghost use Rattle.image_run.specs.Reporting.{Reports};
-ghost use Rattle.image_run.specs.Running.{RunsRequests, options_of};
+ghost use Rattle.image_run.specs.Running.{RunAsks, RunsRequests, options_of};
 
 use crate::left::recover_inside;
 use crate::options::RunOptions;
@@ -41,6 +41,9 @@ pub fn run_image<R: Threads + Sync, G: Gate + Sync, C: Chances>(
         product.text)) }
     ensures seeded { ComesFromSeed C.seed_gives C.chance_gives C.word_gives
         chances.old options.seed chances.new }
+    ensures asked { IfOk result (λ product. IsSomeAnd product.image (λ image. RunAsks
+        C.seed_gives C.chance_gives C.word_gives (slice_index mapped.words)
+        (options_of options) image chances.old chances.new)) }
 {
     chances.seed(options.seed);
     let workers = options.workers as usize;

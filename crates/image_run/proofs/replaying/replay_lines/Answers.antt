@@ -2,6 +2,7 @@ use Rattle.std.proofs.Common.{◌≡◌, ◌∙◌, ℕ, ◌<◌, List, length, 
 use Rattle.std.specs.Prelude.{Contains}
 use Rattle.core_model.specs.declared.event.Event.{Event}
 use Rattle.core_model.specs.Opening.{AreOwners}
+use Rattle.tool_ports.specs.Chances.{unasked}
 use Rattle.image_run.specs.Replaying.{events_of}
 use Rattle.image_run.proofs.LineLemmas.{seats_below}
 use Rattle.image_run.proofs.CrashLemmas.{first_owns, replayed, left_good, left_new}
@@ -37,3 +38,15 @@ returns-clause-good g c = left_good _ _ _ _ _ _ _ c.held.ensures.ready c.require
 
 pub returns-clause-version : goal.returns-clause-version
 returns-clause-version g c = left_new _ _ (returns-clause-replayed g c).long (returns-clause-good g c)
+
+pub returns-in_err-owners-clause-chances : goal.returns-in_err-owners-clause-chances
+returns-in_err-owners-clause-chances g c = unasked
+
+pub returns-in_err-core-clause-chances : goal.returns-in_err-core-clause-chances
+returns-in_err-core-clause-chances g c = unasked
+
+pub returns-in_err-events-clause-chances : goal.returns-in_err-events-clause-chances
+returns-in_err-events-clause-chances g c = unasked
+
+pub returns-in_err-answers-clause-chances : goal.returns-in_err-answers-clause-chances
+returns-in_err-answers-clause-chances g c = unasked

@@ -51,3 +51,17 @@ returns-clause-ok g c =
       reports = c.in_ok-report.ensures;
       text_is = text_is;
     }
+
+pub returns-clause-asked : goal.returns-clause-asked
+returns-clause-asked g c =
+    let outcome = c.in_ok-outcome.outcome in
+    let image_is : c.in_ok-image.image ≡ bytes_of_words outcome.image.items = search rules in
+    record {
+      begun = c.seed.new.self;
+      anew = c.seed.ensures;
+      stopped = outcome.stopped;
+      left = outcome.image.items;
+      put_is = image_is;
+      state = c.in_ok-outcome.ensures.state;
+      asked = c.in_ok-outcome.ensures.asked;
+    }

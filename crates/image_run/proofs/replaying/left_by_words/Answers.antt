@@ -1,0 +1,13 @@
+use Rattle.tool_ports.specs.Chances.{unasked}
+use Rattle.worker_run.proofs.ChanceLemmas.{name_stays, words_come}
+use Rattle.image_run.proofs.replaying.left_by_words.Goals as goal
+
+pub returns-clause-same_reference : goal.returns-clause-same_reference
+returns-clause-same_reference g c =
+    name_stays (λ s. s.chances.now) (λ s. s.chances.ghost_name) g.C.Chances.chance_gives g.C.Chances.word_gives c.args.scramble.now c.image.new.scramble
+    c.image.ensures.asked.0 c.image.ensures.asked.1
+
+pub returns-clause-chances : goal.returns-clause-chances
+returns-clause-chances g c =
+    words_come (λ s. s.chances.now) (λ s. s.chances.ghost_name) g.C.Chances.chance_gives g.C.Chances.word_gives c.args.scramble.now.chances.now c.args.scramble.now c.image.new.scramble
+    c.image.ensures.asked.0 unasked c.image.ensures.asked.1
