@@ -10,6 +10,7 @@ pub mod DrainLemmas
 pub mod OpenedLemmas
 pub mod CallLemmas
 pub mod PutBackLemmas
+pub mod SeedLemmas
 pub mod StatusLemmas
 pub mod OutsideLemmas
 pub mod MalformedLemmas

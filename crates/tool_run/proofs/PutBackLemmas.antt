@@ -16,7 +16,7 @@ use Rattle.tool_run.specs.Status.{done, write_fault}
 use Rattle.tool_run.proofs.CallLemmas.{put_back}
 
 -- no fault's status is that of a result
-not_done : (fault : Fault) → status_of fault ≡ done → ⊥
+pub not_done : (fault : Fault) → status_of fault ≡ done → ⊥
 not_done Memory is = let never : 3 ≡ 0 = is in absurd (omega arith)
 not_done other is = absurd (omega arith)
 

@@ -1,5 +1,7 @@
 pub mod Calls
 pub mod Status
+pub mod Seeding
+pub mod SeedExamples
 pub mod Lines
 pub mod Making
 pub mod Recovering

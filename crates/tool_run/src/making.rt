@@ -9,6 +9,7 @@ ghost use Rattle.tool_command.specs.Command.{show_image, image_name};
 ghost use Rattle.tool_ports.specs.Left.{IsAtEnd, GivesAtMost};
 ghost use Rattle.tool_run.specs.Making.{Makes, RefusesOutside, ReadsSource, IsFormatted, Shows, longest_trace};
 ghost use Rattle.tool_run.specs.Outcome.{HoldsOutside};
+ghost use Rattle.tool_run.specs.Seeding.{seed_of, BeginBy};
 
 use crate::conservative::tell_by_words;
 use crate::counting::count_named;
@@ -59,6 +60,8 @@ pub fn make<R: Threads + Sync, I: ImageStore, T: Source, G: Gate + Sync, C: Chan
     ensures later { I.faults images.old ≤ I.faults images.new }
     ensures calls { I.calls images.new
         ≡ with_making (command_of command.entry) (I.calls images.old) }
+    ensures seeded { OnOk result (BeginBy C.seed_gives C.chance_gives C.word_gives
+        (seed_of (command_of command.entry)) chances.old chances.new) }
 {
     match command {
         Invocation::Format { image: _, layout } => Ok(empty_image(alloc, layout)?),

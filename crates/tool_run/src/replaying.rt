@@ -2,6 +2,7 @@
 ghost use Rattle.std.specs.Prelude.{◌≡◌, ◌≤◌, ◌+◌, ℕ, List, IfOk, IfErr, OnOk, IsErrOf};
 ghost use Rattle.tool_ports.specs.Calls.{with_get};
 ghost use Rattle.tool_ports.specs.Causes.{Rose};
+ghost use Rattle.tool_ports.specs.Chances.{ComesFromSeed};
 ghost use Rattle.tool_ports.specs.Contents.{Contents};
 ghost use Rattle.tool_ports.specs.Left.{IsAtEnd, GivesAtMost};
 ghost use Rattle.tool_run.specs.Calls.{get_limit};
@@ -45,6 +46,8 @@ pub fn replay_named<I: ImageStore, T: Source, C: Chances>(
     ensures unchanged { I.contents images.new ≡ I.contents images.old }
     ensures later { I.faults images.old ≤ I.faults images.new }
     ensures calls { I.calls images.new ≡ with_get get_limit (I.calls images.old) }
+    ensures seeded { IfOk result (λ _. ComesFromSeed C.seed_gives C.chance_gives C.word_gives
+        chances.old seed chances.new) }
 {
     let recovered = recover_image(alloc, name, images)?;
     let schedule = read_schedule(alloc, source)?;

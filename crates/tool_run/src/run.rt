@@ -10,6 +10,7 @@ ghost use Rattle.tool_command.specs.Invocations.{command_of};
 ghost use Rattle.tool_run.specs.Inside.{status_of, IsCarriedOut, IsStopped, IsBeforeReading};
 ghost use Rattle.tool_run.specs.Making.{RefusesOutside, ReadsSource, kinds_checked, longest_trace};
 ghost use Rattle.tool_run.specs.Lines.{Tells, memory_line};
+ghost use Rattle.tool_run.specs.Seeding.{seed_of, BeginBy};
 ghost use Rattle.tool_run.specs.Outcome.{IsDone, IsReadFault, IsWriteFault, AsksToGet, AsksToLook, AsksToPutBack, AsksToRead, AsksForRun, AsksForReplay, AsksForSource, IsAbsent, IsBadHeader, IsOutsideAt, IsBadShardAt, IsBadTrace, HoldsMalformed, HoldsOutside, HoldsOutsideLeft, HoldsBadShard, HoldsGood, HoldsMaps, HoldsBadLine, HoldsBadStep, HoldsTooMuch, CanBeDone};
 ghost use Rattle.tool_run.specs.Status.{done, usage, out_of_memory, read_fault, write_fault, no_image, bad_header, outside, bad_shard, bad_trace, statuses, LeavesStore, IsBeforeTrace, own_line};
 
@@ -119,6 +120,12 @@ pub fn run_tool<R: Threads + Sync, I: ImageStore, T: Source, O: Sink, G: Gate + 
     ensures no_put { (image : List ℕ) (capacity : ℕ) → AsksToFormat (texts words.now) image capacity
         → result ≡ out_of_memory → I.calls images.new ≡ I.calls images.old }
 
+    // By which seed the chances begin, where a result was made; without one they are not asked.
+    ensures seeded { (command : Command) → Asks (texts words.now) command
+        → (result ≡ done) ⊎ (result ≡ write_fault)
+        → BeginBy C.seed_gives C.chance_gives C.word_gives (seed_of command)
+        chances.old chances.new }
+
     // When a status comes: nothing else does, but want of memory or a failure before it.
     ensures always_usage { IsUsage (texts words.now)
         → (result ≡ usage) ⊎ (result ≡ out_of_memory) }
@@ -212,6 +219,11 @@ fn carry_out<R: Threads + Sync, I: ImageStore, T: Source, O: Sink, G: Gate + Syn
         (I.calls images.new ≡ with_command (command_of command.entry) (I.calls images.old)) }
     ensures calls_err { IfErr result (λ fault. I.calls images.new
         ≡ with_status (command_of command.entry) (status_of fault) (I.calls images.old)) }
+    ensures seeded { OnOk result (BeginBy C.seed_gives C.chance_gives C.word_gives
+        (seed_of (command_of command.entry)) chances.old chances.new) }
+    ensures seeded_err { IfErr result (λ fault. status_of fault ≡ write_fault
+        → BeginBy C.seed_gives C.chance_gives C.word_gives
+        (seed_of (command_of command.entry)) chances.old chances.new) }
 {
     let product = make(rt, alloc, command, images, trace, gate, chances)?;
     deliver(alloc, command.image(), &product, images, out)

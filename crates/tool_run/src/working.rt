@@ -3,6 +3,7 @@ ghost use Rattle.std.specs.Prelude.{◌≡◌, ◌≤◌, ◌+◌, ℕ, IfOk, If
 ghost use Rattle.image_run.specs.Running.{options_of};
 ghost use Rattle.tool_ports.specs.Calls.{with_get};
 ghost use Rattle.tool_ports.specs.Causes.{Rose};
+ghost use Rattle.tool_ports.specs.Chances.{ComesFromSeed};
 ghost use Rattle.tool_ports.specs.Left.{IsAtEnd, GivesAtMost};
 ghost use Rattle.tool_run.specs.Calls.{get_limit};
 ghost use Rattle.tool_command.specs.Command.{Command, run_image, image_name};
@@ -53,6 +54,8 @@ pub fn work_named<R: Threads + Sync, I: ImageStore, T: Source, G: Gate + Sync, C
     ensures unchanged { I.contents images.new ≡ I.contents images.old }
     ensures later { I.faults images.old ≤ I.faults images.new }
     ensures calls { I.calls images.new ≡ with_get get_limit (I.calls images.old) }
+    ensures seeded { IfOk result (λ _. ComesFromSeed C.seed_gives C.chance_gives C.word_gives
+        chances.old options.seed chances.new) }
 {
     let mapped = mapped_heap(alloc, name, images)?;
     let requests = read_trace(alloc, trace)?;

@@ -1,9 +1,13 @@
+use Rattle.tool_ports.specs.Chances.{unasked, by_chance}
 use Rattle.std.proofs.Common.{refl}
 use Rattle.tool_command.specs.Command.{drain_image}
 use Rattle.tool_run.proofs.CallLemmas.{refuses}
 use Rattle.tool_run.proofs.DeliveryLemmas.{at_cause}
 use Rattle.tool_run.proofs.DrainLemmas.{drainable_at_rest, drains}
 use Rattle.tool_run.proofs.draining.drain_image.Goals as goal
+
+pub returns-clause-seeded : goal.returns-clause-seeded
+returns-clause-seeded g c = record { begun = c.seed.new.self; anew = c.seed.ensures; from_it = by_chance _ _ 0 _ unasked c.chance.ensures }
 
 pub heap_text-requires : goal.heap_text-requires
 heap_text-requires g c = drainable_at_rest _ _ _ c.in_ok-recovered.ensures.ok c.args.class.number

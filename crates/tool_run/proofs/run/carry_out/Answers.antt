@@ -1,7 +1,17 @@
+use Rattle.tool_run.proofs.SeedLemmas.{refused_is_not_cut_off}
+use Rattle.tool_run.proofs.DeliveryLemmas.{at_cause}
 use Rattle.tool_run.proofs.CallLemmas.{stops_at_delivery, if_error, calls_done, calls_undelivered}
 use Rattle.tool_run.proofs.ReadingLemmas.{not_err, stands}
 use Rattle.tool_run.specs.declared.fault.Fault.TheVariants.{ReadFault}
 use Rattle.tool_run.proofs.run.carry_out.Goals as goal
+
+pub returns-clause-seeded_err : goal.returns-clause-seeded_err
+returns-clause-seeded_err g c = if_error _ _ c.deliver.result c.deliver.ensures.err (λ fault why cut. c.in_ok-product.ensures.seeded)
+
+pub returns-in_err-product-clause-seeded_err : goal.returns-in_err-product-clause-seeded_err
+returns-in_err-product-clause-seeded_err g c =
+    at_cause _ c.from_residual.result c.from_residual.ensures
+    (λ fault is cut. absurd (refused_is_not_cut_off _ _ _ _ _ fault c.in_err-product.field-0.0 is c.in_err-product.ensures.err cut))
 
 pub returns-clause-err : goal.returns-clause-err
 returns-clause-err g c =

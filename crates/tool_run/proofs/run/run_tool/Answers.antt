@@ -1,3 +1,4 @@
+use Rattle.tool_run.proofs.SeedLemmas.{by_its_seed, cut_off_by_its_seed}
 use Rattle.tool_run.proofs.StatusLemmas.{has_status, is_read_fault, is_write_fault, is_bad_header, is_outside, is_bad_shard, is_absent, is_bad_trace, is_own_line, for_source, before_reading}
 use Rattle.std.proofs.Common.{arith, rules}
 use Rattle.tool_run.proofs.CallLemmas.{rose_since}
@@ -14,6 +15,17 @@ use Rattle.tool_run.proofs.MalformedLemmas.{stops_malformed, not_done_malformed}
 use Rattle.tool_run.specs.declared.fault.Fault.TheVariants.{Memory}
 use Rattle.tool_command.specs.Command.{format_image, run_image, replay_image}
 use Rattle.tool_run.proofs.run.run_tool.Goals as goal
+
+pub returns-in-Ok-carry_out-clause-seeded : goal.returns-in-Ok-carry_out-clause-seeded
+returns-in-Ok-carry_out-clause-seeded g c other asks ended =
+    by_its_seed g.C.Chances.seed_gives g.C.Chances.chance_gives g.C.Chances.word_gives _ _ other c.args.chances.now c.carry_out.new.chances c.in-Ok.ensures.ok asks c.in-Ok-carry_out.ensures.seeded
+
+pub returns-in-Err-clause-seeded : goal.returns-in-Err-clause-seeded
+returns-in-Err-clause-seeded g c other asks =
+    cut_off_by_its_seed g.C.Chances.seed_gives g.C.Chances.chance_gives g.C.Chances.word_gives _ _ other c.args.chances.now c.carry_out.new.chances c.in-Ok.ensures.ok asks _ c.in-Err.fault c.tell-in-Err.ensures.status c.in-Err.ensures.seeded_err
+
+pub returns-in-Err-Usage-clause-seeded : goal.returns-in-Err-Usage-clause-seeded
+returns-in-Err-Usage-clause-seeded g c command asks = absurd (c.parse.ensures.err (search rules) command asks)
 
 pub returns-in-Err-clause-known : goal.returns-in-Err-clause-known
 returns-in-Err-clause-known g c = has_status c.in-Err.fault _ c.tell-in-Err.ensures.status
