@@ -4,6 +4,7 @@ pub mod RecoveredLemmas
 pub mod CarryLemmas
 pub mod LeftLemmas
 pub mod PutLemmas
+mod UntakenLemmas
 pub mod OneRecoveryLemmas
 pub mod OneThreadLemmas
 mod RebuiltLemmas

@@ -1,7 +1,8 @@
 //! What follows of runs, rebuilds and replays, as functions with nothing to run.
-ghost use Rattle.std.specs.Prelude.{◌≡◌, ℕ, ◌+◌, ◌≤◌, false, List, Some, None, length, slice_index};
+ghost use Rattle.std.specs.Prelude.{◌≡◌, ℕ, ◌+◌, ◌<◌, ◌≤◌, false, List, Some, None, length, slice_index};
 ghost use Rattle.std.specs.BTreeMap.{BTreeMap};
 ghost use Rattle.heap_model.specs.declared.block.Block.{Block};
+ghost use Rattle.heap_model.specs.Geometry.{start_word, superblocks_end};
 ghost use Rattle.heap_model.specs.Image.{Image};
 ghost use Rattle.heap_model.specs.Header.{capacity_of, used_of};
 ghost use Rattle.heap_recover.specs.InPlace.{RecoversAlike};
@@ -41,6 +42,15 @@ pub fn what_a_run_puts_can_be_run_again()
     ensures maps { (image : Image) (requests : List Request) (options : Options)
         (put text : List ℕ) → HasMaps image → RunsRequests image requests options put text
         → HasMaps (image_in put) }
+{}
+
+/// A run that isn't stopped leaves each superblock that it never took as it was: the image that it
+/// puts has each word behind its taken superblocks as the image before.
+pub fn a_superblock_that_a_run_never_took_stays_as_it_was()
+    ensures { (image : Image) (requests : List Request) (options : Options) (put text : List ℕ)
+        → (run : RunsRequests image requests options put text) → run.stopped ≡ false
+        → (word : ℕ) → start_word (capacity_of image) (used_of (image_in put)) ≤ word
+        → word < superblocks_end (capacity_of image) → image_in put word ≡ image word }
 {}
 
 /// Recovery of an image leaves one heap: it keeps the same list of blocks, frees the same list of
