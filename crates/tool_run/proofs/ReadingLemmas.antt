@@ -1,10 +1,8 @@
--- How much of a source is taken, and where its count of faults stands.
+-- How much of a source is taken, and where the count of faults of a port stands.
 use Rattle.std.proofs.Common.{◌≡◌, ◌≢◌, ℕ, List, [], Option, Some, None, Result, Ok, Err, IsErr, IsErrAnd, IsErrOf, refl, ap, ◌∙◌, arith}
 use Rattle.tool_ports.specs.Left.{left_before, GivesAtMost}
 use Rattle.tool_run.specs.declared.fault.Fault.{Fault}
-use Rattle.tool_run.specs.declared.fault.Fault.TheVariants.{ReadFault}
 use Rattle.tool_run.specs.Inside.{status_of}
-use Rattle.tool_run.specs.Status.{read_fault}
 
 -- a source that is left alone gave nothing
 none_given : (left : Option (List ℕ)) → left ≡ left_before [] left
@@ -32,8 +30,6 @@ pub stands : {T E : Type 0} {P : E → Type 0} (U : Type 0) (before now : ℕ) (
 stands U before now (Ok x) met wanted is handed steady other = absurd is.1
 stands U before now (Err fault) met wanted is handed steady other = steady (λ same. other (again U fault met wanted (handed fault is.1) same))
 
--- by another status no failed read is told
-pub not_read_fault : (U : Type 0) (status : ℕ) (fault : Fault) → status ≡ status_of fault → status ≢ read_fault → IsErrOf {T = U} (Err fault) ReadFault → ⊥
-not_read_fault U status fault is other same =
-    let failed : status_of fault ≡ read_fault = ap status_of (one_fault U fault ReadFault same) in
-    other (is ∙ failed)
+-- by another status this fault is not told
+pub not_told : (U : Type 0) (status : ℕ) (fault other : Fault) → status ≡ status_of fault → status ≢ status_of other → IsErrOf {T = U} (Err fault) other → ⊥
+not_told U status fault other is differs same = differs (is ∙ ap status_of (one_fault U fault other same))

@@ -1,5 +1,5 @@
 //! Recovers a named image with no filter, and tells of it.
-ghost use Rattle.std.specs.Prelude.{◌≡◌, ◌≤◌, None, length, IfOk, IfErr};
+ghost use Rattle.std.specs.Prelude.{◌≡◌, ◌≤◌, None, length, IfOk, IfErr, IsErrOf};
 ghost use Rattle.heap_model.specs.Image.{image_of_bytes};
 ghost use Rattle.heap_model.specs.Header.{HasGoodHeader};
 ghost use Rattle.heap_recover.specs.declared.fault.RecoverFault.TheVariants.{Memory};
@@ -34,6 +34,8 @@ pub fn tell_by_words<I: ImageStore>(
         (I.contents images.old) (Rose (I.faults images.old) (I.faults images.new)) fault) }
     ensures unchanged { I.contents images.new ≡ I.contents images.old }
     ensures later { I.faults images.old ≤ I.faults images.new }
+    ensures store_steady { ¬ (IsErrOf result Fault.ReadFault)
+        → I.faults images.new ≡ I.faults images.old }
     ensures calls { I.calls images.new ≡ with_get get_limit (I.calls images.old) }
 {
     let image = good_image(alloc, name, None, images)?;

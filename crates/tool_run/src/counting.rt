@@ -1,5 +1,5 @@
 //! Opens a named image by its own anchors where these can be relied on, and tells of it.
-ghost use Rattle.std.specs.Prelude.{◌≡◌, ◌≤◌, Some, None, length, IfOk, IfErr};
+ghost use Rattle.std.specs.Prelude.{◌≡◌, ◌≤◌, Some, None, length, IfOk, IfErr, IsErrOf};
 ghost use Rattle.heap_model.specs.Image.{image_of_bytes};
 ghost use Rattle.heap_model.specs.Header.{HasGoodHeader, first_kinds};
 ghost use Rattle.heap_recover.specs.declared.fault.RecoverFault.TheVariants.{Memory};
@@ -40,6 +40,8 @@ pub fn count_named<I: ImageStore>(
         (I.contents images.old) (Rose (I.faults images.old) (I.faults images.new)) fault) }
     ensures unchanged { I.contents images.new ≡ I.contents images.old }
     ensures later { I.faults images.old ≤ I.faults images.new }
+    ensures store_steady { ¬ (IsErrOf result Fault.ReadFault)
+        → I.faults images.new ≡ I.faults images.old }
     ensures calls { I.calls images.new ≡ with_get get_limit (I.calls images.old) }
 {
     let image = good_image(alloc, name, Some(DictFilter::KINDS), images)?;

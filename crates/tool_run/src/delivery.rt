@@ -30,6 +30,10 @@ pub fn deliver<I: ImageStore, O: Sink>(
     ensures not_put { IsErrOf result Fault.Memory → I.calls images.new ≡ I.calls images.old }
     ensures later_store { I.faults images.old ≤ I.faults images.new }
     ensures later_sink { O.faults out.old ≤ O.faults out.new }
+    ensures store_steady { ¬ (IsErrOf result Fault.WriteFault)
+        → I.faults images.new ≡ I.faults images.old }
+    ensures sink_steady { ¬ (IsErrOf result Fault.WriteFault)
+        → O.faults out.new ≡ O.faults out.old }
 {
     put_image(alloc, name, &product.image, images)?;
     write_all(out, product.text.as_slice())?;
@@ -52,6 +56,8 @@ fn put_image<I: ImageStore>(
         I.calls images.new ≡ with_putting image.now (I.calls images.old) }
     ensures not_put { IsErrOf result Fault.Memory → I.calls images.new ≡ I.calls images.old }
     ensures later { I.faults images.old ≤ I.faults images.new }
+    ensures store_steady { ¬ (IsErrOf result Fault.WriteFault)
+        → I.faults images.new ≡ I.faults images.old }
 {
     if let Some(image) = image {
         images.put(alloc, name, image.as_slice())?;

@@ -53,11 +53,15 @@ pub fn make<R: Threads + Sync, I: ImageStore, T: Source, G: Gate + Sync, C: Chan
     ensures no_source { ¬ (ReadsSource (command_of command.entry)) → trace.new ≡ trace.old }
     ensures end { OnOk result (ReadsSource (command_of command.entry)
         → IsAtEnd (T.left trace.new)) }
+    ensures ended { OnOk result (ReadsSource (command_of command.entry)
+        → T.has_ended trace.new) }
     ensures at_most { GivesAtMost (longest_trace + 1) (T.left trace.old) (T.left trace.new) }
     ensures steady { ¬ (IsErrOf result Fault.ReadFault)
         → T.faults trace.new ≡ T.faults trace.old }
     ensures unchanged { I.contents images.new ≡ I.contents images.old }
     ensures later { I.faults images.old ≤ I.faults images.new }
+    ensures store_steady { ¬ (IsErrOf result Fault.ReadFault)
+        → I.faults images.new ≡ I.faults images.old }
     ensures calls { I.calls images.new
         ≡ with_making (command_of command.entry) (I.calls images.old) }
     ensures seeded { OnOk result (BeginBy C.seed_gives C.chance_gives C.word_gives
@@ -122,6 +126,8 @@ fn report<R: Threads + Sync, I: ImageStore>(
         (I.contents images.old) (Rose (I.faults images.old) (I.faults images.new)) fault) }
     ensures unchanged { I.contents images.new ≡ I.contents images.old }
     ensures later { I.faults images.old ≤ I.faults images.new }
+    ensures store_steady { ¬ (IsErrOf result Fault.ReadFault)
+        → I.faults images.new ≡ I.faults images.old }
     ensures calls { I.calls images.new ≡ with_get get_limit (I.calls images.old) }
 {
     let recovered = recover_shown(rt, alloc, name, in_parallel, images)?;

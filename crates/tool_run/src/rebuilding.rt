@@ -1,5 +1,5 @@
 //! Recovers a named image in place, as far as a budget goes.
-ghost use Rattle.std.specs.Prelude.{◌≡◌, ◌≤◌, ℕ, IfOk, IfErr};
+ghost use Rattle.std.specs.Prelude.{◌≡◌, ◌≤◌, ℕ, IfOk, IfErr, IsErrOf};
 ghost use Rattle.tool_ports.specs.Calls.{with_get};
 ghost use Rattle.tool_ports.specs.Causes.{Rose};
 ghost use Rattle.tool_ports.specs.Chances.{ComesFromSeed};
@@ -31,6 +31,8 @@ pub fn rebuild_named<I: ImageStore, C: Chances>(
         (Rose (I.faults images.old) (I.faults images.new)) fault) }
     ensures unchanged { I.contents images.new ≡ I.contents images.old }
     ensures later { I.faults images.old ≤ I.faults images.new }
+    ensures store_steady { ¬ (IsErrOf result Fault.ReadFault)
+        → I.faults images.new ≡ I.faults images.old }
     ensures calls { I.calls images.new ≡ with_get get_limit (I.calls images.old) }
     ensures seeded { IfOk result (λ _. ComesFromSeed C.seed_gives C.chance_gives C.word_gives
         chances.old seed chances.new) }

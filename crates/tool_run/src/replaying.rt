@@ -32,6 +32,7 @@ pub fn replay_named<I: ImageStore, T: Source, C: Chances>(
     ensures ok { IfOk result (λ product. (product.image ≡ None)
         × ReplaysNamed (I.contents images.old) (T.left source.old) name.now product.text) }
     ensures end { OnOk result (IsAtEnd (T.left source.new)) }
+    ensures ended { OnOk result (T.has_ended source.new) }
     ensures at_most { GivesAtMost (longest_trace + 1) (T.left source.old) (T.left source.new) }
     ensures steady { ¬ (IsErrOf result Fault.ReadFault)
         → T.faults source.new ≡ T.faults source.old }
@@ -45,6 +46,8 @@ pub fn replay_named<I: ImageStore, T: Source, C: Chances>(
         → source.new ≡ source.old }
     ensures unchanged { I.contents images.new ≡ I.contents images.old }
     ensures later { I.faults images.old ≤ I.faults images.new }
+    ensures store_steady { ¬ (IsErrOf result Fault.ReadFault)
+        → I.faults images.new ≡ I.faults images.old }
     ensures calls { I.calls images.new ≡ with_get get_limit (I.calls images.old) }
     ensures seeded { IfOk result (λ _. ComesFromSeed C.seed_gives C.chance_gives C.word_gives
         chances.old seed chances.new) }
@@ -59,6 +62,7 @@ pub fn replay_named<I: ImageStore, T: Source, C: Chances>(
 fn read_schedule<T: Source>(alloc: Global, source: &mut T) -> Result<Schedule, Fault>
     ensures ok { IfOk result (HasSchedule (T.left source.old)) }
     ensures end { OnOk result (IsAtEnd (T.left source.new)) }
+    ensures ended { OnOk result (T.has_ended source.new) }
     ensures at_most { GivesAtMost (longest_trace + 1) (T.left source.old) (T.left source.new) }
     ensures steady { ¬ (IsErrOf result Fault.ReadFault)
         → T.faults source.new ≡ T.faults source.old }

@@ -98,6 +98,13 @@ pub fn run_tool<R: Threads + Sync, I: ImageStore, T: Source, O: Sink, G: Gate + 
         → result ≡ done → IsAtEnd (T.left trace.new) }
     ensures read_at_most { GivesAtMost (longest_trace + 1) (T.left trace.old) (T.left trace.new) }
     ensures no_failed_read { result ≢ read_fault → T.faults trace.new ≡ T.faults trace.old }
+    ensures has_ended { (name : List ℕ) → AsksForSource (texts words.now) name
+        → result ≡ done → T.has_ended trace.new }
+
+    // No failed call of the store is passed over, nor a failed write of a result.
+    ensures no_failed_call { result ≢ read_fault → result ≢ write_fault
+        → I.faults images.new ≡ I.faults images.old }
+    ensures no_failed_write { result ≡ done → O.faults out.new ≡ O.faults out.old }
 
     // How often the store is called: not at all, or for one get, for one put, or for both.
     ensures no_call { IsUsage (texts words.now) → I.calls images.new ≡ I.calls images.old }
@@ -210,11 +217,17 @@ fn carry_out<R: Threads + Sync, I: ImageStore, T: Source, O: Sink, G: Gate + Syn
     ensures no_source { ¬ (ReadsSource (command_of command.entry)) → trace.new ≡ trace.old }
     ensures end { OnOk result (ReadsSource (command_of command.entry)
         → IsAtEnd (T.left trace.new)) }
+    ensures ended { OnOk result (ReadsSource (command_of command.entry)
+        → T.has_ended trace.new) }
     ensures at_most { GivesAtMost (longest_trace + 1) (T.left trace.old) (T.left trace.new) }
     ensures steady { ¬ (IsErrOf result Fault.ReadFault)
         → T.faults trace.new ≡ T.faults trace.old }
     ensures later_store { I.faults images.old ≤ I.faults images.new }
     ensures later_sink { O.faults out.old ≤ O.faults out.new }
+    ensures store_steady { ¬ (IsErrOf result Fault.ReadFault)
+        → ¬ (IsErrOf result Fault.WriteFault) → I.faults images.new ≡ I.faults images.old }
+    ensures sink_steady { ¬ (IsErrOf result Fault.WriteFault)
+        → O.faults out.new ≡ O.faults out.old }
     ensures calls { OnOk result
         (I.calls images.new ≡ with_command (command_of command.entry) (I.calls images.old)) }
     ensures calls_err { IfErr result (λ fault. I.calls images.new

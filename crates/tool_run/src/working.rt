@@ -39,6 +39,7 @@ pub fn work_named<R: Threads + Sync, I: ImageStore, T: Source, G: Gate + Sync, C
     ensures ok { IfOk result (λ product. RunsTrace (I.contents images.old) (T.left trace.old)
         name.now (options_of options) product.image product.text) }
     ensures end { OnOk result (IsAtEnd (T.left trace.new)) }
+    ensures ended { OnOk result (T.has_ended trace.new) }
     ensures at_most { GivesAtMost (longest_trace + 1) (T.left trace.old) (T.left trace.new) }
     ensures steady { ¬ (IsErrOf result Fault.ReadFault)
         → T.faults trace.new ≡ T.faults trace.old }
@@ -53,6 +54,8 @@ pub fn work_named<R: Threads + Sync, I: ImageStore, T: Source, G: Gate + Sync, C
         → trace.new ≡ trace.old }
     ensures unchanged { I.contents images.new ≡ I.contents images.old }
     ensures later { I.faults images.old ≤ I.faults images.new }
+    ensures store_steady { ¬ (IsErrOf result Fault.ReadFault)
+        → I.faults images.new ≡ I.faults images.old }
     ensures calls { I.calls images.new ≡ with_get get_limit (I.calls images.old) }
     ensures seeded { IfOk result (λ _. ComesFromSeed C.seed_gives C.chance_gives C.word_gives
         chances.old options.seed chances.new) }
@@ -76,6 +79,8 @@ fn mapped_heap<I: ImageStore>(
         (Rose (I.faults images.old) (I.faults images.new)) fault) }
     ensures unchanged { I.contents images.new ≡ I.contents images.old }
     ensures later { I.faults images.old ≤ I.faults images.new }
+    ensures store_steady { ¬ (IsErrOf result Fault.ReadFault)
+        → I.faults images.new ≡ I.faults images.old }
     ensures calls { I.calls images.new ≡ with_get get_limit (I.calls images.old) }
 {
     let recovered = recover_image(alloc, name, images)?;
@@ -87,6 +92,7 @@ fn mapped_heap<I: ImageStore>(
 fn read_trace<T: Source>(alloc: Global, trace: &mut T) -> Result<Vec<Request>, Fault>
     ensures ok { IfOk result (λ requests. IsTraceLeft (T.left trace.old) requests.items) }
     ensures end { OnOk result (IsAtEnd (T.left trace.new)) }
+    ensures ended { OnOk result (T.has_ended trace.new) }
     ensures at_most { GivesAtMost (longest_trace + 1) (T.left trace.old) (T.left trace.new) }
     ensures steady { ¬ (IsErrOf result Fault.ReadFault)
         → T.faults trace.new ≡ T.faults trace.old }

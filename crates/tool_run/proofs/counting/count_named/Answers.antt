@@ -4,6 +4,8 @@ use Rattle.tool_command.specs.Command.{count_image}
 use Rattle.tool_run.proofs.CallLemmas.{refuses_within}
 use Rattle.tool_run.proofs.CountLemmas.{not_opened}
 use Rattle.tool_run.proofs.DeliveryLemmas.{at_cause}
+use Rattle.tool_run.proofs.ReadingLemmas.{not_err, stands}
+use Rattle.tool_run.specs.declared.fault.Fault.TheVariants.{ReadFault}
 use Rattle.tool_run.proofs.counting.count_named.Goals as goal
 
 pub returns-in_err-image-clause-err : goal.returns-in_err-image-clause-err
@@ -20,3 +22,13 @@ pub returns-clause-ok : goal.returns-clause-ok
 returns-clause-ok g c =
     let image = c.in_ok-image.ensures.ok in
     (refl, record { bytes = c.in_ok-image.image.items; is_there = image.is_there; good = image.good; tells = c.in_ok-text.ensures.ok })
+
+pub returns-in_err-image-clause-store_steady : goal.returns-in_err-image-clause-store_steady
+returns-in_err-image-clause-store_steady g c =
+    stands _ _ _ c.from_residual.result c.in_err-image.field-0.0 ReadFault c.from_residual.ensures (λ fault is. is) c.in_err-image.ensures.store_steady
+
+pub returns-in_err-text-clause-store_steady : goal.returns-in_err-text-clause-store_steady
+returns-in_err-text-clause-store_steady g c other = c.in_ok-image.ensures.store_steady (not_err _ _)
+
+pub returns-clause-store_steady : goal.returns-clause-store_steady
+returns-clause-store_steady g c other = c.in_ok-image.ensures.store_steady (not_err _ _)

@@ -3,6 +3,8 @@ use Rattle.dict_model.specs.Links.{dict_links, kind_count}
 use Rattle.heap_recover.specs.InPlace.{IsRecoveryOf}
 use Rattle.tool_run.specs.Making.{Rebuilds}
 use Rattle.tool_run.proofs.RebuildLemmas.{recovery_of_words, rebuilds_named}
+use Rattle.tool_run.proofs.ReadingLemmas.{not_err, stands}
+use Rattle.tool_run.specs.declared.fault.Fault.TheVariants.{ReadFault}
 use Rattle.tool_run.proofs.rebuilding.rebuild_named.Goals as goal
 
 pub rebuild_image-requires-after_bounds : goal.rebuild_image-requires-after_bounds
@@ -17,3 +19,13 @@ returns-clause-ok g c =
     rebuilds_named (g.I.ImageStore.contents c.args.images.now) c.args.name.now both.words.items both.recovered both.ensures.ok c.args.budget c.in_ok-product.product.image c.in_ok-product.product.text
     (subst (λ (ws : List ℕ). IsSomeAnd c.in_ok-product.product.image (λ image. Rebuilds (slice_index ws) (length ws) c.args.budget image c.in_ok-product.product.text))
     c.deref.ensures.value c.in_ok-product.ensures.ok)
+
+pub returns-in_err-words-clause-store_steady : goal.returns-in_err-words-clause-store_steady
+returns-in_err-words-clause-store_steady g c =
+    stands _ _ _ c.from_residual.result c.in_err-words.field-0.0 ReadFault c.from_residual.ensures (λ fault is. is) c.in_err-words.ensures.store_steady
+
+pub returns-in_err-product-clause-store_steady : goal.returns-in_err-product-clause-store_steady
+returns-in_err-product-clause-store_steady g c other = c.in_ok-words.ensures.store_steady (not_err _ _)
+
+pub returns-clause-store_steady : goal.returns-clause-store_steady
+returns-clause-store_steady g c other = c.in_ok-words.ensures.store_steady (not_err _ _)

@@ -2,6 +2,8 @@ use Rattle.std.proofs.Common.{refl}
 use Rattle.tool_run.proofs.ImageLemmas.{is_recovered, is_refused}
 use Rattle.tool_run.proofs.CallLemmas.{refuses_links}
 use Rattle.tool_run.proofs.DeliveryLemmas.{at_cause}
+use Rattle.tool_run.proofs.ReadingLemmas.{not_err, stands}
+use Rattle.tool_run.specs.declared.fault.Fault.TheVariants.{ReadFault}
 use Rattle.tool_run.proofs.recovering.recover_image.Goals as goal
 
 pub returns-in_err-image-clause-err : goal.returns-in_err-image-clause-err
@@ -16,3 +18,13 @@ returns-in_err-recovered-clause-err g c =
 
 pub returns-clause-ok : goal.returns-clause-ok
 returns-clause-ok g c = is_recovered _ _ _ _ _ c.in_ok-image.ensures.ok refl c.in_ok-recovered.ensures.ok c.in_ok-recovered.ensures.none c.in_ok-recovered.ensures.formed c.in_ok-recovered.ensures.long
+
+pub returns-in_err-image-clause-store_steady : goal.returns-in_err-image-clause-store_steady
+returns-in_err-image-clause-store_steady g c =
+    stands _ _ _ c.from_residual.result c.in_err-image.field-0.0 ReadFault c.from_residual.ensures (λ fault is. is) c.in_err-image.ensures.store_steady
+
+pub returns-in_err-recovered-clause-store_steady : goal.returns-in_err-recovered-clause-store_steady
+returns-in_err-recovered-clause-store_steady g c other = c.in_ok-image.ensures.store_steady (not_err _ _)
+
+pub returns-clause-store_steady : goal.returns-clause-store_steady
+returns-clause-store_steady g c other = c.in_ok-image.ensures.store_steady (not_err _ _)

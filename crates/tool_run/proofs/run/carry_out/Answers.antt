@@ -1,3 +1,4 @@
+use Rattle.std.proofs.Common.{◌∙◌}
 use Rattle.tool_run.proofs.SeedLemmas.{refused_is_not_cut_off}
 use Rattle.tool_run.proofs.DeliveryLemmas.{at_cause}
 use Rattle.tool_run.proofs.CallLemmas.{stops_at_delivery, if_error, calls_done, calls_undelivered}
@@ -32,3 +33,10 @@ returns-in_err-product-clause-steady g c =
 
 pub returns-clause-steady : goal.returns-clause-steady
 returns-clause-steady g c other = c.in_ok-product.ensures.steady (not_err _ _)
+
+pub returns-in_err-product-clause-store_steady : goal.returns-in_err-product-clause-store_steady
+returns-in_err-product-clause-store_steady g c read write =
+    stands _ _ _ c.from_residual.result c.in_err-product.field-0.0 ReadFault c.from_residual.ensures (λ fault is. is) c.in_err-product.ensures.store_steady read
+
+pub returns-clause-store_steady : goal.returns-clause-store_steady
+returns-clause-store_steady g c read write = c.deliver.ensures.store_steady write ∙ c.in_ok-product.ensures.store_steady (not_err _ _)

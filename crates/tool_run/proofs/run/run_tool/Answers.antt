@@ -2,7 +2,7 @@ use Rattle.tool_run.proofs.SeedLemmas.{by_its_seed, cut_off_by_its_seed}
 use Rattle.tool_run.proofs.StatusLemmas.{has_status, is_read_fault, is_write_fault, is_bad_header, is_outside, is_bad_shard, is_absent, is_bad_trace, is_own_line, for_source, before_reading}
 use Rattle.std.proofs.Common.{arith, rules}
 use Rattle.tool_run.proofs.CallLemmas.{rose_since}
-use Rattle.tool_run.proofs.ReadingLemmas.{none_taken, not_err, not_read_fault}
+use Rattle.tool_run.proofs.ReadingLemmas.{none_taken, not_err, not_told}
 use Rattle.tool_run.proofs.PutBackLemmas.{put_once, looked_once, got_alone}
 use Rattle.tool_run.proofs.AbsentLemmas.{stops_absent, not_done_absent}
 use Rattle.tool_run.proofs.BadTraceLemmas.{stops_bad_line, stops_too_long, done_bad_line, done_too_long}
@@ -12,7 +12,7 @@ use Rattle.tool_run.proofs.CompleteLemmas.{stops_complete}
 use Rattle.tool_run.proofs.BadShardLemmas.{stops_bad, not_done_bad}
 use Rattle.tool_run.proofs.OutsideLemmas.{stops_outside, not_done, where_asked}
 use Rattle.tool_run.proofs.MalformedLemmas.{stops_malformed, not_done_malformed}
-use Rattle.tool_run.specs.declared.fault.Fault.TheVariants.{Memory}
+use Rattle.tool_run.specs.declared.fault.Fault.TheVariants.{Memory, ReadFault, WriteFault}
 use Rattle.tool_command.specs.Command.{format_image, run_image, replay_image}
 use Rattle.tool_run.proofs.run.run_tool.Goals as goal
 
@@ -200,4 +200,14 @@ returns-in-Ok-carry_out-clause-no_failed_read g c other = c.in-Ok-carry_out.ensu
 
 pub returns-in-Err-clause-no_failed_read : goal.returns-in-Err-clause-no_failed_read
 returns-in-Err-clause-no_failed_read g c other =
-    c.in-Err.ensures.steady (not_read_fault _ _ c.in-Err.fault c.tell-in-Err.ensures.status other)
+    c.in-Err.ensures.steady (not_told _ _ c.in-Err.fault ReadFault c.tell-in-Err.ensures.status other)
+
+pub returns-in-Ok-carry_out-clause-no_failed_call : goal.returns-in-Ok-carry_out-clause-no_failed_call
+returns-in-Ok-carry_out-clause-no_failed_call g c read write = c.in-Ok-carry_out.ensures.store_steady (not_err _ _) (not_err _ _)
+
+pub returns-in-Err-clause-no_failed_call : goal.returns-in-Err-clause-no_failed_call
+returns-in-Err-clause-no_failed_call g c read write =
+    c.in-Err.ensures.store_steady (not_told _ _ c.in-Err.fault ReadFault c.tell-in-Err.ensures.status read) (not_told _ _ c.in-Err.fault WriteFault c.tell-in-Err.ensures.status write)
+
+pub returns-in-Ok-carry_out-clause-no_failed_write : goal.returns-in-Ok-carry_out-clause-no_failed_write
+returns-in-Ok-carry_out-clause-no_failed_write g c done = c.in-Ok-carry_out.ensures.sink_steady (not_err _ _)

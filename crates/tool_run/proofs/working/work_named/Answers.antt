@@ -50,3 +50,16 @@ returns-in_err-product-clause-steady g c other = c.in_ok-requests.ensures.steady
 
 pub returns-clause-steady : goal.returns-clause-steady
 returns-clause-steady g c other = c.in_ok-requests.ensures.steady (not_err _ _)
+
+pub returns-in_err-mapped-clause-store_steady : goal.returns-in_err-mapped-clause-store_steady
+returns-in_err-mapped-clause-store_steady g c =
+    stands _ _ _ c.from_residual.result c.in_err-mapped.field-0.0 ReadFault c.from_residual.ensures (λ fault is. is) c.in_err-mapped.ensures.store_steady
+
+pub returns-in_err-requests-clause-store_steady : goal.returns-in_err-requests-clause-store_steady
+returns-in_err-requests-clause-store_steady g c other = c.in_ok-mapped.ensures.store_steady (not_err _ _)
+
+pub returns-in_err-product-clause-store_steady : goal.returns-in_err-product-clause-store_steady
+returns-in_err-product-clause-store_steady g c other = c.in_ok-mapped.ensures.store_steady (not_err _ _)
+
+pub returns-clause-store_steady : goal.returns-clause-store_steady
+returns-clause-store_steady g c other = c.in_ok-mapped.ensures.store_steady (not_err _ _)
