@@ -1,0 +1,43 @@
+-- The help has the ranges that the constants give.
+use Rattle.std.specs.Prelude.{◌≡◌, ℕ, ◌*◌, ◌/◌, ◌+◌, Bool, ◌||◌, nat_eq, true, false, List, [], ◌∷◌, ◌++◌, codes, decimal, refl}
+use Rattle.std.specs.Fmt.{digits}
+use Rattle.std.specs.List.{starts_with}
+use Rattle.image_run.specs.declared.options.TheConstants.{MOST_WORKERS, MOST_BUDGET}
+use Rattle.super_block.specs.declared.layout.TheConstants.{LARGEST_CAPACITY, LAST_CLASS, SUPERBLOCK_WORDS, WORD_BYTES}
+use Rattle.tool_command.specs.declared.trace_plan.TheConstants.{MOST_REQUESTS, GREATEST_SEED}
+use Rattle.tool_program.specs.declared.usage.TheConstants.{USAGE}
+use Rattle.trace_text.specs.declared.step.TheConstants.{MOST_SEATS}
+
+-- the part stands somewhere in the text
+abbrev pub has_part : List ℕ → List ℕ → Bool
+has_part [] part = starts_with nat_eq [] part
+has_part (byte ∷ bytes) part = starts_with nat_eq (byte ∷ bytes) part || has_part bytes part
+
+superblocks : has_part USAGE.now (codes "S superblocks of " ++ decimal (WORD_BYTES * SUPERBLOCK_WORDS / 1024) ++ codes " KiB (1 to " ++ decimal LARGEST_CAPACITY ++ codes ")") ≡ true
+unfolding digits
+superblocks = refl
+
+workers : has_part USAGE.now (codes "N is 1 to " ++ decimal MOST_WORKERS ++ (10 ∷ [])) ≡ true
+unfolding digits
+workers = refl
+
+steps : has_part USAGE.now (codes "stop at step K, as by a crash (0 to " ++ decimal MOST_BUDGET ++ codes "; the default)") ≡ true
+unfolding digits
+steps = refl
+
+classes : has_part USAGE.now (codes "allocate in the class (1 to " ++ decimal LAST_CLASS ++ codes ")") ≡ true
+unfolding digits
+classes = refl
+
+requests : has_part USAGE.now (codes "N requests (0 to " ++ decimal MOST_REQUESTS ++ codes ") from SEED (0 to " ++ decimal GREATEST_SEED ++ codes ")") ≡ true
+unfolding digits
+requests = refl
+
+seats : has_part USAGE.now (codes "seats N (1 to " ++ decimal MOST_SEATS ++ codes ")") ≡ true
+unfolding digits
+seats = refl
+
+-- and no other
+no_more_workers : has_part USAGE.now (codes "N is 1 to " ++ decimal (MOST_WORKERS + 1)) ≡ false
+unfolding digits
+no_more_workers = refl
