@@ -8,9 +8,9 @@ use Rattle.tool_run.proofs.ReadingLemmas.{none_taken}
 use Rattle.tool_program.specs.Ending.{Seen, IsTold, IsStatusOf}
 
 -- it was told, and nothing was put or read
-pub told_memory : (words : List (List ℕ)) (old new : Seen) (status : ℕ) → status ≡ out_of_memory → new.contents ≡ old.contents → new.left ≡ old.left → new.source_faults ≡ old.source_faults
+pub told_memory : (words : List (List ℕ)) (old new : Seen) (status : ℕ) → status ≡ out_of_memory → new.contents ≡ old.contents → new.left ≡ old.left → new.source_faults ≡ old.source_faults → new.store_faults ≡ old.store_faults
     → IsTold old new memory_line → IsStatusOf words old new status
-told_memory words old new status is same unread steady told = subst (λ (s : ℕ). IsStatusOf words old new s) (sym is) (record {
+told_memory words old new status is same unread steady stands told = subst (λ (s : ℕ). IsStatusOf words old new s) (sym is) (record {
   known = (2, lit< tt, refl);
   ok = λ e. absurd (omega (arith, e));
   no_command = λ e. absurd (omega (arith, e));
@@ -25,6 +25,8 @@ told_memory words old new status is same unread steady told = subst (λ (s : ℕ
   unchanged = λ leaves. same;
   read_at_most = subst (λ (left : Option (List ℕ)). GivesAtMost (longest_trace + 1) old.left left) (sym unread) (none_taken (longest_trace + 1) old.left);
   no_failed_read = λ other. steady;
+  no_failed_call = λ read write. stands;
+  no_failed_write = λ e. absurd (omega (arith, e));
   always_usage = λ asks. inr refl;
   complete = λ command asks can store source sink. inr refl;
 })

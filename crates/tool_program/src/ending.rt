@@ -1,11 +1,12 @@
 //! What the program does with a command line, over any store, source and sink.
-ghost use Rattle.std.specs.Prelude.{◌≡◌, ◌≢◌, IsErrAnd};
+ghost use Rattle.std.specs.Prelude.{◌≡◌, ◌≢◌, ℕ, List, IsErrAnd};
 ghost use Rattle.std.specs.IoError.{error_kind};
 ghost use Rattle.std.specs.Process.{exit_status};
 ghost use Rattle.tool_program.specs.Ending.{IsStatusOf};
 ghost use Rattle.tool_program.specs.Words.{words_behind};
 ghost use Rattle.tool_run.specs.Lines.{Tells};
-ghost use Rattle.tool_run.specs.Status.{out_of_memory, usage};
+ghost use Rattle.tool_run.specs.Outcome.{AsksForSource};
+ghost use Rattle.tool_run.specs.Status.{done, out_of_memory, usage};
 
 use crate::usage::USAGE;
 use crate::words::words_of;
@@ -57,6 +58,8 @@ pub fn run_line<
           sink_faults = O.faults out.new;
         })
         (exit_status result) }
+    ensures has_ended { (name : List ℕ) → AsksForSource (words_behind args) name
+        → exit_status result ≡ done → T.has_ended trace.new }
     ensures no_memory { IsErrAnd args (λ e. error_kind e ≡ ErrorKind.OutOfMemory)
         → exit_status result ≡ out_of_memory }
     ensures help { exit_status result ≡ usage → Tells USAGE.now
@@ -97,6 +100,8 @@ fn answer<R: Threads + Sync, I: ImageStore, T: Source, O: Sink, G: Gate + Sync, 
           sink_faults = O.faults out.new;
         })
         result }
+    ensures has_ended { (name : List ℕ) → AsksForSource (words_behind args) name
+        → result ≡ done → T.has_ended trace.new }
     ensures no_memory { IsErrAnd args (λ e. error_kind e ≡ ErrorKind.OutOfMemory)
         → result ≡ out_of_memory }
 {
