@@ -6,7 +6,6 @@ use Rattle.image_run.specs.declared.options.TheConstants.{MOST_WORKERS, MOST_BUD
 use Rattle.super_block.specs.declared.layout.TheConstants.{LARGEST_CAPACITY, LAST_CLASS, SUPERBLOCK_WORDS, WORD_BYTES}
 use Rattle.tool_command.specs.declared.trace_plan.TheConstants.{MOST_REQUESTS, GREATEST_SEED}
 use Rattle.tool_program.specs.declared.usage.TheConstants.{USAGE}
-use Rattle.trace_text.specs.declared.step.TheConstants.{MOST_SEATS}
 
 -- the part stands somewhere in the text
 abbrev pub has_part : List ℕ → List ℕ → Bool
@@ -32,10 +31,6 @@ classes = refl
 requests : has_part USAGE.now (codes "N requests (0 to " ++ decimal MOST_REQUESTS ++ codes ") from SEED (0 to " ++ decimal GREATEST_SEED ++ codes ")") ≡ true
 unfolding digits
 requests = refl
-
-seats : has_part USAGE.now (codes "seats N (1 to " ++ decimal MOST_SEATS ++ codes ")") ≡ true
-unfolding digits
-seats = refl
 
 -- and no other
 no_more_workers : has_part USAGE.now (codes "N is 1 to " ++ decimal (MOST_WORKERS + 1)) ≡ false
