@@ -8,8 +8,8 @@ replies that differ from the plain map's.
 
 Three times are told, each by request, as medians of RUNS runs that take turns, each on a store made anew. whole: the
 process. net: that less the process on an empty trace. requests: from the beginning of the first request to the end of
-the last one, without reading, parsing, opening, closing and printing. The other stores tell that time themselves; in
-place of heap_tool the text timed_run.txt does, which is heap_tool with a look at the clock there.
+the last one, without reading, parsing, opening, closing and printing. The other stores tell that time themselves. Of
+heap_tool it is that of the call which has the workers do their work: stops.py stops the process there.
 
 usage: workers.py [RUNS [FILE [REQUESTS]]]      (make comes first; FILE gets what plot_workers.py draws)
 """
@@ -22,70 +22,80 @@ import sys
 import tempfile
 
 from process import shared_memory, took
-from scratch import TOP, build
+from stops import call_of, can_stop, place_of
 from suite import programs
 
-TOOL = str(TOP / "bin" / "heap_tool")
-CRATES = "file_ports tool_ports tool_run"
+TOOL = str(pathlib.Path(__file__).resolve().parent.parent / "bin" / "heap_tool")
 SIZES = (256, 16)
 WORKERS = (1, 2, 4, 8)
 SEED = "7"
 CUT_TO = 8
-SHARDS, NEAR = 8, 64  # as in dict_model and in timed_run.txt
+# The call that has the workers of a run do their work, from the first worker's begin to the last one's end.
+RUN_JOBS = "std::thread::fork::run_jobs"
 METRICS = ("whole", "net", "requests", "cpu")
 OURS = "heap_tool"
 PEERS = {"libpmemobj": "peer_pmemobj", "LMDB": "peer_lmdb", "plain map": "peer_mem"}
 
 
 class Store:
-    """A store's programs, and the file that it keeps what it has in."""
+    """A store's program, and the file that it keeps what it has in."""
 
     def __init__(self, name, room, superblocks, program):
         self.name, self.superblocks, self.program = name, superblocks, str(program)
         self.path, self.told = str(room / "store"), str(room / "told")
 
-    def run(self, workers, trace, *more, program=None, stdout=os.devnull):
-        """What a run takes on a store made anew: milliseconds, and those of the processor."""
+    def make(self):
         for file in pathlib.Path(self.path).parent.glob("store*"):
             file.unlink()
         ours = self.name == OURS
-        made = [TOOL, "format", self.path, str(self.superblocks)] if ours else [self.program, "init", self.path]
-        subprocess.run(made, check=True, stdout=subprocess.DEVNULL)
-        count = ["--workers" if ours else "--threads", str(workers)]
-        words = [*(program or [self.program]), "run", self.path, *count, *more]
-        return took(words, str(trace), stdout, stderr=self.told)[:2]
+        made = ["format", self.path, str(self.superblocks)] if ours else ["init", self.path]
+        subprocess.run([self.program, *made], check=True, stdout=subprocess.DEVNULL)
 
-    def nanoseconds_of_requests(self, timed, workers, trace, requests):
+    def words(self, workers, *more):
+        return [self.program, "run", self.path, "--workers" if self.name == OURS else "--threads", str(workers), *more]
+
+    def run(self, workers, trace, *more, stdout=os.devnull):
+        """What a run takes on a store made anew: milliseconds, and those of the processor."""
+        self.make()
+        return took(self.words(workers, *more), str(trace), stdout, stderr=self.told)[:2]
+
+    def run_with_stops(self, place, workers, trace, **how):
+        """The nanoseconds of the workers' work, and what is looked for behind it, on a store made anew."""
+        self.make()
+        return call_of(place, self.words(workers), str(trace), **how)
+
+    def nanoseconds_of_requests(self, place, workers, trace):
         if self.name == OURS:
-            self.run(workers, trace, program=[str(timed), str(requests)])
-            return int(pathlib.Path(self.told).read_text())
+            return self.run_with_stops(place, workers, trace)[0]
         self.run(workers, trace, "--stats")
         return int(re.search(r"inner_ns=(\d+)", pathlib.Path(self.told).read_text())[1])
 
-    def measure(self, timed, workers, trace, requests):
+    def measure(self, place, workers, trace, requests):
         """Nanoseconds by request, by metric."""
         whole, cpu = self.run(workers, trace)
         empty, _ = self.run(workers, os.devnull)
-        inner = self.nanoseconds_of_requests(timed, workers, trace, requests)
-        return {
-            "whole": whole * 1e6 / requests,
-            "net": (whole - empty) * 1e6 / requests,
-            "requests": inner / requests,
-            "cpu": cpu * 1e6 / requests,
-        }
+        found = {"whole": whole * 1e6, "net": (whole - empty) * 1e6, "cpu": cpu * 1e6}
+        if place or self.name != OURS:
+            found["requests"] = self.nanoseconds_of_requests(place, workers, trace)
+        return {metric: found[metric] / requests for metric in METRICS if metric in found}
 
     def replies(self, room, workers, trace, requests):
         self.run(workers, trace, stdout=str(room / "replies"))
         return (room / "replies").read_text().split("\n")[:requests]
 
 
+def place_of_work():
+    """The place of the call; none, which is told, where no process can be stopped there."""
+    if can_stop():
+        return place_of(TOOL, RUN_JOBS)
+    print("no process can be stopped here: the requests alone of heap_tool are left out")
+    return None
+
+
 def make_traces(room, requests):
     """The trace for each size of image."""
     made = subprocess.run([TOOL, "gen", str(requests), SEED], check=True, capture_output=True, text=True).stdout
     lines = [line.split() for line in made.splitlines()]
-    for part in (lines[:NEAR], lines[-NEAR:]):
-        if len({int(words[1]) % SHARDS for words in part}) < SHARDS:
-            sys.exit("a shard has no request near an end of the trace, where the clock is read")
     traces = {size: room / f"trace{size}" for size in SIZES}
     traces[SIZES[0]].write_text(made)
     cut = (" ".join([*words[:2], *(value[: 2 * CUT_TO] for value in words[2:])]) for words in lines)
@@ -103,13 +113,18 @@ def check(room, stores, traces, requests):
             sys.exit(f"{size} superblocks, {workers} workers: replies differ")
 
 
+def cell(medians, *key):
+    """The three times; a dash for one that was not measured."""
+    each = (medians.get((*key, metric)) for metric in METRICS[:3])
+    return " / ".join("–" if value is None else f"{value:,.0f}" for value in each)
+
+
 def tell(path, medians):
     print("nanoseconds a request, of the whole process / less an empty trace / of the requests alone")
     print("| superblocks | store | " + " | ".join(f"{workers} workers" for workers in WORKERS) + " |")
     print("|---|---|" + "---|" * len(WORKERS))
     for size, name in dict.fromkeys(key[:2] for key in medians):
-        cells = (" / ".join(f"{medians[size, name, workers, metric]:,.0f}" for metric in METRICS[:3]) for workers in WORKERS)
-        print(f"| {size} | {name} | " + " | ".join(cells) + " |")
+        print(f"| {size} | {name} | " + " | ".join(cell(medians, size, name, workers) for workers in WORKERS) + " |")
     if path:
         with open(path, "w") as out:
             for key, value in medians.items():
@@ -117,11 +132,10 @@ def tell(path, medians):
 
 
 def main(runs="9", path=None, requests="100000"):
-    requests = int(requests)
-    with tempfile.TemporaryDirectory(dir=shared_memory()) as folder, tempfile.TemporaryDirectory() as scratch:
+    requests, place = int(requests), place_of_work()
+    with tempfile.TemporaryDirectory(dir=shared_memory()) as folder:
         room = pathlib.Path(folder)
         peers, traces = programs(room), make_traces(room, requests)
-        timed = build(pathlib.Path(scratch), "timed_run.txt", CRATES, ["0", "gen", "0", "0"])
         stores = {size: [Store(OURS, room, size, TOOL)] for size in SIZES}
         for size in SIZES if peers else ():
             stores[size] += [Store(name, room, size, peers / program) for name, program in PEERS.items()]
@@ -131,7 +145,7 @@ def main(runs="9", path=None, requests="100000"):
             for workers in WORKERS:
                 for size in SIZES:
                     for store in stores[size]:
-                        for metric, value in store.measure(timed, workers, traces[size], requests).items():
+                        for metric, value in store.measure(place, workers, traces[size], requests).items():
                             series.setdefault((size, store.name, workers, metric), []).append(value)
     print(f"medians of {runs} runs, {requests:,} requests; load {os.getloadavg()[0]:.1f}")
     tell(path, {key: statistics.median(values) for key, values in series.items()})
