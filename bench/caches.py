@@ -4,7 +4,7 @@ and a free that the cache serves, and the filling and flushing of a cache by blo
 and what the one ticket word takes. Beside it stand the heap for one thread, block_heap's SeqHeap, by pairs of the same
 kind, and the allocators of the suite of peers.
 
-rt proves and builds the texts timed_caches.txt and timed_pairs.txt in scratch clones; those say what their ways are. Each
+scratch.py builds the texts timed_caches.txt and timed_pairs.txt; those say what their ways are. Each
 figure is the median of RUNS runs that take turns, of what a thread sees; SeqHeap's is the processor's time. What can be
 lost there are pops and pushes, each of which costs three tickets more then: so the tickets that several threads drew
 beyond those of one tell the losses.
@@ -23,10 +23,6 @@ from process import shared_memory
 from scratch import build
 from suite import programs
 
-CRATES = (
-    "cache_scenes thread_cache seat_rows heap_rule seat_notes core_model dictionary heap_recover heap_seat line_memory"
-    " region_header size_table super_block heap_model"
-)
 THREADS = (1, 2, 4)
 SUPERBLOCKS = 128
 SIZES = (16, 32, 48, 64, 96, 128, 192, 256, 384, 512, 768, 1024, 1536, 2048, 3072, 4096, 6144, 8192, 12288, 14336)
@@ -144,11 +140,10 @@ def medians(rounds):
 
 
 def main(runs="7", path=None, effort="1"):
-    with tempfile.TemporaryDirectory(dir=shared_memory()) as folder, tempfile.TemporaryDirectory() as scratch:
+    program, for_one = build("timed_caches.txt"), build("timed_pairs.txt")
+    with tempfile.TemporaryDirectory(dir=shared_memory()) as folder:
         room = pathlib.Path(folder)
         peers = programs(room)
-        program = build(pathlib.Path(scratch) / "caches", "timed_caches.txt", CRATES, ["served", 1, 1, 1, SUPERBLOCKS])
-        for_one = build(pathlib.Path(scratch) / "pairs", "timed_pairs.txt", pairs.CRATES, ["alone", 20, 1])
         rounds, beside = [], []
         for _ in range(int(runs)):
             rounds.append(one_round(program, for_one, float(effort)))

@@ -1,19 +1,16 @@
 #!/usr/bin/env python3
 """Measures the heap for one thread, block_heap's SeqHeap, class by class: nanoseconds and tickets.
 
-rt proves and builds the text timed_pairs.txt in a scratch clone; that text says what its ways are.
+scratch.py builds the text timed_pairs.txt; that text says what its ways are.
 Nanoseconds are those of the processor that the thread used, the least of RUNS runs that take turns; tickets are exact.
 
 usage: pairs.py [RUNS]      (make comes first)
 """
-import pathlib
 import subprocess
 import sys
-import tempfile
 
 from scratch import build
 
-CRATES = "block_heap region_header super_block size_table heap_model"
 CLASSES = range(1, 21)
 WAYS = ("alone", "beside", "ring", "fill", "free")
 PAIRS = 300_000
@@ -31,13 +28,12 @@ def count_of(way, blocks):
 
 
 def main(runs):
-    with tempfile.TemporaryDirectory() as folder:
-        program = build(pathlib.Path(folder), "timed_pairs.txt", CRATES, ["alone", 20, 1])
-        blocks = {each: measure(program, "fill", each, 0)[0] for each in CLASSES}
-        rounds = [
-            {(way, each): measure(program, way, each, count_of(way, blocks[each] // 64)) for way in WAYS for each in CLASSES}
-            for _ in range(runs)
-        ]
+    program = build("timed_pairs.txt")
+    blocks = {each: measure(program, "fill", each, 0)[0] for each in CLASSES}
+    rounds = [
+        {(way, each): measure(program, way, each, count_of(way, blocks[each] // 64)) for way in WAYS for each in CLASSES}
+        for _ in range(runs)
+    ]
     print(f"nanoseconds (least of {runs} runs) / tickets, each by pair or by block")
     print("| class | blocks | " + " | ".join(WAYS) + " |")
     print("|---|---|" + "---|" * len(WAYS))

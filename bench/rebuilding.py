@@ -1,7 +1,7 @@
 #!/usr/bin/env python3
 """Times recovery with its rebuilding pass and without it, on the same images, and heap_tool's show beside them.
 
-In a scratch clone the text timed_recovery.txt takes the place of heap_tool's main; rt proves and builds that.
+scratch.py builds the text timed_recovery.txt.
 Each figure is the least of RUNS runs that take turns.
 
 usage: rebuilding.py [RUNS]      (make comes first)
@@ -16,7 +16,6 @@ import time
 from scratch import HERE, TOP, build
 
 TOOL = TOP / "bin" / "heap_tool"
-CRATES = "file_ports tool_ports dictionary heap_recover filter_trace region_header super_block"
 CALLS = 10
 
 
@@ -55,12 +54,12 @@ def measure(timed, image, runs):
 
 
 def main(runs):
+    timed = build("timed_recovery.txt")
     with tempfile.TemporaryDirectory() as folder:
         room = pathlib.Path(folder)
         subprocess.run([TOOL, "format", room / "empty", "256"], check=True, stdout=subprocess.DEVNULL)
         for name, superblocks in (("half", 128), ("full", 256)):
             subprocess.run([HERE / "full_image.py", room / name, str(superblocks)], check=True)
-        timed = build(room, "timed_recovery.txt", CRATES, ["trace", room / "full", 1])
         for name in ("empty", "half", "full"):
             measure(timed, room / name, runs)
 

@@ -2,10 +2,9 @@
 """Times recovery by threads, beside recovery in one thread, on images of 256 and of 4,096 superblocks in which each 32-byte
 block is reached, with 1, 2 and 4 processors (taskset).
 
-rt proves and builds the text timed_parallel.txt in a scratch clone: it recovers an image again and again by both, and looks
-at the clock before and behind the pass over the taken superblocks in one thread. Each figure is the median of RUNS
-processes that take turns, of CALLS recoveries each. What the pass takes by threads is reckoned: the whole by threads, less
-the other parts.
+scratch.py builds the text timed_parallel.txt: it recovers an image again and again by both, and looks at the clock before
+and behind the pass over the taken superblocks in one thread. Each figure is the median of RUNS processes that take turns,
+of CALLS recoveries each. What the pass takes by threads is reckoned: the whole by threads, less the other parts.
 
 usage: recovering.py [RUNS [CALLS [SUPERBLOCKS..]]]      (make comes first)
 """
@@ -19,7 +18,6 @@ import tempfile
 from process import shared_memory
 from scratch import HERE, build
 
-CRATES = "file_ports tool_ports dictionary par_recover heap_recover filter_trace region_header super_block"
 SIZES = (256, 4096)
 PROCESSORS = (1, 2, 4)
 
@@ -51,11 +49,11 @@ def main(runs="5", calls="3", *sizes):
     sizes = tuple(map(int, sizes)) or SIZES
     usable = sorted(os.sched_getaffinity(0))
     processors = [count for count in PROCESSORS if set(range(count)) <= set(usable)]
-    with tempfile.TemporaryDirectory(dir=shared_memory()) as folder, tempfile.TemporaryDirectory() as scratch:
+    program = build("timed_parallel.txt")
+    with tempfile.TemporaryDirectory(dir=shared_memory()) as folder:
         images = {size: pathlib.Path(folder) / f"full{size}" for size in sizes}
         for size, image in images.items():
             subprocess.run([HERE / "full_image.py", image, str(size), "8"], check=True)
-        program = build(pathlib.Path(scratch), "timed_parallel.txt", CRATES, [images[sizes[0]], 1])
         series = {}
         for _ in range(int(runs)):
             for size, image in images.items():

@@ -1,19 +1,16 @@
 #!/usr/bin/env python3
 """Measures requests to the dictionary on the heap for one thread by the keys of a bucket: nanoseconds and tickets.
 
-rt proves and builds the text timed_requests.txt in a scratch clone; that text says what its ways are.
+scratch.py builds the text timed_requests.txt; that text says what its ways are.
 Nanoseconds are those of the processor that the thread used, the least of RUNS runs that take turns; tickets are exact.
 
 usage: requests.py [RUNS]      (make comes first)
 """
-import pathlib
 import subprocess
 import sys
-import tempfile
 
 from scratch import build
 
-CRATES = "dictionary_tests block_heap region_header heap_model"
 KEYS = (10, 100, 1_000)
 WAYS = ("get", "put", "new", "del")
 ROUNDS = 1_000
@@ -26,9 +23,8 @@ def measure(program, way, keys):
 
 
 def main(runs):
-    with tempfile.TemporaryDirectory() as folder:
-        program = build(pathlib.Path(folder), "timed_requests.txt", CRATES, ["get", 10, 1])
-        rounds = [{(way, keys): measure(program, way, keys) for way in WAYS for keys in KEYS} for _ in range(runs)]
+    program = build("timed_requests.txt")
+    rounds = [{(way, keys): measure(program, way, keys) for way in WAYS for keys in KEYS} for _ in range(runs)]
     print(f"nanoseconds (least of {runs} runs) / tickets, each by request")
     print("| keys a bucket | " + " | ".join(WAYS) + " |")
     print("|---|" + "---|" * len(WAYS))
