@@ -8,6 +8,7 @@ use std::alloc::Global;
 use std::process::Abort;
 use std::test::Fail;
 use super_block::{CLEAN, DIRTY, STATE_WORD};
+use tool_ports::OpenGate;
 use trace_text::reply_text;
 
 /// More steps than any test here takes.
@@ -37,7 +38,7 @@ fn answers(
     requires budget { budget < 2 ^ 40 }
 {
     let image = empty(rt.alloc(), capacity)?;
-    let left = run_text(rt.alloc(), &image, text, budget)?;
+    let left = run_text(rt.alloc(), &image, text, budget, &OpenGate)?;
     must_hold(rt, replies_are(rt.alloc(), &left, told), text);
     must_hold(rt, has_state(&left, image.len()), text);
     Ok(())
@@ -81,7 +82,7 @@ fn a_trace_is_answered_in_its_order(rt: HostRuntime) -> Result<(), Fail> {
 
 /// Runs over what a stopped run left.
 fn goes_on(rt: &(impl Abort + AllocGlobal), image: &[u64]) -> Result<(), Fail> {
-    let again = run_text(rt.alloc(), image, "put 1 64\nget 1\n", MANY)?;
+    let again = run_text(rt.alloc(), image, "put 1 64\nget 1\n", MANY, &OpenGate)?;
     let told = "ok\n64\nrun closed\n";
     must_hold(rt, replies_are(rt.alloc(), &again, told), "again");
     Ok(())
@@ -96,7 +97,7 @@ fn stops_and_goes_on(
     requires { budget < 2 ^ 40 }
 {
     let trace = "put 1 6162\nput 1 63\ndel 1\n";
-    let first = run_text(rt.alloc(), image, trace, budget)?;
+    let first = run_text(rt.alloc(), image, trace, budget, &OpenGate)?;
     goes_on(rt, &first.image)?;
     Ok(!first.stopped)
 }

@@ -13,7 +13,7 @@ use line_memory::Closed;
 use std::alloc::{AllocError, Global};
 use std::test::Fail;
 use super_block::{Geometry, Ready};
-use tool_ports::{Chances, Gate, OpenGate, SeededChances};
+use tool_ports::{Chances, Gate, SeededChances};
 use trace_text::{Reply, Request, parse_trace};
 use worker_run::{Worker, closed_image, left_by_crash, longest_puts, make_rooms, work_off};
 
@@ -89,12 +89,19 @@ fn run_requests<G: Gate, C: Chances>(
     })
 }
 
-/// Runs the trace over what recovery makes of the image, with a budget of so many steps.
-pub fn run_text(alloc: Global, image: &[u64], text: &str, budget: u64) -> Result<Outcome, Fail>
+/// Runs the trace over what recovery makes of the image, with a budget of so many steps. The gate
+/// is told of each request.
+pub fn run_text<G: Gate>(
+    alloc: Global,
+    image: &[u64],
+    text: &str,
+    budget: u64,
+    gate: &G,
+) -> Result<Outcome, Fail>
     requires { budget < 2 ^ 40 }
 {
     let heap = recover_dictionary(alloc, image)?.heap;
     let requests = parse_trace(alloc, text.as_bytes())?;
     let chances = &mut SeededChances::new();
-    run_requests(alloc, heap, &requests, budget, &OpenGate, chances)
+    run_requests(alloc, heap, &requests, budget, gate, chances)
 }
