@@ -33,10 +33,10 @@ Answers bytes (Err (Stopped e)) v w = Stops e.step v w
 
 -- what a request may cost, with this many moves: at most, and where no superblock is cut
 abbrev pub request_costs : ℕ → ℕ → Costs
-request_costs bytes moves = record no_costs { draws = 4111; wins = 3; cuts = 1; taken = span_of bytes; moves = moves }
+request_costs bytes moves = record no_costs { draws = 4108; wins = 2; cuts = 1; taken = span_of bytes; moves = moves }
 
 abbrev pub light_request : ℕ → ℕ → Costs
-light_request bytes moves = record no_costs { draws = 17; wins = 2; taken = span_of bytes; moves = moves }
+light_request bytes moves = record no_costs { draws = 10; wins = 2; taken = span_of bytes; moves = moves }
 
 -- a block that the seat holds: one of a class, or a large one
 pub record IsSmallBlock (class : ℕ) (b : Block) (v : View) : Type 0 where

@@ -38,24 +38,32 @@ module _ (v : View) (has : HasSoundState v) (class d : ℕ) (claim : IsClaimOf c
   moved : {w : View} (list : ℕ) → HasPushed list d 3 v w → w.moves ≡ v.moves + cond (nat_eq list 0) 1 0
   moved list pushed = pushed.moves ∙ ap (λ (test : Bool). v.moves + cond test 0 (cond (nat_eq list 0) 1 0)) (not-lt 0 (times d v.raw + times d v.split) (let none = raw_none v has class d claim in omega arith))
 
+  won_once : {w : View} (list : ℕ) → HasPushed list d 3 v w → w.wins ≤ v.wins + 1
+  won_once {w} list pushed = elim (cases_eq list 0) as (λ _. w.wins ≤ v.wins + 1) [
+    | inl free ↦ let most = (pushed.moved free (let none = raw_none v has class d claim in omega arith)).passes.most in let wins = most.wins in let moves = most.moves in omega arith
+    | inr other ↦ let wins = pushed.row.passes.most.wins in let same = moved list pushed ∙ ap (λ (test : Bool). v.moves + cond test 1 0) (ne_eqb list 0 other) in omega arith
+  ]
+
   pub listed_by : (w : View) (list found : ℕ) → (anchor_state found ≡ partial_state → list ≡ class) → (anchor_state found ≢ partial_state → list ≡ 0)
       → HasPushed list d 3 v w → HasListedBy d found v w
   listed_by w list found partial other pushed = record {
     going = pushed.going;
     parts_are = claim_pushed v has class d claim v w list refl pushed;
+    wins = won_once list pushed;
     empty = λ is. moved list pushed ∙ ap (λ (test : Bool). v.moves + cond test 1 0) (eq-eqb list 0 (other (λ same. omega (arith, is, same))));
     partial = λ is. moved list pushed ∙ ap (λ (test : Bool). v.moves + cond test 1 0) (ne_eqb list 0 (λ zero_list. let some = claim.is_class.some in let at = partial is in omega (arith, zero_list))) ∙ (let e : v.moves + 0 ≡ v.moves = omega arith in e);
   }
 
   -- and so after a look
-  pub listed : {a : Costs} (t w : View) (found : ℕ) → HasSeenAnchor d found v t → anchor_state found < 2 → a.moves ≡ 0 → ViewRow a v t → HasListedBy d found t w → HasListed d v w
-  listed t w found seen low none row by = record {
+  pub listed : {a : Costs} (t w : View) (found : ℕ) → HasSeenAnchor d found v t → anchor_state found < 2 → a.moves ≡ 0 → a.wins ≡ 0 → ViewRow a v t → HasListedBy d found t w → HasListed d v w
+  listed t w found seen low none unwon row by = record {
     anchor = found;
     at = t;
     seen = seen;
     low = low;
     by = by;
     parts_are = by.parts_are ∙ ap (λ (p : Parts). record p { classed = without_claim d p.classed }) seen.parts_are;
+    wins = let once = by.wins in let most = row.passes.most.wins in let moves = row.passes.most.moves in omega arith;
     empty = λ is. let e = by.empty is in let least = row.passes.more.moves in let most = row.passes.most.moves in omega arith;
     partial = λ is. let e = by.partial is in let least = row.passes.more.moves in let most = row.passes.most.moves in omega arith;
   }

@@ -27,7 +27,7 @@ use Rattle.heap_rule.proofs.ViewLemmas.{block_below, block_class, block_once, bl
 use Rattle.seat_lists.proofs.PopLemmas.{drawn_as}
 use Rattle.seat_lists.specs.Anchors.{anchor_seen}
 use Rattle.seat_flush.specs.Gives.{Gives, GivesSeen, HasGiven, HasLinkedLast, HasNotGiven, IsBatchOf, given_parts, with_linked}
-use Rattle.seat_rows.specs.Costs.{no_costs, one_draw, one_give}
+use Rattle.seat_rows.specs.Costs.{Costs, no_costs, one_draw, one_give}
 use Rattle.seat_rows.specs.Rows.{HasDrawn, Parts, Stops, ViewRow, parts}
 use Rattle.seat_rows.specs.Words.{IsHeldWord, times_held}
 use Rattle.seat_rows.proofs.OnceLemmas.{not_held}
@@ -117,9 +117,9 @@ can_give v u has d drawn can = subst (λ (x : View). Can x (Give d)) (sym drawn.
 given_from : (test : Bool) (class d ticket : ℕ) (v u w : View) → v.stopped ≡ None
     → w ≡ trimmed (cond test (claimed (record (won (drawn_as v ticket u)) { batch = no_batch; seen_anchor = None; gives = v.gives + 1 }) d class) (record (won (drawn_as v ticket u)) { batch = no_batch; seen_anchor = None; gives = v.gives + 1 }))
     → HasGiven d class test v w
-given_from true zero d ticket v u w going after = subst (HasGiven d zero true v) (sym after) (record { going = going; gave = omega arith; parts_are = refl; durable = λ _. omega arith })
-given_from true (suc class) d ticket v u w going after = subst (HasGiven d (suc class) true v) (sym after) (record { going = going; gave = omega arith; parts_are = refl; durable = λ _. omega arith })
-given_from false class d ticket v u w going after = subst (HasGiven d class false v) (sym after) (record { going = going; gave = omega arith; parts_are = refl; durable = λ no. absurd (cc) })
+given_from true zero d ticket v u w going after = subst (HasGiven d zero true v) (sym after) (record { going = going; gave = omega arith; wins = refl; parts_are = refl; durable = λ _. omega arith })
+given_from true (suc class) d ticket v u w going after = subst (HasGiven d (suc class) true v) (sym after) (record { going = going; gave = omega arith; wins = refl; parts_are = refl; durable = λ _. omega arith })
+given_from false class d ticket v u w going after = subst (HasGiven d class false v) (sym after) (record { going = going; gave = omega arith; wins = refl; parts_are = refl; durable = λ no. absurd (cc) })
 
 module _ (v u w : View) (d found : ℕ) (drawn : HasDrawn v u) (row : ViewRow one_draw v u) (event : IsEvent (Give d) u found w) where
   give_wins : found ≡ seen_word u.seen_anchor → HasGiven d v.batch.class (nat_eq (seen_word v.seen_anchor) full_anchor) v w
@@ -183,8 +183,8 @@ given_linked : (linked full : Bool) (d class : ℕ) (p : Parts) → given_parts 
 given_linked linked true d class p = refl
 given_linked linked false d class p = refl
 
-pub given_later : (linked : Bool) (v t w : View) (d class : ℕ) (full : Bool) → parts t ≡ with_linked linked (parts v) → v.gives ≤ t.gives → HasGiven d class full t w → HasGiven d class full v w
-given_later linked v t w d class full same few has = record { going = has.going; gave = let g = has.gave in omega arith; parts_are = has.parts_are ∙ ap (given_parts full d class) same ∙ given_linked linked full d class (parts v); durable = has.durable }
+pub given_later : {a : Costs} (linked : Bool) (v t w : View) (d class : ℕ) (full : Bool) → parts t ≡ with_linked linked (parts v) → a.wins ≡ 0 → a.moves ≡ 0 → ViewRow a v t → HasGiven d class full t w → HasGiven d class full v w
+given_later linked v t w d class full same unwon still row has = record { going = has.going; gave = let g = has.gave in let few = row.passes.more.gives in omega arith; wins = let e = has.wins in let least = row.passes.more.wins in let most = row.passes.most.wins in let moves = row.passes.most.moves in omega arith; parts_are = has.parts_are ∙ ap (given_parts full d class) same ∙ given_linked linked full d class (parts v); durable = has.durable }
 
 pub not_given_later : {n : ℕ} (m : ℕ) (linked : Bool) (v t w : View) → v.stopped ≡ None → v.draws < v.setup.budget → parts t ≡ with_linked linked (parts v) → ViewRow (record no_costs { draws = n }) v t → HasNotGiven m t w → HasNotGiven (n + m) v w
 not_given_later m linked v t w ran room same row has = record {
@@ -199,7 +199,7 @@ not_given_later m linked v t w ran room same row has = record {
 
 pub gives_later : {n : ℕ} (m : ℕ) (linked : Bool) (v t w : View) (d class : ℕ) (answer : Option Bool) → v.stopped ≡ None → v.draws < v.setup.budget → parts t ≡ with_linked linked (parts v) → ViewRow (record no_costs { draws = n }) v t → Gives d class m answer t w → Gives d class (n + m) answer v w
 gives_later m linked v t w d class None ran room same row has = not_given_later m linked v t w ran room same row has
-gives_later m linked v t w d class (Some full) ran room same row has = given_later linked v t w d class full same row.passes.more.gives has
+gives_later m linked v t w d class (Some full) ran room same row has = given_later linked v t w d class full same refl refl row has
 
 -- how far the tries have come
 pub record Giving (d class last : ℕ) (v t : View) : Type 0 where
@@ -236,7 +236,7 @@ pub giving_row : (v t w : View) (d class last : ℕ) → Giving d class last v t
 giving_row v t w d class last giving row = view_row_then v t w giving.row row
 
 pub giving_done : (v t w : View) (d class last : ℕ) (full : Bool) → Giving d class last v t → HasGiven d class full t w → HasGiven d class full v w
-giving_done v t w d class last full giving has = given_later giving.linked v t w d class full giving.parts_are giving.row.passes.more.gives has
+giving_done v t w d class last full giving has = given_later giving.linked v t w d class full giving.parts_are refl refl giving.row has
 
 -- what the anchor that was seen says
 pub given_seen : (full : Bool) (v w : View) (d class last found : ℕ) → IsBatchOf d class last v → v.seen_anchor ≡ anchor_seen d found → nat_eq found full_anchor ≡ full → HasGiven d v.batch.class (nat_eq (seen_word v.seen_anchor) full_anchor) v w → HasGiven d class full v w

@@ -10,10 +10,11 @@ use Rattle.seat_flush.specs.Gives.{HasGiven}
 use Rattle.seat_flush.specs.Lifts.{HasLiftedPrefix}
 use Rattle.seat_flush.specs.Runs.{runs_of}
 
--- it is claimed no more: by its anchor as it was seen, it was moved to the list of the free ones, or nothing was
+-- it is claimed no more, by one exchange that was won: by its anchor as it was seen, it was moved to the list of the free ones, or nothing was
 pub record HasListedBy (d anchor : ℕ) (v w : View) : Type 0 where
   pub going : w.stopped ≡ None
   pub parts_are : parts w ≡ record (parts v) { classed = without_claim d v.classed }
+  pub wins : w.wins ≤ v.wins + 1
   pub empty : anchor_state anchor ≡ empty_state → w.moves ≡ v.moves + 1
   pub partial : anchor_state anchor ≡ partial_state → w.moves ≡ v.moves
 
@@ -25,6 +26,7 @@ pub record HasListed (d : ℕ) (v w : View) : Type 0 where
   pub low : anchor_state anchor < 2
   pub by : HasListedBy d anchor at w
   pub parts_are : parts w ≡ record (parts v) { classed = without_claim d v.classed }
+  pub wins : w.wins ≤ v.wins + 1
   pub empty : anchor_state anchor ≡ empty_state → w.moves ≡ v.moves + 1
   pub partial : anchor_state anchor ≡ partial_state → w.moves ≡ v.moves
 

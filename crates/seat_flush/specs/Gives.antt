@@ -1,5 +1,5 @@
 -- What giving a batch back to its superblock leaves of a seat.
-use Rattle.std.specs.Prelude.{◌≡◌, ◌<◌, ◌≤◌, ℕ, Bool, true, false, nat_eq, length, Option, None, Some}
+use Rattle.std.specs.Prelude.{◌≡◌, ◌<◌, ◌≤◌, ◌+◌, ℕ, Bool, true, false, nat_eq, length, Option, None, Some}
 use Rattle.heap_model.specs.Words.{full_anchor}
 use Rattle.core_model.specs.Cells.{data_cell}
 use Rattle.core_model.specs.Effects.{last_of, seen_word}
@@ -29,7 +29,7 @@ pub record HasLinkedLast (last first : ℕ) (v w : View) : Type 0 where
   pub anchor : w.seen_anchor ≡ v.seen_anchor
   pub link : Shows w (data_cell last) first
 
--- the batch is gone; where no block of the superblock was free before, it is claimed with the class
+-- the batch is gone, by the one exchange that was won; where no block of the superblock was free before, it is claimed with the class
 abbrev pub given_parts : Bool → ℕ → ℕ → Parts → Parts
 given_parts true d class p = with_claim class d (record p { batch = no_batch })
 given_parts false d class p = record p { batch = no_batch }
@@ -37,6 +37,7 @@ given_parts false d class p = record p { batch = no_batch }
 pub record HasGiven (d class : ℕ) (full : Bool) (v w : View) : Type 0 where
   pub going : w.stopped ≡ None
   pub gave : v.gives < w.gives
+  pub wins : w.wins ≡ v.wins + 1
   pub parts_are : parts w ≡ given_parts full d class (parts v)
   pub durable : full ≡ true → d < w.floor
 

@@ -205,16 +205,28 @@ module _ (bytes : ℕ) (s : CacheState) (x y : SeatView) (n : CallCounts) (step 
       let passes : Passes (request_costs bytes moves) s.view y.view = at_state (λ v. Passes (request_costs bytes moves) v y.view) s x step.was passed in
       let least = passes.more.gives in let most = passes.most.gives in omega arith
 
-  pub alloc_room : (moves : ℕ) (result : Result Block AllocFault) → Answers bytes result x.view y.view → Passes (request_costs bytes moves) x.view y.view → IfGoing result (y.view.cuts ≡ x.view.cuts → HoldingRow (light_request bytes moves) x y)
+  -- what a request may cost
+  costs_state : Passes (request_costs bytes (y.view.moves - x.view.moves)) x.view y.view → Passes (request_costs bytes (y.view.moves - s.view.moves)) s.view y.view
+  costs_state = at_state (λ v. Passes (request_costs bytes (y.view.moves - v.moves)) v y.view) s x step.was
+
+  uncut_state : (y.view.cuts ≡ x.view.cuts → HoldingRow (light_request bytes (y.view.moves - x.view.moves)) x y) → y.view.cuts ≡ s.view.cuts
+      → Passes (light_request bytes (y.view.moves - s.view.moves)) s.view y.view
+  uncut_state light cuts = at_state (λ v. Passes (light_request bytes (y.view.moves - v.moves)) v y.view) s x step.was
+      (light (cuts ∙ ap (λ (v : View). v.cuts) (sym step.was.view))).passes
+
+  pub alloc_room : (result : Result Block AllocFault) → Answers bytes result x.view y.view → Passes (request_costs bytes (y.view.moves - x.view.moves)) x.view y.view
+      → IfGoing result (y.view.cuts ≡ x.view.cuts → HoldingRow (light_request bytes (y.view.moves - x.view.moves)) x y)
       → IfGoing result ((class : ℕ) → IsLeastClassFor bytes class → IsFilledInOrder class x.view y.view)
       → ((class : ℕ) → IsLeastClassFor bytes class → 1 ≤ length (of_class x.view.caches class) → HoldingRow one_draw x y) → OnOk result (IsServed bytes s.view y.view)
-  alloc_room moves (Ok b) answers passed light order cached = record {
+  alloc_room (Ok b) answers passed light order cached = record {
     light = light_by light;
     block = b;
     granted = answers_state (Ok b) answers;
     gives = no_gives passed;
     order = λ class least. at_state (λ v. IsFilledInOrder class v y.view) s x step.was (order class least);
     cached = λ class least. at_state (λ v. 1 ≤ length (of_class v.caches class) → Passes one_draw v y.view) s x step.was (λ some. (cached class least some).passes);
+    costs = costs_state passed;
+    uncut = uncut_state light;
     large = by_kind (answers_state (Ok b) answers);
   } where
     by_kind : IsGranted bytes b s.view y.view → largest_small < bytes → HasSeenRoom bytes s.view y.view
@@ -223,12 +235,13 @@ module _ (bytes : ℕ) (s : CacheState) (x y : SeatView) (n : CallCounts) (step 
       made = allocated.made;
       room = let seen = allocated.seen in let room = allocated.room in let capacity = ap (λ (p : Parts). p.setup.capacity) allocated.parts_are in omega arith;
     }
-  alloc_room moves (Err fault) answers passed light order cached = tt
+  alloc_room (Err fault) answers passed light order cached = tt
 
-  pub alloc_none : (moves : ℕ) (result : Result Block AllocFault) → Answers bytes result x.view y.view → Passes (request_costs bytes moves) x.view y.view → IfGoing result (y.view.cuts ≡ x.view.cuts → HoldingRow (light_request bytes moves) x y)
+  pub alloc_none : (result : Result Block AllocFault) → Answers bytes result x.view y.view → Passes (request_costs bytes (y.view.moves - x.view.moves)) x.view y.view
+      → IfGoing result (y.view.cuts ≡ x.view.cuts → HoldingRow (light_request bytes (y.view.moves - x.view.moves)) x y)
       → IfErr result (λ fault. (looks : Looks) → fault ≡ Full looks → IsTurnedAway bytes looks s.view y.view)
-  alloc_none moves (Ok b) answers passed light = tt
-  alloc_none moves (Err (Full found)) answers passed light = λ looks same. subst (λ l. IsTurnedAway bytes l s.view y.view) (one_looks found looks same) (away found (answers_state (Err (Full found)) answers)) where
+  alloc_none (Ok b) answers passed light = tt
+  alloc_none (Err (Full found)) answers passed light = λ looks same. subst (λ l. IsTurnedAway bytes l s.view y.view) (one_looks found looks same) (away found (answers_state (Err (Full found)) answers)) where
     looks_in : AllocFault → Looks
     looks_in (Full l) = l
     looks_in (StoppedFault e) = found
@@ -242,6 +255,7 @@ module _ (bytes : ℕ) (s : CacheState) (x y : SeatView) (n : CallCounts) (step 
       parts_are = full.parts_are;
       cuts = full.cuts;
       gives = no_gives passed;
+      costs = uncut_state light full.cuts;
       for_class = λ c other. subst (λ k. IsFull k looks s.view y.view × (of_class s.view.caches k ≡ [])) (one_least bytes class c least other) (full, none);
       for_span = λ large. absurd (let small = least_small bytes class least in omega arith);
     }
@@ -250,10 +264,11 @@ module _ (bytes : ℕ) (s : CacheState) (x y : SeatView) (n : CallCounts) (step 
       parts_are = none.parts_are;
       cuts = none.cuts;
       gives = no_gives passed;
+      costs = uncut_state light none.cuts;
       for_class = λ c least. absurd (let small = least_small bytes c least in omega arith);
       for_span = λ large. none;
     }
-  alloc_none moves (Err (StoppedFault e)) answers passed light = λ looks same. absurd (let no = ap kind_of same in omega arith) where
+  alloc_none (Err (StoppedFault e)) answers passed light = λ looks same. absurd (let no = ap kind_of same in omega arith) where
     kind_of : AllocFault → ℕ
     kind_of (Full l) = 1
     kind_of (StoppedFault f) = 0

@@ -97,16 +97,18 @@ module _ (b : Block) (s : CacheState) (x y : SeatView) (n : CallCounts) (step : 
     refusals = same;
   }
 
+  free_cached : (y.view.gives ≡ x.view.gives → y.view.large ≡ x.view.large → RowBut (IsHeldOutside x.view b) light_free_costs x y)
+      → y.view.gives ≡ s.view.gives → y.view.large ≡ s.view.large → Passes light_free_costs s.view y.view
+  free_cached light gives large = at_state (λ v. Passes light_free_costs v y.view) s x step.was
+      (light (gives ∙ ap (λ (v : View). v.gives) (sym step.was.view)) (large ∙ ap (λ (v : View). v.large) (sym step.was.view))).passes
+
   free_light : (result : Result ⊤ Stopped) → OnOk result (y.view.gives ≡ x.view.gives → y.view.large ≡ x.view.large → RowBut (IsHeldOutside x.view b) light_free_costs x y) → OnOk result (IsLight s.view y.view)
-  free_light (Ok r) light = λ cuts gives taken large.
-      let few : Passes light_free_costs s.view y.view = at_state (λ v. Passes light_free_costs v y.view) s x step.was
-      (light (gives ∙ ap (λ (v : View). v.gives) (sym step.was.view)) (large ∙ ap (λ (v : View). v.large) (sym step.was.view))).passes in
-      let d = few.most.draws in let l = few.more.losses in omega arith
+  free_light (Ok r) light = λ cuts gives taken large. let few = free_cached light gives large in let d = few.most.draws in let l = few.more.losses in omega arith
   free_light (Err e) light = tt
 
-  pub free_put : a.cuts ≡ 0 → (result : Result ⊤ Stopped) → OnOk result (IsGivenBack b x.view y.view) → OnOk result (y.view.gives ≡ x.view.gives → y.view.large ≡ x.view.large → RowBut (IsHeldOutside x.view b) light_free_costs x y) → OnOk result (IsPutBack b s.view y.view)
-  free_put none (Ok r) given light = record { light = free_light (Ok r) light; cuts = let most = passes.most.cuts in let more = passes.more.cuts in omega arith; given = at_state (λ v. IsGivenBack b v y.view) s x step.was given }
-  free_put none (Err e) given light = tt
+  pub free_put : a ≡ most_free_costs → (result : Result ⊤ Stopped) → OnOk result (IsGivenBack b x.view y.view) → OnOk result (y.view.gives ≡ x.view.gives → y.view.large ≡ x.view.large → RowBut (IsHeldOutside x.view b) light_free_costs x y) → OnOk result (IsPutBack b s.view y.view)
+  free_put are (Ok r) given light = let costs : Passes most_free_costs s.view y.view = subst (λ (k : Costs). Passes k s.view y.view) are passes in record { light = free_light (Ok r) light; cuts = let most = costs.most.cuts in let more = costs.more.cuts in omega arith; costs = costs; cached = free_cached light; given = at_state (λ v. IsGivenBack b v y.view) s x step.was given }
+  free_put are (Err e) given light = tt
 
 pub free_few : IsFew most_free_costs
 free_few = record { draws = omega arith; wins = omega arith; gives = omega arith; cuts = omega arith }

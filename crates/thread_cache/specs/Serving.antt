@@ -1,11 +1,11 @@
 -- What a granted and a refused request, and a freed block, leave of a seat that allocates by caches.
-use Rattle.std.specs.Prelude.{◌≡◌, ◌<◌, ◌≤◌, ℕ, ◌+◌, ◌*◌, [], length}
+use Rattle.std.specs.Prelude.{◌≡◌, ◌<◌, ◌≤◌, ℕ, ◌+◌, ◌-◌, ◌*◌, [], length}
 use Rattle.heap_model.specs.declared.block.Block.{Block}
 use Rattle.heap_model.specs.Sizes.{IsLeastClassFor, largest_small, span_of}
 use Rattle.heap_seat.specs.declared.fault.Looks.{Looks}
 use Rattle.core_model.specs.View.{View, of_class}
 use Rattle.seat_calls.specs.Large.{HasNoRoom}
-use Rattle.seat_calls.specs.Requests.{IsGivenBack, IsGranted}
+use Rattle.seat_calls.specs.Requests.{IsGivenBack, IsGranted, light_free_costs, light_request, most_free_costs, request_costs}
 use Rattle.seat_fill.specs.Refills.{IsFilledInOrder, IsFull}
 use Rattle.seat_rows.specs.Costs.{one_draw}
 use Rattle.seat_rows.specs.Rows.{IsMade, Passes, next_of, parts}
@@ -20,7 +20,7 @@ pub record HasSeenRoom (bytes : ℕ) (v w : View) : Type 0 where
   pub made : IsMade (next_of v) (next_of w) v.taken v.taken w.used_look
   pub room : w.used_look.word + span_of bytes ≤ w.setup.capacity
 
--- a granted request: a block of a class is the first of its cache, where that had one, by one ticket, and else the cache was filled in order; a large one begins at the mark that was seen; nothing else that the seat had changed, and no batch was given
+-- a granted request: a block of a class is the first of its cache, where that had one, by one ticket, and else the cache was filled in order; a large one begins at the mark that was seen; nothing else that the seat had changed, no batch was given, and it cost what a request may cost, one that cut nothing less
 pub record IsServed (bytes : ℕ) (v w : View) : Type 0 where
   pub light : IsLight v w
   pub block : Block
@@ -28,19 +28,24 @@ pub record IsServed (bytes : ℕ) (v w : View) : Type 0 where
   pub gives : w.gives ≡ v.gives
   pub order : (class : ℕ) → IsLeastClassFor bytes class → IsFilledInOrder class v w
   pub cached : (class : ℕ) → IsLeastClassFor bytes class → 1 ≤ length (of_class v.caches class) → Passes one_draw v w
+  pub costs : Passes (request_costs bytes (w.moves - v.moves)) v w
+  pub uncut : w.cuts ≡ v.cuts → Passes (light_request bytes (w.moves - v.moves)) v w
   pub large : largest_small < bytes → HasSeenRoom bytes v w
 
--- a refused request: of a class, whose cache is empty, it found both lists empty and the mark past, in this order, and won no exchange from the first of these looks on; one that is too large for a class found the mark past, and won none at all; the seat has what it had, and cut and gave nothing
+-- a refused request: of a class, whose cache is empty, it found both lists empty and the mark past, in this order, and won no exchange from the first of these looks on; one that is too large for a class found the mark past, and won none at all; the seat has what it had, and cut and gave nothing; it cost what a request may cost that cuts nothing
 pub record IsTurnedAway (bytes : ℕ) (looks : Looks) (v w : View) : Type 0 where
   pub light : IsLight v w
   pub parts_are : parts w ≡ parts v
   pub cuts : w.cuts ≡ v.cuts
   pub gives : w.gives ≡ v.gives
+  pub costs : Passes (light_request bytes (w.moves - v.moves)) v w
   pub for_class : (class : ℕ) → IsLeastClassFor bytes class → IsFull class looks v w × (of_class v.caches class ≡ [])
   pub for_span : largest_small < bytes → HasNoRoom (span_of bytes) looks v w
 
--- a freed block: one of a class went before those of its cache, which was flushed where it then had as many as a superblock, in one batch for each run; of a large one no superblock is claimed; nothing was cut
+-- a freed block: one of a class went before those of its cache, which was flushed where it then had as many as a superblock, in one batch for each run; of a large one no superblock is claimed; nothing was cut, and it cost what the freeing of a block may cost, one that only puts it into the cache less
 pub record IsPutBack (b : Block) (v w : View) : Type 0 where
   pub light : IsLight v w
   pub cuts : w.cuts ≡ v.cuts
+  pub costs : Passes most_free_costs v w
+  pub cached : w.gives ≡ v.gives → w.large ≡ v.large → Passes light_free_costs v w
   pub given : IsGivenBack b v w

@@ -13,7 +13,7 @@ list_seen-requires-clause-claim g c = claim_still c.args.seat.now.view c.look_an
 pub returns-clause-listed : goal.returns-clause-listed
 returns-clause-listed g c =
     on_ok_then c.list_seen.result (listed c.args.seat.now.view c.has_a_sound_state.ensures c.args.class.number c.args.d c.requires.claim c.look_anchor.new.seat.view c.list_seen.new.seat.view c.in_ok-anchor.anchor
-    c.in_ok-anchor.ensures.seen (c.in_ok-anchor.ensures.of_class c.requires.claim.claimed) refl c.look_anchor.ensures.row.view) c.list_seen.ensures.listed
+    c.in_ok-anchor.ensures.seen (c.in_ok-anchor.ensures.of_class c.requires.claim.claimed) refl refl c.look_anchor.ensures.row.view) c.list_seen.ensures.listed
 
 pub returns-clause-row : goal.returns-clause-row
 returns-clause-row g c = row_then c.args.seat.now c.look_anchor.new.seat c.list_seen.new.seat c.look_anchor.ensures.row c.list_seen.ensures.row

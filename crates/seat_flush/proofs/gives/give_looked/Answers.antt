@@ -1,4 +1,4 @@
-use Rattle.std.proofs.Common.{◌<◌, ◌+◌, ◌*◌, true, false, ap, sym, subst, ◌∙◌, eq-eqb}
+use Rattle.std.proofs.Common.{◌<◌, ◌+◌, ◌*◌, true, false, refl, ap, sym, subst, ◌∙◌, eq-eqb}
 use Rattle.heap_model.specs.Geometry.{start_word}
 use Rattle.heap_model.specs.Sizes.{words_of_class}
 use Rattle.heap_model.specs.Words.{anchor_first, full_anchor}
@@ -42,7 +42,7 @@ returns-clause-row g c =
 pub returns-then-branch-2-clause-given : goal.returns-then-branch-2-clause-given
 returns-then-branch-2-clause-given g c = let linked = c.in_ok-link_last.ensures.linked in
     let v = c.args.seat.now.view in let t = c.link_last.new.seat.view in
-    given_later false v t c.give_seen-2.new.seat.view c.args.d c.args.class.number false linked.parts_are c.link_last.ensures.row.view.passes.more.gives
+    given_later false v t c.give_seen-2.new.seat.view c.args.d c.args.class.number false linked.parts_are refl refl c.link_last.ensures.row.view
     (given_seen false t c.give_seen-2.new.seat.view c.args.d c.args.class.number c.args.last c.args.anchor (batch_still false v t c.args.d c.args.class.number c.args.last linked.parts_are c.requires.batch)
     (linked.anchor ∙ c.requires.sees) (not-eq c.args.anchor full_anchor (λ full. c.if-anchor-anchor_after_take_all.false (full ∙ sym c.anchor_after_take_all.ensures)))
     (subst (λ won. GivesSeen c.args.d won t c.give_seen-2.new.seat.view) c.if-branch-2.true c.in_ok-give_seen-2.ensures.done))

@@ -46,7 +46,7 @@ returns-in-Some-clause-cause g c = full_cause c.args.bytes c.args.self.now c.sel
     c.alloc-answer.ensures.answers c.alloc-answer.ensures.none (ap (λ (s : CacheState). s.refusals + 1) c.self.view_is) refl refl
 
 pub returns-in-Some-clause-none : goal.returns-in-Some-clause-none
-returns-in-Some-clause-none g c = alloc_none c.args.bytes c.args.self.now c.self.inside.seat c.alloc-answer.new.seat _ (full_step _ c.args.self.now c.self.view_is c.args.bytes c.in-Some.looks c.self.inside.seat c.alloc-answer.new.seat refl refl c.has_a_sound_state-2.ensures c.in_ok-check_running.ensures.ok) c.has_a_sound_state.ensures c.alloc-answer.ensures.drew _ c.alloc-answer.result c.alloc-answer.ensures.answers c.alloc-answer.ensures.row.passes c.alloc-answer.ensures.light
+returns-in-Some-clause-none g c = alloc_none c.args.bytes c.args.self.now c.self.inside.seat c.alloc-answer.new.seat _ (full_step _ c.args.self.now c.self.view_is c.args.bytes c.in-Some.looks c.self.inside.seat c.alloc-answer.new.seat refl refl c.has_a_sound_state-2.ensures c.in_ok-check_running.ensures.ok) c.has_a_sound_state.ensures c.alloc-answer.ensures.drew c.alloc-answer.result c.alloc-answer.ensures.answers c.alloc-answer.ensures.row.passes c.alloc-answer.ensures.light
 
 pub returns-in-Some-clause-unchanged : goal.returns-in-Some-clause-unchanged
 returns-in-Some-clause-unchanged g c = large_refused c.args.self.now c.self.inside.seat c.alloc-answer.new.seat _ (full_step _ c.args.self.now c.self.view_is c.args.bytes c.in-Some.looks c.self.inside.seat c.alloc-answer.new.seat refl refl c.has_a_sound_state-2.ensures c.in_ok-check_running.ensures.ok) c.alloc-answer.ensures.row.passes _ c.alloc-answer.result c.alloc-answer.ensures.none
@@ -78,10 +78,10 @@ pub returns-in-None-clause-ok : goal.returns-in-None-clause-ok
 returns-in-None-clause-ok g c = alloc_ok c.args.bytes c.args.self.now c.self.inside.seat c.alloc-answer.new.seat _ (large_step _ c.args.self.now c.self.view_is c.self.inside.seat c.alloc-answer.new.seat refl refl c.has_a_sound_state-2.ensures c.in_ok-check_running.ensures.ok) c.has_a_sound_state.ensures c.alloc-answer.ensures.drew c.alloc-answer.result c.alloc-answer.ensures.answers c.alloc-answer.ensures.row (record { count = ap (λ (s : CacheState). s.refusals) c.self.view_is; bytes = ap (λ (s : CacheState). s.refused_bytes) c.self.view_is; looks = ap (λ (s : CacheState). s.refused_looks) c.self.view_is })
 
 pub returns-in-None-clause-room : goal.returns-in-None-clause-room
-returns-in-None-clause-room g c = alloc_room c.args.bytes c.args.self.now c.self.inside.seat c.alloc-answer.new.seat _ (large_step _ c.args.self.now c.self.view_is c.self.inside.seat c.alloc-answer.new.seat refl refl c.has_a_sound_state-2.ensures c.in_ok-check_running.ensures.ok) c.has_a_sound_state.ensures c.alloc-answer.ensures.drew _ c.alloc-answer.result c.alloc-answer.ensures.answers c.alloc-answer.ensures.row.passes c.alloc-answer.ensures.light c.alloc-answer.ensures.order c.alloc-answer.ensures.cached
+returns-in-None-clause-room g c = alloc_room c.args.bytes c.args.self.now c.self.inside.seat c.alloc-answer.new.seat _ (large_step _ c.args.self.now c.self.view_is c.self.inside.seat c.alloc-answer.new.seat refl refl c.has_a_sound_state-2.ensures c.in_ok-check_running.ensures.ok) c.has_a_sound_state.ensures c.alloc-answer.ensures.drew c.alloc-answer.result c.alloc-answer.ensures.answers c.alloc-answer.ensures.row.passes c.alloc-answer.ensures.light c.alloc-answer.ensures.order c.alloc-answer.ensures.cached
 
 pub returns-in-None-clause-none : goal.returns-in-None-clause-none
-returns-in-None-clause-none g c = alloc_none c.args.bytes c.args.self.now c.self.inside.seat c.alloc-answer.new.seat _ (large_step _ c.args.self.now c.self.view_is c.self.inside.seat c.alloc-answer.new.seat refl refl c.has_a_sound_state-2.ensures c.in_ok-check_running.ensures.ok) c.has_a_sound_state.ensures c.alloc-answer.ensures.drew _ c.alloc-answer.result c.alloc-answer.ensures.answers c.alloc-answer.ensures.row.passes c.alloc-answer.ensures.light
+returns-in-None-clause-none g c = alloc_none c.args.bytes c.args.self.now c.self.inside.seat c.alloc-answer.new.seat _ (large_step _ c.args.self.now c.self.view_is c.self.inside.seat c.alloc-answer.new.seat refl refl c.has_a_sound_state-2.ensures c.in_ok-check_running.ensures.ok) c.has_a_sound_state.ensures c.alloc-answer.ensures.drew c.alloc-answer.result c.alloc-answer.ensures.answers c.alloc-answer.ensures.row.passes c.alloc-answer.ensures.light
 
 pub returns-in-None-clause-cause : goal.returns-in-None-clause-cause
 returns-in-None-clause-cause g c = stop_cause c.args.bytes c.args.self.now c.self.inside.seat c.alloc-answer.new.seat _ (large_step _ c.args.self.now c.self.view_is c.self.inside.seat c.alloc-answer.new.seat refl refl c.has_a_sound_state-2.ensures c.in_ok-check_running.ensures.ok) c.has_a_sound_state.ensures c.alloc-answer.ensures.drew c.alloc-answer.result (c.in-None.ensures.none refl) c.alloc-answer.ensures.answers
