@@ -1,8 +1,7 @@
 -- From why a command stopped, and the line that was printed then, to what its status says.
-use Rattle.std.proofs.Common.{◌≡◌, ◌⊎◌, ℕ, zero, suc, ◌<◌, ◌≤◌, List, [], ◌∷◌, get_or, Option, IfSome, Contains, inl, inr, refl, sym, subst, arith, lit<}
+use Rattle.std.proofs.Common.{◌≡◌, ◌≢◌, ◌⊎◌, ℕ, zero, suc, ◌<◌, ◌≤◌, List, [], ◌∷◌, get_or, Option, IfSome, Contains, inl, inr, refl, sym, subst, arith, lit<}
 use Rattle.tool_ports.specs.Causes.{Rose}
 use Rattle.tool_ports.specs.Contents.{Contents}
-use Rattle.tool_ports.specs.Taken.{TakesPart}
 use Rattle.tool_command.specs.Command.{Command, format_image, show_image, drain_image, gen_trace, run_image, rebuild_image, replay_image, conservative_image, count_image, image_name, Asks}
 use Rattle.tool_run.specs.declared.fault.Fault.{Fault}
 use Rattle.tool_run.specs.declared.fault.Fault.TheVariants.{Usage, Memory, ReadFault, WriteFault, Absent, Malformed, Outside, BadShard, BadLine, BadStep, TooLong}
@@ -11,7 +10,6 @@ use Rattle.tool_run.specs.Lines.{Tells}
 use Rattle.tool_run.specs.Making.{RunsATrace, ReplaysASchedule, ReadsSource}
 use Rattle.tool_run.specs.Outcome.{AsksForRun, AsksForReplay, AsksForSource, IsReadFault, at_image, at_trace, at_schedule, IsWriteFault, IsAbsent, IsBadHeader, IsOutsideAt, in_image, in_image_left, IsBadShardAt, IsBadTrace, at_line, too_long, at_step, schedule_too_long}
 use Rattle.tool_run.specs.Status.{statuses, own_line, IsBeforeTrace, usage, read_fault, write_fault, no_image, bad_header, outside, bad_shard, bad_trace}
-use Rattle.tool_run.proofs.CallLemmas.{rose_since}
 use Rattle.tool_run.proofs.FilterLemmas.{refuses_gets}
 
 -- a fault has a status
@@ -28,11 +26,10 @@ has_status (BadLine line) status is = rw is (9, lit< tt, refl)
 has_status (BadStep line) status is = rw is (9, lit< tt, refl)
 has_status TooLong status is = rw is (9, lit< tt, refl)
 
--- a line that tells, where the count is compared with an earlier one and what was taken goes by another name
-pub tells_since : (line : List ℕ) (first second third : ℕ) (taken mid new : Option (List ℕ)) → first ≤ second → mid ≡ taken → Tells line second third mid new → Tells line first third taken new
-tells_since line first second third taken mid new low same (inl all) = inl (rw (← same) all)
-tells_since line first second third taken mid new low same (inr (rose, part)) =
-    inr (rose_since first second third third low (omega arith) rose, subst (λ (m : Option (List ℕ)). TakesPart line m new) same part)
+-- a line that tells, where the count and what was taken go by other names
+pub tells_since : (line : List ℕ) (first second third : ℕ) (taken mid new : Option (List ℕ)) → second ≡ first → mid ≡ taken → Tells line second third mid new → Tells line first third taken new
+tells_since line first second third taken mid new stood same told =
+    subst (λ n. Tells line n third taken new) stood (subst (λ (m : Option (List ℕ)). Tells line second third m new) same told)
 
 -- words that ask for a command that runs a trace ask for a run
 pub for_run : (words : List (List ℕ)) (command : Command) → RunsATrace command → Asks words command → AsksForRun words (image_name command)
@@ -63,7 +60,7 @@ pub for_source : (words : List (List ℕ)) (command : Command) → ReadsSource c
 for_source words command reads asked = record { command = command; asked = asked; reads = reads; is_named = refl }
 
 module _ (words : List (List ℕ)) (command : Command) (old new : Contents) (left : Option (List ℕ)) (store_failed source_failed : Type 0) (first second third : ℕ) (taken mid final : Option (List ℕ))
-    (status : ℕ) (asked : Asks words command) (low : first ≤ second) (high : second ≤ third) where
+    (status : ℕ) (asked : Asks words command) (low : first ≤ second) (high : second ≤ third) (stood : status ≢ write_fault → second ≡ first) where
   -- the outside failed while something was read
   pub is_read_fault : (fault : Fault) → IsStopped command old new left store_failed source_failed (Rose first second) taken mid fault → status ≡ status_of fault
       → status ≡ read_fault → IsReadFault words old store_failed source_failed
@@ -108,7 +105,7 @@ module _ (words : List (List ℕ)) (command : Command) (old new : Contents) (lef
       asks = record { command = command; asked = asked; gets = why.0; is_named = refl };
       cause = cause;
       malformed = why.1;
-      told = tells_since (line_of (Malformed cause) name) first second third taken mid final low same.sink told;
+      told = tells_since (line_of (Malformed cause) name) first second third taken mid final (stood (λ five. absurd (omega arith))) same.sink told;
     }
     | inl (inr (inl trace), same) ↦ absurd trace.why
     | inl (inr (inr replay), same) ↦ absurd replay.why
@@ -122,10 +119,10 @@ module _ (words : List (List ℕ)) (command : Command) (old new : Contents) (lef
       → status ≡ outside → IsOutsideAt words old left (λ line. Tells line first third taken final)
   is_outside (Outside at value) name stopped is told eight = elim stopped.cause [
     | inl (inl why, same) ↦ in_image (image_name command) at value (record { command = command; asked = asked; gets = refuses_gets command why.0.bytes why.1; is_named = refl }) why.0 why.1
-        (tells_since (line_of (Outside at value) name) first second third taken mid final low same.sink told)
+        (tells_since (line_of (Outside at value) name) first second third taken mid final (stood (λ five. absurd (omega arith))) same.sink told)
     | inl (inr (inl trace), same) ↦ absurd trace.why
     | inl (inr (inr replay), same) ↦ in_image_left (image_name command) at value (for_replay words command replay.replays asked) replay.why
-        (tells_since (line_of (Outside at value) name) first second third taken mid final low same.sink told)
+        (tells_since (line_of (Outside at value) name) first second third taken mid final (stood (λ five. absurd (omega arith))) same.sink told)
     | inr (image, text, made, why) ↦ absurd why
   ]
   is_outside other name stopped is told eight = absurd (omega arith)
@@ -141,7 +138,7 @@ module _ (words : List (List ℕ)) (command : Command) (old new : Contents) (lef
       shard = shard;
       at = at;
       has = why.1;
-      told = tells_since (line_of (BadShard shard at) name) first second third taken mid final low same.sink told;
+      told = tells_since (line_of (BadShard shard at) name) first second third taken mid final (stood (λ five. absurd (omega arith))) same.sink told;
     }
     | inl (inr (inl trace), same) ↦ absurd trace.why
     | inl (inr (inr replay), same) ↦ absurd replay.why
@@ -158,7 +155,7 @@ module _ (words : List (List ℕ)) (command : Command) (old new : Contents) (lef
       name = image_name command;
       asks = record { command = command; asked = asked; gets = why.0; is_named = refl };
       lacks = why.1;
-      told = subst (λ (n : List ℕ). Tells (line_of Absent n) first third taken final) named (tells_since (line_of Absent name) first second third taken mid final low same.sink told);
+      told = subst (λ (n : List ℕ). Tells (line_of Absent n) first third taken final) named (tells_since (line_of Absent name) first second third taken mid final (stood (λ five. absurd (omega arith))) same.sink told);
     }
     | inl (inr (inl trace), same) ↦ absurd trace.why
     | inl (inr (inr replay), same) ↦ absurd replay.why
@@ -167,28 +164,28 @@ module _ (words : List (List ℕ)) (command : Command) (old new : Contents) (lef
   is_absent other name named stopped is told six = absurd (omega arith)
 
   -- the line of a status that has one line alone
-  own_told : (fault : Fault) (name : List ℕ) → IsStopped command old new left store_failed source_failed (Rose first second) taken mid fault
+  own_told : (fault : Fault) (name : List ℕ) → IsStopped command old new left store_failed source_failed (Rose first second) taken mid fault → status ≡ status_of fault
       → Tells (line_of fault name) second third mid final → IfSome (own_line (status_of fault)) (λ line. Tells line first third taken final)
-  own_told Usage name stopped told = elim stopped.cause [
+  own_told Usage name stopped is told = elim stopped.cause [
     | inl (inl why, same) ↦ absurd why
     | inl (inr (inl trace), same) ↦ absurd trace.why
     | inl (inr (inr replay), same) ↦ absurd replay.why
     | inr (image, text, made, why) ↦ absurd why
   ]
-  own_told Memory name stopped told = elim stopped.cause [
-    | inl (why, same) ↦ tells_since (line_of Memory name) first second third taken mid final low same.sink told
-    | inr (image, text, made, why) ↦ tells_since (line_of Memory name) first second third taken mid final low why.sink told
+  own_told Memory name stopped is told = elim stopped.cause [
+    | inl (why, same) ↦ tells_since (line_of Memory name) first second third taken mid final (stood (λ five. absurd (omega arith))) same.sink told
+    | inr (image, text, made, why) ↦ tells_since (line_of Memory name) first second third taken mid final (stood (λ five. absurd (omega arith))) why.sink told
   ]
-  own_told ReadFault name stopped told = elim stopped.cause [
-    | inl (why, same) ↦ tells_since (line_of ReadFault name) first second third taken mid final low same.sink told
+  own_told ReadFault name stopped is told = elim stopped.cause [
+    | inl (why, same) ↦ tells_since (line_of ReadFault name) first second third taken mid final (stood (λ five. absurd (omega arith))) same.sink told
     | inr (image, text, made, why) ↦ absurd why
   ]
-  own_told other name stopped told = tt
+  own_told other name stopped is told = tt
 
   pub is_own_line : (fault : Fault) (name : List ℕ) → IsStopped command old new left store_failed source_failed (Rose first second) taken mid fault → status ≡ status_of fault
       → Tells (line_of fault name) second third mid final → IfSome (own_line status) (λ line. Tells line first third taken final)
   is_own_line fault name stopped is told =
-      subst (λ n. IfSome (own_line n) (λ line. Tells line first third taken final)) (sym is) (own_told fault name stopped told)
+      subst (λ n. IfSome (own_line n) (λ line. Tells line first third taken final)) (sym is) (own_told fault name stopped is told)
 
   -- the trace is refused
   pub is_bad_trace : (fault : Fault) (name : List ℕ) → IsStopped command old new left store_failed source_failed (Rose first second) taken mid fault → status ≡ status_of fault
@@ -197,7 +194,7 @@ module _ (words : List (List ℕ)) (command : Command) (old new : Contents) (lef
   is_bad_trace (BadLine line) name stopped is told ten = elim stopped.cause [
     | inl (inl why, same) ↦ absurd why
     | inl (inr (inl trace), same) ↦ at_line (image_name command) line (for_run words command trace.runs asked) trace.mapped trace.why
-        (tells_since (line_of (BadLine line) name) first second third taken mid final low same.sink told)
+        (tells_since (line_of (BadLine line) name) first second third taken mid final (stood (λ five. absurd (omega arith))) same.sink told)
     | inl (inr (inr replay), same) ↦ absurd replay.why
     | inr (image, text, made, why) ↦ absurd why
   ]
@@ -205,15 +202,15 @@ module _ (words : List (List ℕ)) (command : Command) (old new : Contents) (lef
     | inl (inl why, same) ↦ absurd why
     | inl (inr (inl trace), same) ↦ absurd trace.why
     | inl (inr (inr replay), same) ↦ at_step (image_name command) line (for_replay words command replay.replays asked) replay.image replay.why
-        (tells_since (line_of (BadStep line) name) first second third taken mid final low same.sink told)
+        (tells_since (line_of (BadStep line) name) first second third taken mid final (stood (λ five. absurd (omega arith))) same.sink told)
     | inr (image, text, made, why) ↦ absurd why
   ]
   is_bad_trace TooLong name stopped is told ten = elim stopped.cause [
     | inl (inl why, same) ↦ absurd why
     | inl (inr (inl trace), same) ↦ too_long (image_name command) (for_run words command trace.runs asked) trace.mapped trace.why
-        (tells_since (line_of TooLong name) first second third taken mid final low same.sink told)
+        (tells_since (line_of TooLong name) first second third taken mid final (stood (λ five. absurd (omega arith))) same.sink told)
     | inl (inr (inr replay), same) ↦ schedule_too_long (image_name command) (for_replay words command replay.replays asked) replay.image replay.why
-        (tells_since (line_of TooLong name) first second third taken mid final low same.sink told)
+        (tells_since (line_of TooLong name) first second third taken mid final (stood (λ five. absurd (omega arith))) same.sink told)
     | inr (image, text, made, why) ↦ absurd why
   ]
   is_bad_trace other name stopped is told ten = absurd (omega arith)

@@ -60,7 +60,7 @@ bad_step_line line = codes "bad schedule line " ++ decimal line ++ line_feed
 abbrev pub too_long_line : List ℕ
 too_long_line = codes "bad trace too long" ++ line_feed
 
--- A sink took the line or, only where the count of its failures rose, a first part of it.
+-- A sink took the line, and the count of its failures stood; or the count rose, and it took a first part of it.
 abbrev pub Tells : List ℕ → ℕ → ℕ → Option (List ℕ) → Option (List ℕ) → Type 0
 Tells line faults faults' taken taken' =
-    (taken' ≡ taken_with taken line) ⊎ (Rose faults faults' × TakesPart line taken taken')
+    ((taken' ≡ taken_with taken line) × (faults' ≡ faults)) ⊎ (Rose faults faults' × TakesPart line taken taken')

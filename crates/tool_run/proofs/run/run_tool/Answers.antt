@@ -33,21 +33,25 @@ returns-in-Err-clause-known g c = has_status c.in-Err.fault _ c.tell-in-Err.ensu
 pub returns-in-Err-clause-read_fault : goal.returns-in-Err-clause-read_fault
 returns-in-Err-clause-read_fault g c =
     is_read_fault _ _ _ _ _ _ _ _ _ _ _ _ (g.O.Sink.taken c.tell-in-Err.new.out) _ c.in-Ok.ensures.ok c.carry_out.ensures.later_sink c.tell-in-Err.ensures.later
+    (λ other. c.in-Err.ensures.sink_steady (not_told _ _ c.in-Err.fault WriteFault c.tell-in-Err.ensures.status other))
     c.in-Err.fault c.in-Err.ensures.err c.tell-in-Err.ensures.status
 
 pub returns-in-Err-clause-write_fault : goal.returns-in-Err-clause-write_fault
 returns-in-Err-clause-write_fault g c =
     is_write_fault _ _ _ _ _ _ _ _ _ _ _ _ _ _ c.in-Ok.ensures.ok c.carry_out.ensures.later_sink c.tell-in-Err.ensures.later
+    (λ other. c.in-Err.ensures.sink_steady (not_told _ _ c.in-Err.fault WriteFault c.tell-in-Err.ensures.status other))
     c.in-Err.fault _ c.in-Err.ensures.err c.tell-in-Err.ensures.status c.tell-in-Err.ensures.told
 
 pub returns-in-Err-clause-cause : goal.returns-in-Err-clause-cause
 returns-in-Err-clause-cause g c =
     is_bad_header _ _ _ _ _ _ _ _ _ _ _ _ _ _ c.in-Ok.ensures.ok c.carry_out.ensures.later_sink c.tell-in-Err.ensures.later
+    (λ other. c.in-Err.ensures.sink_steady (not_told _ _ c.in-Err.fault WriteFault c.tell-in-Err.ensures.status other))
     c.in-Err.fault _ c.in-Err.ensures.err c.tell-in-Err.ensures.status c.tell-in-Err.ensures.told
 
 pub returns-in-Err-clause-outside : goal.returns-in-Err-clause-outside
 returns-in-Err-clause-outside g c =
     is_outside _ _ _ _ _ _ _ _ _ _ _ _ _ _ c.in-Ok.ensures.ok c.carry_out.ensures.later_sink c.tell-in-Err.ensures.later
+    (λ other. c.in-Err.ensures.sink_steady (not_told _ _ c.in-Err.fault WriteFault c.tell-in-Err.ensures.status other))
     c.in-Err.fault _ c.in-Err.ensures.err c.tell-in-Err.ensures.status c.tell-in-Err.ensures.told
 
 pub returns-in-Err-clause-always_outside : goal.returns-in-Err-clause-always_outside
@@ -70,6 +74,7 @@ returns-in-Err-clause-always_cause g c =
 pub returns-in-Err-clause-bad_shard : goal.returns-in-Err-clause-bad_shard
 returns-in-Err-clause-bad_shard g c =
     is_bad_shard _ _ _ _ _ _ _ _ _ _ _ _ _ _ c.in-Ok.ensures.ok c.carry_out.ensures.later_sink c.tell-in-Err.ensures.later
+    (λ other. c.in-Err.ensures.sink_steady (not_told _ _ c.in-Err.fault WriteFault c.tell-in-Err.ensures.status other))
     c.in-Err.fault _ c.in-Err.ensures.err c.tell-in-Err.ensures.status c.tell-in-Err.ensures.told
 
 pub returns-in-Err-clause-always_outside_left : goal.returns-in-Err-clause-always_outside_left
@@ -97,11 +102,13 @@ returns-in-Err-clause-complete g c other asks can store source sink =
 pub returns-in-Err-clause-absent : goal.returns-in-Err-clause-absent
 returns-in-Err-clause-absent g c =
     is_absent _ _ _ _ _ _ _ _ _ _ _ _ _ _ c.in-Ok.ensures.ok c.carry_out.ensures.later_sink c.tell-in-Err.ensures.later
+    (λ other. c.in-Err.ensures.sink_steady (not_told _ _ c.in-Err.fault WriteFault c.tell-in-Err.ensures.status other))
     c.in-Err.fault _ c.image.ensures c.in-Err.ensures.err c.tell-in-Err.ensures.status c.tell-in-Err.ensures.told
 
 pub returns-in-Err-clause-bad_trace : goal.returns-in-Err-clause-bad_trace
 returns-in-Err-clause-bad_trace g c =
     is_bad_trace _ _ _ _ _ _ _ _ _ _ _ _ _ _ c.in-Ok.ensures.ok c.carry_out.ensures.later_sink c.tell-in-Err.ensures.later
+    (λ other. c.in-Err.ensures.sink_steady (not_told _ _ c.in-Err.fault WriteFault c.tell-in-Err.ensures.status other))
     c.in-Err.fault _ c.in-Err.ensures.err c.tell-in-Err.ensures.status c.tell-in-Err.ensures.told
 
 pub returns-in-Err-clause-always_bad_line : goal.returns-in-Err-clause-always_bad_line
@@ -128,6 +135,7 @@ returns-in-Ok-carry_out-clause-always_absent g c = not_done_absent _ _ _ _ _ _ _
 pub returns-in-Err-clause-line : goal.returns-in-Err-clause-line
 returns-in-Err-clause-line g c =
     is_own_line _ _ _ _ _ _ _ _ _ _ _ _ _ _ c.in-Ok.ensures.ok c.carry_out.ensures.later_sink c.tell-in-Err.ensures.later
+    (λ other. c.in-Err.ensures.sink_steady (not_told _ _ c.in-Err.fault WriteFault c.tell-in-Err.ensures.status other))
     c.in-Err.fault _ c.in-Err.ensures.err c.tell-in-Err.ensures.status c.tell-in-Err.ensures.told
 
 pub returns-in-Err-clause-unread : goal.returns-in-Err-clause-unread
