@@ -206,8 +206,8 @@ module _ (bytes : ℕ) (s : CacheState) (x y : SeatView) (n : CallCounts) (step 
       let least = passes.more.gives in let most = passes.most.gives in omega arith
 
   -- what a request may cost
-  costs_state : Passes (request_costs bytes (y.view.moves - x.view.moves)) x.view y.view → Passes (request_costs bytes (y.view.moves - s.view.moves)) s.view y.view
-  costs_state = at_state (λ v. Passes (request_costs bytes (y.view.moves - v.moves)) v y.view) s x step.was
+  pub alloc_costs : Passes (request_costs bytes (y.view.moves - x.view.moves)) x.view y.view → Passes (request_costs bytes (y.view.moves - s.view.moves)) s.view y.view
+  alloc_costs = at_state (λ v. Passes (request_costs bytes (y.view.moves - v.moves)) v y.view) s x step.was
 
   uncut_state : (y.view.cuts ≡ x.view.cuts → HoldingRow (light_request bytes (y.view.moves - x.view.moves)) x y) → y.view.cuts ≡ s.view.cuts
       → Passes (light_request bytes (y.view.moves - s.view.moves)) s.view y.view
@@ -225,7 +225,7 @@ module _ (bytes : ℕ) (s : CacheState) (x y : SeatView) (n : CallCounts) (step 
     gives = no_gives passed;
     order = λ class least. at_state (λ v. IsFilledInOrder class v y.view) s x step.was (order class least);
     cached = λ class least. at_state (λ v. 1 ≤ length (of_class v.caches class) → Passes one_draw v y.view) s x step.was (λ some. (cached class least some).passes);
-    costs = costs_state passed;
+    costs = alloc_costs passed;
     uncut = uncut_state light;
     large = by_kind (answers_state (Ok b) answers);
   } where

@@ -106,8 +106,12 @@ module _ (b : Block) (s : CacheState) (x y : SeatView) (n : CallCounts) (step : 
   free_light (Ok r) light = λ cuts gives taken large. let few = free_cached light gives large in let d = few.most.draws in let l = few.more.losses in omega arith
   free_light (Err e) light = tt
 
+  -- what it costs, whatever it answers
+  pub free_costs : a ≡ most_free_costs → Passes most_free_costs s.view y.view
+  free_costs are = subst (λ (k : Costs). Passes k s.view y.view) are passes
+
   pub free_put : a ≡ most_free_costs → (result : Result ⊤ Stopped) → OnOk result (IsGivenBack b x.view y.view) → OnOk result (y.view.gives ≡ x.view.gives → y.view.large ≡ x.view.large → RowBut (IsHeldOutside x.view b) light_free_costs x y) → OnOk result (IsPutBack b s.view y.view)
-  free_put are (Ok r) given light = let costs : Passes most_free_costs s.view y.view = subst (λ (k : Costs). Passes k s.view y.view) are passes in record { light = free_light (Ok r) light; cuts = let most = costs.most.cuts in let more = costs.more.cuts in omega arith; costs = costs; cached = free_cached light; given = at_state (λ v. IsGivenBack b v y.view) s x step.was given }
+  free_put are (Ok r) given light = let costs = free_costs are in record { light = free_light (Ok r) light; cuts = let most = costs.most.cuts in let more = costs.more.cuts in omega arith; costs = costs; cached = free_cached light; given = at_state (λ v. IsGivenBack b v y.view) s x step.was given }
   free_put are (Err e) given light = tt
 
 pub free_few : IsFew most_free_costs

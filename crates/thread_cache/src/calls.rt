@@ -1,6 +1,6 @@
 //! The calls of a seat that allocates by caches.
 
-ghost use Rattle.std.specs.Prelude.{◌≡◌, IfSome, IsNone, Err};
+ghost use Rattle.std.specs.Prelude.{◌≡◌, ◌-◌, ℕ, Contains, IfErr, IfOk, IfSome, IsNone, OnErr, OnOk, Err, Some};
 ghost use Rattle.heap_seat.specs.declared.fault.AllocFault.TheVariants.{Full};
 ghost use Rattle.heap_seat.specs.declared.fault.Looks.{Looks};
 
@@ -23,7 +23,15 @@ fn refusal_of(answer: &Result<Block, AllocFault>) -> Option<Looks>
 }
 
 impl<'a, C: Chance> HeapSeat for CacheSeat<'a, C> {
+    ghost use Rattle.heap_model.specs.Sizes.{span_of};
+    ghost use Rattle.heap_seat.specs.Alloc.{Allocates, FailsBy};
+    ghost use Rattle.heap_seat.specs.Calls.{IsLargeCall};
+    ghost use Rattle.heap_seat.specs.Free.{Frees, MayHaveFreed};
+    ghost use Rattle.heap_seat.specs.Tickets.{Stops};
+    ghost use Rattle.heap_seat.specs.Words.{KeepsOwn};
     ghost use Rattle.heap_rule.specs.Left.{MayBeLeft};
+    ghost use Rattle.seat_calls.specs.Requests.{most_free_costs, request_costs};
+    ghost use Rattle.seat_rows.specs.Rows.{Passes};
     ghost use Rattle.seat_view.specs.CacheState.{heap_view};
     ghost use Rattle.seat_view.proofs.HeldLemmas.{may_be_law, mixed_law, named_law, seat_law, stored_law};
     ghost use Rattle.thread_cache.specs.Keeps.{KeepsHeap};
@@ -42,7 +50,24 @@ impl<'a, C: Chance> HeapSeat for CacheSeat<'a, C> {
 
     ghost keeps = { KeepsHeap };
 
-    fn alloc(&mut self, bytes: u64) -> Result<Block, AllocFault> {
+    /// Beside what the trait says: what it may cost, also where it stops.
+    fn alloc(&mut self, bytes: u64) -> Result<Block, AllocFault>
+        ensures ok { IfOk result (λ b. Allocates bytes b
+            (heap_view self.old) (heap_view self.new)) }
+        ensures cause { IfErr result (λ fault. FailsBy bytes fault
+            (heap_view self.old) (heap_view self.new)) }
+        ensures room { OnOk result (IsServed bytes self.old.view self.new.view) }
+        ensures none { IfErr result (λ fault. (looks : Looks) → fault ≡ Full looks
+            → IsTurnedAway bytes looks self.old.view self.new.view) }
+        ensures unchanged { OnErr result (KeepsOwn (heap_view self.old) (heap_view self.new)) }
+        ensures counted { IsLargeCall (span_of bytes) (heap_view self.old) (heap_view self.new) }
+        ensures idle { (ticket : ℕ) → (heap_view self.old).stopped ≡ Some ticket
+            → self.new ≡ self.old }
+        ensures kept { KeepsHeap self.old self.new }
+        ensures costs { Passes
+            (request_costs bytes (self.new.view.moves - self.old.view.moves))
+            self.old.view self.new.view }
+    {
         self.check_running()?;
         self.seat.has_a_low_budget();
         self.seat.has_a_sound_state();
@@ -60,7 +85,20 @@ impl<'a, C: Chance> HeapSeat for CacheSeat<'a, C> {
         answer
     }
 
-    fn free(&mut self, b: Block) -> Result<(), Stopped> {
+    /// Beside what the trait says: what it may cost, also where it stops. It cuts nothing.
+    fn free(&mut self, b: Block) -> Result<(), Stopped>
+        requires { Contains (heap_view self.old).held b }
+        ensures ok { OnOk result (Frees b (heap_view self.old) (heap_view self.new)) }
+        ensures given { OnOk result (IsPutBack b self.old.view self.new.view) }
+        ensures stopped { IfErr result (λ e. Stops e.step
+            (heap_view self.old) (heap_view self.new)) }
+        ensures others { MayHaveFreed b (heap_view self.old) (heap_view self.new) }
+        ensures counted { IsLargeCall 0 (heap_view self.old) (heap_view self.new) }
+        ensures idle { (ticket : ℕ) → (heap_view self.old).stopped ≡ Some ticket
+            → self.new ≡ self.old }
+        ensures kept { KeepsHeap self.old self.new }
+        ensures costs { Passes most_free_costs self.old.view self.new.view }
+    {
         self.check_running()?;
         self.seat.has_a_low_budget();
         self.seat.has_a_sound_state();

@@ -1,6 +1,6 @@
-use Rattle.std.proofs.Common.{◌+◌, ◌-◌, ap, arith, refl, sym, ◌∙◌}
+use Rattle.std.proofs.Common.{◌+◌, ap, arith, refl, sym, ◌∙◌}
 use Rattle.seat_view.specs.CacheState.{CacheState}
-use Rattle.thread_cache.proofs.AllocLemmas.{alloc_between, alloc_none, alloc_ok, alloc_paid, alloc_room, full_cause, full_counts_then, full_step, request_few, stop_cause}
+use Rattle.thread_cache.proofs.AllocLemmas.{alloc_between, alloc_costs, alloc_none, alloc_ok, alloc_paid, alloc_room, full_cause, full_counts_then, full_step, request_few, stop_cause}
 use Rattle.thread_cache.proofs.CallLemmas.{next_low}
 use Rattle.thread_cache.proofs.LargeLemmas.{large_counted, large_counts_then, large_keeps, large_refused, large_step}
 use Rattle.thread_cache.proofs.calls.CacheSeatHeapSeat.alloc.Goals as goal
@@ -86,3 +86,9 @@ returns-in-None-clause-none g c = alloc_none c.args.bytes c.args.self.now c.self
 pub returns-in-None-clause-cause : goal.returns-in-None-clause-cause
 returns-in-None-clause-cause g c = stop_cause c.args.bytes c.args.self.now c.self.inside.seat c.alloc-answer.new.seat _ (large_step _ c.args.self.now c.self.view_is c.self.inside.seat c.alloc-answer.new.seat refl refl c.has_a_sound_state-2.ensures c.in_ok-check_running.ensures.ok) c.has_a_sound_state.ensures c.alloc-answer.ensures.drew c.alloc-answer.result (c.in-None.ensures.none refl) c.alloc-answer.ensures.answers
     (c.alloc-answer.ensures.row.passes.setup ∙ ap (λ (s : CacheState). s.view.setup) c.self.view_is) (record { count = ap (λ (s : CacheState). s.refusals) c.self.view_is; bytes = ap (λ (s : CacheState). s.refused_bytes) c.self.view_is; looks = ap (λ (s : CacheState). s.refused_looks) c.self.view_is })
+
+pub returns-in-Some-clause-costs : goal.returns-in-Some-clause-costs
+returns-in-Some-clause-costs g c = alloc_costs c.args.bytes c.args.self.now c.self.inside.seat c.alloc-answer.new.seat _ (full_step _ c.args.self.now c.self.view_is c.args.bytes c.in-Some.looks c.self.inside.seat c.alloc-answer.new.seat refl refl c.has_a_sound_state-2.ensures c.in_ok-check_running.ensures.ok) c.has_a_sound_state.ensures c.alloc-answer.ensures.drew c.alloc-answer.ensures.row.passes
+
+pub returns-in-None-clause-costs : goal.returns-in-None-clause-costs
+returns-in-None-clause-costs g c = alloc_costs c.args.bytes c.args.self.now c.self.inside.seat c.alloc-answer.new.seat _ (large_step _ c.args.self.now c.self.view_is c.self.inside.seat c.alloc-answer.new.seat refl refl c.has_a_sound_state-2.ensures c.in_ok-check_running.ensures.ok) c.has_a_sound_state.ensures c.alloc-answer.ensures.drew c.alloc-answer.ensures.row.passes

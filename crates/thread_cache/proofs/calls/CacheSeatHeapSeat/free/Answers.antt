@@ -1,7 +1,7 @@
 use Rattle.std.proofs.Common.{ap, arith, refl, sym, ◌∙◌}
 use Rattle.seat_view.specs.CacheState.{CacheState}
 use Rattle.thread_cache.proofs.CallLemmas.{next_low}
-use Rattle.thread_cache.proofs.FreeLemmas.{free_between, free_few, free_ok, free_others, free_paid, free_put, held_block}
+use Rattle.thread_cache.proofs.FreeLemmas.{free_between, free_costs, free_few, free_ok, free_others, free_paid, free_put, held_block}
 use Rattle.thread_cache.proofs.LargeLemmas.{large_counted, large_counts_then, large_keeps, large_step, large_stops}
 use Rattle.thread_cache.proofs.calls.CacheSeatHeapSeat.free.Goals as goal
 
@@ -47,3 +47,6 @@ returns-clause-kept g c = (
   large_keeps c.args.self.now c.self.inside.seat c.free-answer.new.seat _ (large_step _ c.args.self.now c.self.view_is c.self.inside.seat c.free-answer.new.seat refl refl c.has_a_sound_state-2.ensures c.in_ok-check_running.ensures.ok) c.free-answer.ensures.row.passes free_few
       (free_paid c.args.b c.self.inside.seat c.free-answer.new.seat (ap (λ (s : CacheState). s.view.stopped) c.self.view_is ∙ c.in_ok-check_running.ensures.ok) c.free-answer.ensures.row.passes c.free-answer.result c.free-answer.ensures.freed c.free-answer.ensures.may c.free-answer.ensures.stopped c.free-answer.ensures.light),
 )
+
+pub returns-clause-costs : goal.returns-clause-costs
+returns-clause-costs g c = free_costs c.args.b c.args.self.now c.self.inside.seat c.free-answer.new.seat _ (large_step _ c.args.self.now c.self.view_is c.self.inside.seat c.free-answer.new.seat refl refl c.has_a_sound_state-2.ensures c.in_ok-check_running.ensures.ok) c.has_a_sound_state.ensures c.free-answer.ensures.drew c.free-answer.ensures.row (record { count = ap (λ (s : CacheState). s.refusals) c.self.view_is; bytes = ap (λ (s : CacheState). s.refused_bytes) c.self.view_is; looks = ap (λ (s : CacheState). s.refused_looks) c.self.view_is }) refl
