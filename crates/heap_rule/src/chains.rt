@@ -10,7 +10,7 @@
 //! there are, and the new anchor and the link of the batch depend on these alone. The chain behind
 //! it is read after the exchange, and not before.
 
-ghost use Rattle.std.specs.Prelude.{◌≡◌, ◌≢◌, ◌<◌, ◌≤◌, ◌+◌, ◌-◌, ◌/◌, ℕ, drop, length, Some};
+ghost use Rattle.std.specs.Prelude.{◌≡◌, ◌≢◌, ◌<◌, ◌≤◌, ◌+◌, ◌-◌, ◌/◌, ℕ, drop, length, None, Some};
 ghost use Rattle.heap_model.specs.Geometry.{start_word};
 ghost use Rattle.heap_model.specs.Sizes.{words_of_class, blocks_of};
 ghost use Rattle.heap_model.specs.Words.{anchor_state, anchor_count};
@@ -159,10 +159,14 @@ fn anchor_with_batch(
 ) -> Option<u64>
     requires d { d < geometry.capacity }
     requires first { IsCutBlock geometry.capacity class.number d batch.first }
-    ensures { anchor_state anchor ≢ 3 → batch.count + anchor_count anchor ≤ blocks_of class.number
+    ensures given { anchor_state anchor ≢ 3
+        → batch.count + anchor_count anchor ≤ blocks_of class.number
         → result ≡ Some (given_anchor anchor
         ((batch.first - start_word geometry.capacity d) / words_of_class class.number)
         batch.count (blocks_of class.number)) }
+    ensures no_anchor { anchor_state anchor ≡ 3 → result ≡ None }
+    ensures no_room { blocks_of class.number < batch.count + anchor_count anchor
+        → result ≡ None }
 {
     let all = blocks_of(class.number);
     let old = unpack(anchor)?;

@@ -13,6 +13,6 @@ anchor_after_give-requires-clause-first c =
 pub anchor_after_give-requires-clause-all : goal.anchor_after_give-requires-clause-all
 anchor_after_give-requires-clause-all c = let e = c.blocks_of-all.ensures in let few = few_blocks c.args.class.number c.args.class.is in omega arith
 
-pub returns : goal.returns
-returns c = λ state room.
+pub returns-clause-given : goal.returns-clause-given
+returns-clause-given c = λ state room.
     ap Some (c.anchor_after_give.ensures ∙ ap₂ (λ i n. given_anchor c.args.anchor i c.args.batch.count n) (ap₂ (λ s n. (c.args.batch.first - s) / n) c.start.ensures c.block_words.ensures.words) c.blocks_of-all.ensures)

@@ -60,7 +60,7 @@ exchange_seen-requires-clause-exchange c =
     let is = ap seen_word (c.self.invariant.seat.kept.notes_are.seen_anchor ∙ ap snapshot c.in-Some.is) in
     let word = c.in-Some.anchor.word in let batch = c.self.inside.notes.batch in
     let given = subst (λ (n : ℕ). anchor_state word ≢ 3 → batch.count + anchor_count word ≤ blocks_of n
-    → c.anchor_with_batch-given.result ≡ Some (given_anchor word ((batch.first - start_word c.self.inside.geometry.capacity c.args.d) / words_of_class n) batch.count (blocks_of n))) c.new-class.ensures c.anchor_with_batch-given.ensures in
+    → c.anchor_with_batch-given.result ≡ Some (given_anchor word ((batch.first - start_word c.self.inside.geometry.capacity c.args.d) / words_of_class n) batch.count (blocks_of n))) c.new-class.ensures c.anchor_with_batch-given.ensures.given in
     give_exchange c.self.inside.notes (view_in c.self.inside.table_seat.me.0) c.args.d c.in-Some.anchor.word c.unwrap_or-new.result c.self.invariant.seat.kept can.shown can.ticket is
     (λ state room. c.unwrap_or-new.ensures ∙ ap (λ o. unwrap_or o c.in-Some.anchor.word) (given state room) ∙ ap (λ n. given_anchor c.in-Some.anchor.word ((c.self.inside.notes.batch.first - start_word n c.args.d) / words_of_class c.self.inside.notes.batch.class) c.self.inside.notes.batch.count (blocks_of c.self.inside.notes.batch.class)) c.self.invariant.seat.capacity_is)
 
