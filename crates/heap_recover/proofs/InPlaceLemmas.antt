@@ -8,7 +8,7 @@ use Rattle.line_memory.specs.View.{View, volatile_at, durable_at, IsPending, IsS
 use Rattle.line_memory.specs.Crash.{AddsNothing}
 use Rattle.line_memory.specs.Steps.{Takes, Refuses, after_draw, IsStore, IsWriteBack, IsFence}
 use Rattle.line_memory.proofs.CallerLemmas.{store_leaves, write_back_adds, fence_adds, refused_adds, refused_stopped, contains_or_not, draw_adds}
-use Rattle.heap_recover.specs.InPlace.{differences, HoldsDurably, IsBetween, IsStoredTo, IsStoppedBetween, IsStoppedAt, Differ}
+use Rattle.heap_recover.specs.InPlace.{differences, changed_lines, HoldsDurably, IsBetween, IsStoredTo, IsStoppedBetween, IsStoppedAt, Differ}
 
 plus_none : (n : ℕ) → n + 0 ≡ n
 plus_none n = omega arith
@@ -41,6 +41,51 @@ differ_along old new from (suc count) =
 pub differ_from : (old new : Image) (from to : ℕ) → from ≤ to → differences old new from ≤ differences old new to
 differ_from old new from to low =
     subst (λ k. differences old new from ≤ differences old new k) {x = from + (to - from)} {y = to} (omega arith) (differ_along old new from (to - from))
+
+-- and where none differs, the count stays
+pub none_differ : (old new : List ℕ) (from to : ℕ) → from ≤ to → (Differ old new from to → ⊥)
+    → differences (slice_index old) (slice_index new) to ≡ differences (slice_index old) (slice_index new) from
+none_differ old new from to low none =
+    elim (cases_lt (differences (slice_index old) (slice_index new) from) (differences (slice_index old) (slice_index new) to)) as
+    (λ _. differences (slice_index old) (slice_index new) to ≡ differences (slice_index old) (slice_index new) from) [
+      | inl more ↦ absurd (none more)
+      | inr few ↦ let rises = differ_from (slice_index old) (slice_index new) from to low in omega arith
+    ]
+
+-- a line more is a changed line more where a word of it differs, and else not
+line_next : (old new : Image) (line : ℕ) → changed_lines old new (line + 1) ≡ changed_lines old new line
+    + cond (nat_eq (differences old new (8 * line + 8)) (differences old new (8 * line))) 0 1
+line_next old new line = ap (changed_lines old new) {x = line + 1} {y = suc line} (omega arith)
+
+pub line_more : (old new : Image) (line : ℕ) → differences old new (8 * line) < differences old new (8 * line + 8)
+    → changed_lines old new (line + 1) ≡ changed_lines old new line + 1
+line_more old new line more = line_next old new line ∙ ap (λ t. changed_lines old new line + cond t 0 1)
+    (ne_eqb (differences old new (8 * line + 8)) (differences old new (8 * line)) (λ same. omega arith))
+
+pub line_none : (old new : Image) (line : ℕ) → differences old new (8 * line + 8) ≡ differences old new (8 * line)
+    → changed_lines old new (line + 1) ≡ changed_lines old new line
+line_none old new line same = line_next old new line ∙ ap (λ t. changed_lines old new line + cond t 0 1)
+    (eq-eqb (differences old new (8 * line + 8)) (differences old new (8 * line)) same)
+    ∙ plus_none (changed_lines old new line)
+
+line_rises : (old new : Image) (line : ℕ) → changed_lines old new line ≤ changed_lines old new (line + 1)
+line_rises old new line = elim (cases_eq (differences old new (8 * line + 8)) (differences old new (8 * line))) as
+    (λ _. changed_lines old new line ≤ changed_lines old new (line + 1)) [
+      | inl same ↦ let e = line_none old new line same in omega arith
+      | inr other ↦ let low = differ_from old new (8 * line) (8 * line + 8) (omega arith) in
+          let e = line_more old new line (omega arith) in omega arith
+    ]
+
+lines_along : (old new : Image) (from count : ℕ) → changed_lines old new from ≤ changed_lines old new (from + count)
+lines_along old new from zero = subst (λ k. changed_lines old new from ≤ changed_lines old new k) {x = from} {y = from + zero} (omega arith) (omega arith)
+lines_along old new from (suc count) =
+    let so_far = lines_along old new from count in
+    let rises = line_rises old new (from + count) in
+    subst (λ k. changed_lines old new from ≤ changed_lines old new k) {x = from + count + 1} {y = from + suc count} (omega arith) (omega arith)
+
+pub lines_from : (old new : Image) (from to : ℕ) → from ≤ to → changed_lines old new from ≤ changed_lines old new to
+lines_from old new from to low =
+    subst (λ k. changed_lines old new from ≤ changed_lines old new k) {x = from + (to - from)} {y = to} (omega arith) (lines_along old new from (to - from))
 
 -- where the count stays over a range, no word of it differs
 pub same_there : (old new : Image) (from to word : ℕ) → differences old new to ≤ differences old new from → from ≤ word → word < to
@@ -263,8 +308,8 @@ write_back_draws line v w takes = takes.done.tickets.drawn
 fence_draws : (v w : View) → Takes IsFence v w → w.drawn ≡ v.drawn + 1
 fence_draws v w takes = takes.done.tickets.drawn
 
-pub fence_drew : (least : ℕ) (v u w : View) → v.drawn + least ≤ u.drawn → Takes IsFence u w → v.drawn + (1 + least) ≤ w.drawn
-fence_drew least v u w before takes = let draws = fence_draws u w takes in omega arith
+pub fence_drew : (steps : ℕ) (v u w : View) → u.drawn + 1 ≡ v.drawn + steps → Takes IsFence u w → w.drawn ≡ v.drawn + steps
+fence_drew steps v u w before takes = fence_draws u w takes ∙ before
 
 pub fence_within : (v u w : View) → u.budget ≡ v.budget → Takes IsFence u w → w.drawn ≤ v.budget
 fence_within v u w same takes = let draws = fence_draws u w takes in let allowed = takes.allowed in omega arith

@@ -1,5 +1,5 @@
 -- Recovery made in place, word by word: what it asks for, and what stands of the image wherever it ends.
-use Rattle.std.specs.Prelude.{◌≡◌, ◌≢◌, ◌↔◌, ◌⊎◌, ℕ, zero, suc, ◌+◌, ◌*◌, ◌<◌, ◌≤◌, cond, nat_eq, List, length, slice_index, Option, Some}
+use Rattle.std.specs.Prelude.{◌≡◌, ◌≢◌, ◌↔◌, ◌⊎◌, ℕ, zero, suc, ◌+◌, ◌*◌, ◌/◌, ◌<◌, ◌≤◌, cond, nat_eq, List, length, slice_index, Option, Some}
 use Rattle.heap_model.specs.declared.block.Block.{Block}
 use Rattle.heap_model.specs.Geometry.{roots, root_word, state_word, clean, dirty}
 use Rattle.heap_model.specs.Header.{IsWellFormed, HasKindsBelow, capacity_of, kinds_of}
@@ -15,6 +15,16 @@ use Rattle.line_memory.specs.View.{View, word_count, volatile_at, durable_at, Is
 abbrev pub differences : Image → Image → ℕ → ℕ
 differences old new zero = 0
 differences old new (suc n) = differences old new n + cond (nat_eq (old n) (new n)) 0 1
+
+-- of their first lines, how many have a word that differs
+abbrev pub changed_lines : Image → Image → ℕ → ℕ
+changed_lines old new zero = 0
+changed_lines old new (suc line) = changed_lines old new line
+    + cond (nat_eq (differences old new (8 * line + 8)) (differences old new (8 * line))) 0 1
+
+-- the steps that make the one image the other, of so many words: a store of each word that differs, a write-back of each such line, a fence
+abbrev pub steps_between : Image → Image → ℕ → ℕ
+steps_between old new words = 1 + (differences old new words + changed_lines old new (words / 8))
 
 -- the heap of these words and held blocks is what recovery makes of the image, whose kinds of roots are below the limit
 pub record IsRecoveryOf (limit : Option ℕ) (old : List ℕ) (links : Links) (new : List ℕ) (held : List Block) : Type 0 where

@@ -4,5 +4,6 @@ pub mod Rebuilt
 pub mod Fault
 pub mod Answer
 pub mod InPlace
+pub mod InPlaceExamples
 pub mod Superblock
 pub mod SuperblockExamples

@@ -5,7 +5,7 @@ ghost use Rattle.heap_model.specs.Geometry.{roots};
 ghost use Rattle.heap_model.specs.Image.{Image};
 ghost use Rattle.heap_model.specs.Durability.{Mixes, IsCrashImage};
 ghost use Rattle.line_memory.specs.View.{View, word_count};
-ghost use Rattle.heap_recover.specs.InPlace.{differences, HoldsDurably, IsRecoveryOf, RecoversAlike, IsBetween, IsStoredTo, IsStoppedBetween, IsStoppedAt, Differ};
+ghost use Rattle.heap_recover.specs.InPlace.{differences, steps_between, HoldsDurably, IsRecoveryOf, RecoversAlike, IsBetween, IsStoredTo, IsStoppedBetween, IsStoppedAt, Differ};
 
 use filter_trace::Filter;
 use line_memory::{LineMemory, Stopped};
@@ -34,8 +34,8 @@ fn store_line<M: LineMemory>(
         ≡ (M.view memory.old).drawn
         + differences (slice_index old.now) (slice_index new.now) (8 * line + 8)) }
     ensures cut_off { IfErr result (λ e. IsStoppedBetween old.now new.now
-        (1 + (differences (slice_index old.now) (slice_index new.now) (8 * line + 8)
-        - differences (slice_index old.now) (slice_index new.now) (8 * line))) e.step
+        (differences (slice_index old.now) (slice_index new.now) (8 * line + 8)
+        - differences (slice_index old.now) (slice_index new.now) (8 * line)) e.step
         (M.view memory.old) (M.view memory.new)) }
 {
     let mut some = false;
@@ -57,13 +57,10 @@ fn store_differences<M: LineMemory>(memory: &mut M, old: &[u64], new: &[u64]) ->
     ensures ok { OnOk result
         (IsStoredTo old.now new.now (length old.now) (length old.now) (M.view memory.new)) }
     ensures budget { (M.view memory.new).budget ≡ (M.view memory.old).budget }
-    ensures drawn { OnOk result ((M.view memory.new).drawn ≤ (M.view memory.old).drawn
-        + 2 * differences (slice_index old.now) (slice_index new.now) (length old.now)) }
-    ensures drew { OnOk result ((M.view memory.old).drawn
-        + differences (slice_index old.now) (slice_index new.now) (length old.now)
-        ≤ (M.view memory.new).drawn) }
+    ensures drawn { OnOk result ((M.view memory.new).drawn + 1 ≡ (M.view memory.old).drawn
+        + steps_between (slice_index old.now) (slice_index new.now) (length old.now)) }
     ensures cut_off { IfErr result (λ e. IsStoppedBetween old.now new.now
-        (1 + 2 * differences (slice_index old.now) (slice_index new.now) (length old.now)) e.step
+        (steps_between (slice_index old.now) (slice_index new.now) (length old.now)) e.step
         (M.view memory.old) (M.view memory.new)) }
 {
     for line in 0..old.len() / LINE {
@@ -80,15 +77,14 @@ fn store_image<M: LineMemory>(memory: &mut M, old: &[u64], new: &[u64]) -> Resul
     requires whole { 8 * (length old.now / 8) ≡ length old.now }
     requires before { HoldsDurably old.now (M.view memory.old) }
     ensures ok { OnOk result (HoldsDurably new.now (M.view memory.new)) }
-    ensures stopped { IfErr result (λ e. IsStoppedAt (1 + 2 * differences (slice_index old.now)
+    ensures stopped { IfErr result (λ e. IsStoppedAt (steps_between (slice_index old.now)
         (slice_index new.now) (length old.now)) e.step (M.view memory.old) (M.view memory.new)) }
     ensures between { IsBetween old.now new.now (M.view memory.new) }
     ensures budget { (M.view memory.new).budget ≡ (M.view memory.old).budget }
     ensures drawn { (M.view memory.new).drawn ≤ (M.view memory.old).drawn
-        + (1 + 2 * differences (slice_index old.now) (slice_index new.now) (length old.now)) }
-    ensures drew { OnOk result ((M.view memory.old).drawn
-        + (1 + differences (slice_index old.now) (slice_index new.now) (length old.now))
-        ≤ (M.view memory.new).drawn) }
+        + steps_between (slice_index old.now) (slice_index new.now) (length old.now) }
+    ensures drew { OnOk result ((M.view memory.new).drawn ≡ (M.view memory.old).drawn
+        + steps_between (slice_index old.now) (slice_index new.now) (length old.now)) }
     ensures within { OnOk result ((M.view memory.new).drawn ≤ (M.view memory.old).budget) }
 {
     store_differences(memory, old, new)?;
@@ -114,17 +110,16 @@ pub fn rebuild<M: LineMemory, F: Filter>(
     requires recovered { IsRecoveryOf (Some F.KINDS) x.now (F.links_of filter.now) to.now.words
         to.now.held }
     ensures ok { OnOk result (HoldsDurably to.now.words (M.view memory.new)) }
-    ensures stopped { IfErr result (λ e. IsStoppedAt (1 + 2 * differences (slice_index x.now)
+    ensures stopped { IfErr result (λ e. IsStoppedAt (steps_between (slice_index x.now)
         (slice_index to.now.words) (length x.now)) e.step (M.view memory.old) (M.view memory.new)) }
     ensures budget { (M.view memory.new).budget ≡ (M.view memory.old).budget }
     ensures drawn { (M.view memory.new).drawn ≤ (M.view memory.old).drawn
-        + (1 + 2 * differences (slice_index x.now) (slice_index to.now.words) (length x.now)) }
+        + steps_between (slice_index x.now) (slice_index to.now.words) (length x.now) }
 
-    // Done, it drew a ticket at least for each word that it changed and one for the fence, all of
-    // them below the budget.
-    ensures drew { OnOk result ((M.view memory.old).drawn
-        + (1 + differences (slice_index x.now) (slice_index to.now.words) (length x.now))
-        ≤ (M.view memory.new).drawn) }
+    // Done, it drew a ticket for each word that it changed, for each of their lines and for the
+    // fence, all of them below the budget.
+    ensures drew { OnOk result ((M.view memory.new).drawn ≡ (M.view memory.old).drawn
+        + steps_between (slice_index x.now) (slice_index to.now.words) (length x.now)) }
     ensures within { OnOk result ((M.view memory.new).drawn ≤ (M.view memory.old).budget) }
 
     // At every exit each word is that of the image or of the heap, and recovery begun again keeps

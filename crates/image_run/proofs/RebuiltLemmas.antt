@@ -7,7 +7,7 @@ use Rattle.heap_model.specs.Image.{Image}
 use Rattle.heap_model.specs.Durability.{Mixes, IsCrashImage, IsTransient}
 use Rattle.heap_model.specs.Recovery.{in_header}
 use Rattle.heap_model.proofs.HeaderLemmas.{no_fault}
-use Rattle.heap_recover.specs.InPlace.{differences, IsRecoveryOf, RecoversAlike, IsBetween, HoldsDurably, IsStoppedAt}
+use Rattle.heap_recover.specs.InPlace.{steps_between, IsRecoveryOf, RecoversAlike, IsBetween, HoldsDurably, IsStoppedAt}
 use Rattle.line_memory.specs.View.{View}
 use Rattle.dict_model.specs.Links.{dict_links, kind_count}
 use Rattle.worker_run.specs.Left.{AreWholeImage}
@@ -38,7 +38,7 @@ module _ (old new : List ℕ) (held : List Block) (is : IsRecoveryOf (Some kind_
 
   -- it was done
   pub rebuilt_done : (budget : ℕ) (now : List ℕ) (v w : View) → w.volatile ≡ now → HoldsDurably new w → v.budget ≡ budget → v.drawn ≡ 0
-      → v.drawn + (1 + differences (slice_index old) (slice_index new) (length old)) ≤ w.drawn → w.drawn ≤ v.budget
+      → w.drawn ≡ v.drawn + steps_between (slice_index old) (slice_index new) (length old) → w.drawn ≤ v.budget
       → ((image : Image) → Mixes (slice_index w.volatile) (slice_index w.durable) image → RecoversAlike (Some kind_count) (8 * length old) (slice_index old) image dict_links)
       → IsRebuilt (slice_index old) (length old) budget false now
   rebuilt_done budget now v w now_is has limit none drew below mixed =
@@ -57,7 +57,7 @@ module _ (old new : List ℕ) (held : List Block) (is : IsRecoveryOf (Some kind_
 
   -- it was stopped, and the image is one that a crash leaves
   pub rebuilt_cut : (budget ticket : ℕ) (kept left : List ℕ) (v w : View) → w.durable ≡ kept → IsBetween old new w → v.budget ≡ budget → v.drawn ≡ 0
-      → IsStoppedAt (1 + 2 * differences (slice_index old) (slice_index new) (length old)) ticket v w
+      → IsStoppedAt (steps_between (slice_index old) (slice_index new) (length old)) ticket v w
       → ((image : Image) → IsCrashImage (slice_index w.durable) image → RecoversAlike (Some kind_count) (8 * length old) (slice_index old) image dict_links)
       → IsCrashImage (slice_index kept) (slice_index left) → length left ≡ length kept → length w.durable ≡ length w.volatile
       → IsRebuilt (slice_index old) (length old) budget true left

@@ -6,14 +6,14 @@ use Rattle.heap_model.specs.Image.{Image, bytes_of_words}
 use Rattle.heap_model.specs.Durability.{IsTransient}
 use Rattle.heap_model.specs.Recovery.{IsRecovered}
 use Rattle.region_header.specs.Words.{AreWordsOf}
-use Rattle.heap_recover.specs.InPlace.{differences, RecoversAlike}
+use Rattle.heap_recover.specs.InPlace.{steps_between, RecoversAlike}
 use Rattle.dict_model.specs.Links.{dict_links, kind_count}
 use Rattle.trace_text.specs.Report.{line_feed}
 use Rattle.image_run.specs.Reporting.{IsKept, TellsHeap}
 
 -- The words that are left of an image of so many words, made the words of its recovery within a budget: all of them where that was
 -- not stopped, and else each the old or the new one, but those that a crash leaves with any value. Recovery of them keeps the same.
--- Where it was not stopped, the budget allowed a step for each word that is changed and one for the fence.
+-- It was stopped exactly where the budget has fewer steps than that takes: a store for each word that is changed, a write-back for each of their lines, and a fence.
 pub record IsRebuilt (image : Image) (count budget : ℕ) (stopped : Bool) (left : List ℕ) : Type 0 where
   pub new : List ℕ
   pub recovered : IsRecovered image (slice_index new) (IsKept image)
@@ -21,8 +21,8 @@ pub record IsRebuilt (image : Image) (count budget : ℕ) (stopped : Bool) (left
   pub alike : RecoversAlike (Some kind_count) (8 * count) image (slice_index left) dict_links
   pub state : slice_index left state_word ≡ dirty
   pub done : stopped ≡ false → left ≡ new
-  pub within : stopped ≡ false → differences image (slice_index new) count < budget
-  pub cause : stopped ≡ true → budget ≤ 2 * differences image (slice_index new) count
+  pub within : stopped ≡ false → steps_between image (slice_index new) count ≤ budget
+  pub cause : stopped ≡ true → budget < steps_between image (slice_index new) count
   pub others : (word : ℕ) → word ≢ state_word → (IsTransient (capacity_of image) word → ⊥)
       → (slice_index left word ≡ image word) ⊎ (slice_index left word ≡ slice_index new word)
 

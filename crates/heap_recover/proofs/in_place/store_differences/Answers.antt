@@ -1,7 +1,7 @@
-use Rattle.std.proofs.Common.{◌∙◌, ◌≡◌, ◌+◌, ◌-◌, ◌*◌, ◌≤◌, length, slice_index, subst, sym, ap, arith}
+use Rattle.std.proofs.Common.{◌∙◌, ◌≡◌, ◌+◌, ◌-◌, ◌*◌, ◌/◌, length, slice_index, subst, sym, ap, arith}
 use Rattle.std.proofs.lemmas.Result.{err_from_is_err_and}
-use Rattle.heap_recover.specs.InPlace.{differences, IsStoredTo}
-use Rattle.heap_recover.proofs.InPlaceLemmas.{line_written, line_same, write_back_draws, write_back_budget, refused_cut, cut_later, differ_from}
+use Rattle.heap_recover.specs.InPlace.{Differ, differences, changed_lines, steps_between, IsStoredTo}
+use Rattle.heap_recover.proofs.InPlaceLemmas.{line_written, line_same, line_more, line_none, lines_from, none_differ, write_back_draws, write_back_budget, refused_cut, cut_later, differ_from}
 use Rattle.heap_recover.proofs.in_place.store_differences.Goals as goal
 use Rattle.heap_recover.proofs.in_place.store_differences.Goals.{then-branch+in_ok-write_back, else-branch}
 
@@ -13,7 +13,8 @@ returns-in_err-store_line-clause-cut_off g c =
     let drawn = c.loop-line.invariant.drawn in
     let first = differ_from old new (8 * c.loop-line.line) (8 * c.loop-line.line + 8) (omega arith) in
     let rest = differ_from old new (8 * c.loop-line.line + 8) (length c.args.old.now) (omega (arith, c.loop-line-test.true)) in
-    let cut = cut_later c.args.old.now c.args.new.now (1 + (differences old new (8 * c.loop-line.line + 8) - differences old new (8 * c.loop-line.line))) (1 + 2 * differences old new (length c.args.old.now))
+    let lines = lines_from old new c.loop-line.line (length c.args.old.now / 8) (omega (arith, c.loop-line-test.true)) in
+    let cut = cut_later c.args.old.now c.args.new.now (differences old new (8 * c.loop-line.line + 8) - differences old new (8 * c.loop-line.line)) (steps_between old new (length c.args.old.now))
     c.in_err-store_line.field-0.0.step (view c.args.memory.now) (view c.loop-line.memory) (view c.store_line.new.memory) c.in_err-store_line.ensures.cut_off c.loop-line.invariant.budget (omega arith) in
     let p = err_from_is_err_and c.from_residual.result c.from_residual.ensures.1 in
     rw (p.1, p.2) cut
@@ -27,7 +28,8 @@ returns-in_err-write_back-clause-cut_off g c =
     let drawn = c.in_ok-store_line.ensures.drawn in
     let some = c.in_ok-store_line.ensures.some.0 c.if-branch.true in
     let rest = differ_from old new (8 * c.loop-line.line + 8) (length c.args.old.now) (omega (arith, c.loop-line-test.true)) in
-    let cut = refused_cut c.args.old.now c.args.new.now (8 * c.loop-line.line) (8 * c.loop-line.line + 8) (1 + 2 * differences old new (length c.args.old.now))
+    let lines = lines_from old new c.loop-line.line (length c.args.old.now / 8) (omega (arith, c.loop-line-test.true)) in
+    let cut = refused_cut c.args.old.now c.args.new.now (8 * c.loop-line.line) (8 * c.loop-line.line + 8) (steps_between old new (length c.args.old.now))
     (view c.args.memory.now) (view c.store_line.new.memory) (view c.write_back.new.self) c.in_err-write_back.field-0.0.step c.in_ok-store_line.ensures.ok
     c.in_err-write_back.ensures.stopped (c.store_line.ensures.budget ∙ c.loop-line.invariant.budget) (omega arith) in
     let p = err_from_is_err_and c.from_residual-in_err-write_back.result c.from_residual-in_err-write_back.ensures.1 in
@@ -39,7 +41,6 @@ loop-line-preserved g c =
     let old = slice_index c.args.old.now in
     let new = slice_index c.args.new.now in
     let before = c.loop-line.invariant.drawn in
-    let least = c.loop-line.invariant.drew in
     let below = c.loop-line-test.true in
     let drawn = c.in_ok-store_line.ensures.drawn in
     let next : 8 * c.loop-line.line + 8 ≡ 8 * (c.loop-line.line + 1) = omega arith in
@@ -50,29 +51,29 @@ loop-line-preserved g c =
           let draws = write_back_draws c.loop-line.line (view c.store_line.new.memory) (view w.write_back.new.self) w.in_ok-write_back.ensures.ok in
           let written = line_written c.args.old.now c.args.new.now (8 * c.loop-line.line) (8 * c.loop-line.line + 8) (view c.store_line.new.memory) c.in_ok-store_line.ensures.ok
           (view w.write_back.new.self) c.loop-line.line (omega arith) (omega arith) (omega arith) w.in_ok-write_back.ensures.ok in
-          let few : (view w.write_back.new.self).drawn ≤ (view c.args.memory.now).drawn + 2 * differences old new (8 * (c.loop-line.line + 1)) = omega arith in
-          let enough : (view c.args.memory.now).drawn + differences old new (8 * (c.loop-line.line + 1)) ≤ (view w.write_back.new.self).drawn = omega arith in
+          let more = line_more old new c.loop-line.line some in
+          let all : (view w.write_back.new.self).drawn ≡ (view c.args.memory.now).drawn + (differences old new (8 * (c.loop-line.line + 1)) + changed_lines old new (c.loop-line.line + 1)) = omega arith in
           record {
             high = omega arith;
             stored = subst (λ m. IsStoredTo c.args.old.now c.args.new.now (8 * (c.loop-line.line + 1)) (8 * (c.loop-line.line + 1)) (view m)) (sym w.memory-is)
                 (subst (λ n. IsStoredTo c.args.old.now c.args.new.now n n (view w.write_back.new.self)) next written);
             budget = ap (λ m. (view m).budget) w.memory-is ∙ write_back_budget c.loop-line.line (view c.store_line.new.memory) (view w.write_back.new.self) w.in_ok-write_back.ensures.ok
                 ∙ c.store_line.ensures.budget ∙ c.loop-line.invariant.budget;
-            drawn = subst (λ m. (view m).drawn ≤ (view c.args.memory.now).drawn + 2 * differences old new (8 * (c.loop-line.line + 1))) (sym w.memory-is) few;
-            drew = subst (λ m. (view c.args.memory.now).drawn + differences old new (8 * (c.loop-line.line + 1)) ≤ (view m).drawn) (sym w.memory-is) enough;
+            drawn = ap (λ m. (view m).drawn) w.memory-is ∙ all;
           }
       | else-branch w ↦
+          let same_words : Differ c.args.old.now c.args.new.now (8 * c.loop-line.line) (8 * c.loop-line.line + 8) → ⊥ =
+              λ differ. absurd (let some = c.in_ok-store_line.ensures.some.1 differ in let none = w.if-branch.false in absurd (cc)) in
           let kept = line_same c.args.old.now c.args.new.now (8 * c.loop-line.line) (8 * c.loop-line.line + 8) (view c.store_line.new.memory) c.in_ok-store_line.ensures.ok
-          (λ differ. absurd (let some = c.in_ok-store_line.ensures.some.1 differ in let none = w.if-branch.false in absurd (cc))) in
-          let first = differ_from old new (8 * c.loop-line.line) (8 * c.loop-line.line + 8) (omega arith) in
-          let few : (view c.store_line.new.memory).drawn ≤ (view c.args.memory.now).drawn + 2 * differences old new (8 * (c.loop-line.line + 1)) = omega arith in
-          let enough : (view c.args.memory.now).drawn + differences old new (8 * (c.loop-line.line + 1)) ≤ (view c.store_line.new.memory).drawn = omega arith in
+          same_words in
+          let stays = none_differ c.args.old.now c.args.new.now (8 * c.loop-line.line) (8 * c.loop-line.line + 8) (omega arith) same_words in
+          let none = line_none old new c.loop-line.line stays in
+          let all : (view c.store_line.new.memory).drawn ≡ (view c.args.memory.now).drawn + (differences old new (8 * (c.loop-line.line + 1)) + changed_lines old new (c.loop-line.line + 1)) = omega arith in
           record {
             high = omega arith;
             stored = subst (λ m. IsStoredTo c.args.old.now c.args.new.now (8 * (c.loop-line.line + 1)) (8 * (c.loop-line.line + 1)) (view m)) (sym w.memory-is)
                 (subst (λ n. IsStoredTo c.args.old.now c.args.new.now n n (view c.store_line.new.memory)) next kept);
             budget = ap (λ m. (view m).budget) w.memory-is ∙ c.store_line.ensures.budget ∙ c.loop-line.invariant.budget;
-            drawn = subst (λ m. (view m).drawn ≤ (view c.args.memory.now).drawn + 2 * differences old new (8 * (c.loop-line.line + 1))) (sym w.memory-is) few;
-            drew = subst (λ m. (view c.args.memory.now).drawn + differences old new (8 * (c.loop-line.line + 1)) ≤ (view m).drawn) (sym w.memory-is) enough;
+            drawn = ap (λ m. (view m).drawn) w.memory-is ∙ all;
           }
     ]

@@ -1,5 +1,5 @@
 use Rattle.std.specs.Prelude.{◌≡◌, ◌+◌, ◌*◌, ◌/◌, ◌≤◌, length, slice_index}
-use Rattle.heap_recover.specs.InPlace.{differences, IsStoredTo}
+use Rattle.heap_recover.specs.InPlace.{differences, changed_lines, IsStoredTo}
 use Rattle.heap_recover.proofs.in_place.store_differences.Given as goal
 
 abbrev pub invariant-loop-line : goal.invariant-loop-line
@@ -7,8 +7,6 @@ invariant-loop-line g l = record {
   high : l.line ≤ length l.old / 8;
   stored : IsStoredTo l.old l.new (8 * l.line) (8 * l.line) (g.M.LineMemory.view l.memory);
   budget : (g.M.LineMemory.view l.memory).budget ≡ (g.M.LineMemory.view l.initial.memory).budget;
-  drawn : (g.M.LineMemory.view l.memory).drawn ≤ (g.M.LineMemory.view l.initial.memory).drawn
-      + 2 * differences (slice_index l.old) (slice_index l.new) (8 * l.line);
-  drew : (g.M.LineMemory.view l.initial.memory).drawn + differences (slice_index l.old) (slice_index l.new) (8 * l.line)
-      ≤ (g.M.LineMemory.view l.memory).drawn;
+  drawn : (g.M.LineMemory.view l.memory).drawn ≡ (g.M.LineMemory.view l.initial.memory).drawn
+      + (differences (slice_index l.old) (slice_index l.new) (8 * l.line) + changed_lines (slice_index l.old) (slice_index l.new) l.line);
 }

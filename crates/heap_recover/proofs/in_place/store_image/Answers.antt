@@ -5,7 +5,7 @@ use Rattle.line_memory.specs.declared.memory.Stopped.{Stopped}
 use Rattle.line_memory.specs.Crash.{AddsNothing}
 use Rattle.line_memory.specs.Steps.{Refuses}
 use Rattle.line_memory.proofs.CallerLemmas.{at_both, fence_adds, refused_adds}
-use Rattle.heap_recover.specs.InPlace.{differences}
+use Rattle.heap_recover.specs.InPlace.{steps_between}
 use Rattle.heap_recover.proofs.InPlaceLemmas.{adds_between, fence_stores, fence_drew, fence_within}
 use Rattle.heap_recover.proofs.in_place.store_image.Goals as goal
 
@@ -31,8 +31,8 @@ returns-clause-drew g c =
     let view = g.M.LineMemory.view in
     let u = view c.store_differences.new.memory in
     let w = view c.fence.new.self in
-    on_ok_weaker c.fence.result (fence_drew (differences (slice_index c.args.old.now) (slice_index c.args.new.now) (length c.args.old.now)) (view c.args.memory.now) u w
-    c.in_ok-store_differences.ensures.drew) c.fence.ensures.ok
+    on_ok_weaker c.fence.result (fence_drew (steps_between (slice_index c.args.old.now) (slice_index c.args.new.now) (length c.args.old.now)) (view c.args.memory.now) u w
+    c.in_ok-store_differences.ensures.drawn) c.fence.ensures.ok
 
 pub returns-clause-within : goal.returns-clause-within
 returns-clause-within g c =

@@ -18,7 +18,7 @@ returns-in_err-store-clause-cut_off g c =
     let more = differ_more old new c.loop-word.word other in
     let first = differ_from old new (8 * c.args.line) c.loop-word.word low in
     let rest = differ_from old new (c.loop-word.word + 1) (8 * c.args.line + 8) (omega arith) in
-    let cut = refused_cut c.args.old.now c.args.new.now (8 * c.args.line) c.loop-word.word (1 + (differences old new (8 * c.args.line + 8) - differences old new (8 * c.args.line)))
+    let cut = refused_cut c.args.old.now c.args.new.now (8 * c.args.line) c.loop-word.word (differences old new (8 * c.args.line + 8) - differences old new (8 * c.args.line))
     (view c.args.memory.now) (view c.loop-word.memory) (view c.store.new.self) c.in_err-store.field-0.0.step i.stored c.in_err-store.ensures.stopped i.budget (omega arith) in
     let p = err_from_is_err_and c.from_residual.result c.from_residual.ensures.1 in
     rw (p.1, p.2) cut
