@@ -1,5 +1,5 @@
 -- Words stored one after the other over an image: how far they have come, and what stands where a call is refused.
-use Rattle.std.proofs.Common.{◌≡◌, ◌≢◌, ℕ, zero, suc, ◌+◌, ◌-◌, ◌*◌, ◌<◌, ◌≤◌, ◌⊎◌, inl, inr, List, [], ◌∷◌, length, slice_index, refl, sym, ap, subst, ◌∙◌, arith, cond, nat_eq, Some, get_or-set_same, get_or-set_other, length-set, eq-eqb, ne_eqb}
+use Rattle.std.proofs.Common.{◌≡◌, ◌≢◌, ℕ, zero, suc, ◌+◌, ◌-◌, ◌*◌, ◌<◌, ◌≤◌, ◌⊎◌, inl, inr, List, [], ◌∷◌, length, slice_index, refl, sym, ap, subst, ◌∙◌, arith, cond, nat_eq, get_or-set_same, get_or-set_other, length-set, eq-eqb, ne_eqb}
 use Rattle.std.proofs.lemmas.Bool.{cases_eq, cases_lt}
 use Rattle.std.proofs.lemmas.List.{get_or_past}
 use Rattle.std.specs.Prelude.{⊤}
@@ -8,7 +8,7 @@ use Rattle.line_memory.specs.View.{View, volatile_at, durable_at, IsPending, IsS
 use Rattle.line_memory.specs.Crash.{AddsNothing}
 use Rattle.line_memory.specs.Steps.{Takes, Refuses, after_draw, IsStore, IsWriteBack, IsFence}
 use Rattle.line_memory.proofs.CallerLemmas.{store_leaves, write_back_adds, fence_adds, refused_adds, refused_stopped, contains_or_not, draw_adds}
-use Rattle.heap_recover.specs.InPlace.{differences, changed_lines, HoldsDurably, IsBetween, IsStoredTo, IsStoppedBetween, IsStoppedAt, Differ}
+use Rattle.heap_recover.specs.InPlace.{differences, changed_lines, HasReached, HoldsDurably, IsBetween, IsStoredTo, IsStoppedBetween, IsStoppedAt, Differ}
 
 plus_none : (n : ℕ) → n + 0 ≡ n
 plus_none n = omega arith
@@ -110,6 +110,7 @@ none_stored old new v has = record {
   stored = λ word below. absurd (omega arith);
   rest = λ word past. ap (λ (xs : List ℕ). slice_index xs word) has.volatile;
   durable = λ word. inl (ap (λ (xs : List ℕ). slice_index xs word) has.durable);
+  kept = λ word past. ap (λ (xs : List ℕ). slice_index xs word) has.durable;
   settling = λ word below. absurd (omega arith);
 }
 
@@ -124,6 +125,7 @@ module _ (old new : List ℕ) (settled done : ℕ) (v : View) (so_far : IsStored
     ];
     rest = λ word past. so_far.rest word (omega arith);
     durable = so_far.durable;
+    kept = λ word past. so_far.kept word (omega arith);
     settling = so_far.settling;
   }
 
@@ -149,6 +151,13 @@ module _ (old new : List ℕ) (settled done : ℕ) (v : View) (so_far : IsStored
     | inr e ↦ e ∙ so_far.stored word (omega arith)
   ]
 
+  -- and one of a word that no store has come to is the old one
+  stays_old : (word x : ℕ) → done ≤ word → (x ≡ durable_at v word) ⊎ (x ≡ volatile_at v word) → x ≡ slice_index old word
+  stays_old word x past value = elim value as (λ _. x ≡ slice_index old word) [
+    | inl e ↦ e ∙ so_far.kept word past
+    | inr e ↦ e ∙ so_far.rest word past
+  ]
+
   -- the next word is stored
   pub stored_more : (w : View) → settled ≤ done → done < length old → Takes (IsStore done (slice_index new done)) v w → IsStoredTo old new settled (done + 1) w
   stored_more w low within takes = record {
@@ -161,6 +170,7 @@ module _ (old new : List ℕ) (settled done : ℕ) (v : View) (so_far : IsStored
     ];
     rest = λ word past. other word (omega arith) ∙ so_far.rest word (omega arith);
     durable = λ word. left_between word (durable_at w word) (leaves word);
+    kept = λ word past. stays_old word (durable_at w word) (omega arith) (leaves word);
     settling = λ word below. elim (so_far.settling word below) as (λ _. (durable_at w word ≡ slice_index new word) ⊎ IsPending w word) [
       | inl is ↦ inl (stays_new word (durable_at w word) low below is (leaves word))
       | inr waits ↦ inr ((takes.done.pending word (omega arith)).1 waits)
@@ -180,6 +190,7 @@ module _ (old new : List ℕ) (settled done : ℕ) (v : View) (so_far : IsStored
     stored = λ word below. seen word ∙ so_far.stored word below;
     rest = λ word past. seen word ∙ so_far.rest word past;
     durable = λ word. left_between word (durable_at w word) (adds.durable word);
+    kept = λ word past. stays_old word (durable_at w word) past (adds.durable word);
     settling = λ word below. elim (cases_lt word settled) as (λ _. (durable_at w word ≡ slice_index new word) ⊎ IsPending w word) [
       | inl before ↦ elim (so_far.settling word before) as (λ _. (durable_at w word ≡ slice_index new word) ⊎ IsPending w word) [
         | inl is ↦ inl (stays_new word (durable_at w word) (omega arith) before is (adds.durable word))
@@ -201,6 +212,7 @@ module _ (old new : List ℕ) (settled done : ℕ) (v : View) (so_far : IsStored
     stored = so_far.stored;
     rest = so_far.rest;
     durable = so_far.durable;
+    kept = so_far.kept;
     settling = λ word below. elim (cases_lt word settled) as (λ _. (durable_at v word ≡ slice_index new word) ⊎ IsPending v word) [
       | inl before ↦ so_far.settling word before
       | inr there ↦
@@ -221,6 +233,16 @@ module _ (old new : List ℕ) (settled done : ℕ) (v : View) (so_far : IsStored
     count = ap (λ (xs : List ℕ). length xs) adds.volatile ∙ so_far.count;
     volatile = λ word. subst (λ (xs : List ℕ). (slice_index xs word ≡ slice_index old word) ⊎ (slice_index xs word ≡ slice_index new word)) (sym adds.volatile) (seen_between word);
     durable = λ word. left_between word (durable_at w word) (adds.durable word);
+  }
+
+  -- no word from there on is stored to by such a step
+  pub adds_reached : (from : ℕ) (u w : View) → AddsNothing v w → IsSound v → v.budget ≡ u.budget → v.stopped ≡ u.stopped
+      → u.drawn + differences (slice_index old) (slice_index new) done ≤ v.drawn + differences (slice_index old) (slice_index new) from → HasReached old new from u w
+  adds_reached from u w adds sound same stays steps = record {
+    at = done;
+    volatile = λ word past. ap (λ (xs : List ℕ). slice_index xs word) adds.volatile ∙ so_far.rest word past;
+    durable = λ word past. stays_old word (durable_at w word) past (adds.durable word);
+    steps = λ going. let below = sound.running (stays ∙ going) in omega arith;
   }
 
   -- a fence, behind the last word: each is the new one
@@ -274,21 +296,24 @@ refused_budget v w ticket refuses = elim refuses as (λ _. w.budget ≡ v.budget
 ]
 
 -- where it stopped is told by what it drew
-pub stopped_at : (most ticket : ℕ) (v w : View) → IsSound w → w.stopped ≡ Some ticket → w.budget ≡ v.budget → w.drawn ≤ v.drawn + most → IsStoppedAt most ticket v w
-stopped_at most ticket v w sound stopped same few = record {
-  stopped = stopped;
-  above = let above = sound.stopping ticket stopped in omega arith;
-  few = let last = sound.last_ticket ticket stopped in omega arith;
+pub stopped_at : (old new : List ℕ) (most ticket : ℕ) (v w : View) → IsSound w → IsStoppedBetween old new 0 most ticket v w → IsStoppedAt old new most ticket v w
+stopped_at old new most ticket v w sound cut = record {
+  stopped = cut.stopped;
+  above = let above = sound.stopping ticket cut.stopped in let same = cut.budget in omega arith;
+  few = let last = sound.last_ticket ticket cut.stopped in let few = cut.drawn in omega arith;
+  reached = cut.reached;
 }
 
 -- a call is refused after few tickets
-pub refused_cut : (old new : List ℕ) (settled done most : ℕ) (v u w : View) (ticket : ℕ) → IsStoredTo old new settled done u → Refuses ticket u w
-    → u.budget ≡ v.budget → u.drawn + 1 ≤ v.drawn + most → IsStoppedBetween old new most ticket v w
-refused_cut old new settled done most v u w ticket so_far refuses same few = record {
+pub refused_cut : (old new : List ℕ) (settled done from most : ℕ) (v u w : View) (ticket : ℕ) → IsStoredTo old new settled done u → Refuses ticket u w
+    → u.budget ≡ v.budget → u.stopped ≡ v.stopped → IsSound u → u.drawn + 1 ≤ v.drawn + most
+    → v.drawn + differences (slice_index old) (slice_index new) done ≤ u.drawn + differences (slice_index old) (slice_index new) from → IsStoppedBetween old new from most ticket v w
+refused_cut old new settled done from most v u w ticket so_far refuses same stays sound few steps = record {
   stopped = refused_stopped (λ _. ⊤) ticket u w refuses;
   between = adds_between old new settled done u so_far w (refused_adds (λ _. ⊤) ticket u w refuses);
   budget = refused_budget u w ticket refuses ∙ same;
   drawn = let one = refused_draws u w ticket refuses in omega arith;
+  reached = adds_reached old new settled done u so_far from v w (refused_adds (λ _. ⊤) ticket u w refuses) sound same stays steps;
 }
 
 -- a store and a write-back draw one ticket each
@@ -297,6 +322,12 @@ store_draws word value v w takes = takes.done.tickets.drawn
 
 pub store_budget : (word value : ℕ) (v w : View) → Takes (IsStore word value) v w → w.budget ≡ v.budget
 store_budget word value v w takes = takes.done.tickets.budget
+
+pub store_going : (word value : ℕ) (v w : View) → Takes (IsStore word value) v w → w.stopped ≡ v.stopped
+store_going word value v w takes = takes.done.tickets.stopped
+
+pub write_back_going : (line : ℕ) (v w : View) → Takes (IsWriteBack line) v w → w.stopped ≡ v.stopped
+write_back_going line v w takes = takes.done.tickets.stopped
 
 pub write_back_budget : (line : ℕ) (v w : View) → Takes (IsWriteBack line) v w → w.budget ≡ v.budget
 write_back_budget line v w takes = takes.done.tickets.budget
@@ -315,5 +346,18 @@ pub fence_within : (v u w : View) → u.budget ≡ v.budget → Takes IsFence u 
 fence_within v u w same takes = let draws = fence_draws u w takes in let allowed = takes.allowed in omega arith
 
 -- where a step behind another cuts off, so many tickets were drawn in all
-pub cut_later : (old new : List ℕ) (few most ticket : ℕ) (v u w : View) → IsStoppedBetween old new few ticket u w → u.budget ≡ v.budget → u.drawn + few ≤ v.drawn + most → IsStoppedBetween old new most ticket v w
-cut_later old new few most ticket v u w cut same less = record { stopped = cut.stopped; between = cut.between; budget = cut.budget ∙ same; drawn = let d = cut.drawn in omega arith }
+pub cut_later : (old new : List ℕ) (from mid few most ticket : ℕ) (v u w : View) → IsStoppedBetween old new mid few ticket u w → u.budget ≡ v.budget → u.stopped ≡ v.stopped
+    → u.drawn + few ≤ v.drawn + most
+    → v.drawn + differences (slice_index old) (slice_index new) mid ≤ u.drawn + differences (slice_index old) (slice_index new) from → IsStoppedBetween old new from most ticket v w
+cut_later old new from mid few most ticket v u w cut same stays less steps = record {
+  stopped = cut.stopped;
+  between = cut.between;
+  budget = cut.budget ∙ same;
+  drawn = let d = cut.drawn in omega arith;
+  reached = record {
+    at = cut.reached.at;
+    volatile = cut.reached.volatile;
+    durable = cut.reached.durable;
+    steps = λ going. let below = cut.reached.steps (stays ∙ going) in omega arith;
+  };
+}

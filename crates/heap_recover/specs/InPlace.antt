@@ -1,5 +1,5 @@
 -- Recovery made in place, word by word: what it asks for, and what stands of the image wherever it ends.
-use Rattle.std.specs.Prelude.{◌≡◌, ◌≢◌, ◌↔◌, ◌⊎◌, ℕ, zero, suc, ◌+◌, ◌*◌, ◌/◌, ◌<◌, ◌≤◌, cond, nat_eq, List, length, slice_index, Option, Some}
+use Rattle.std.specs.Prelude.{◌≡◌, ◌≢◌, ◌↔◌, ◌⊎◌, ℕ, zero, suc, ◌+◌, ◌*◌, ◌/◌, ◌<◌, ◌≤◌, cond, nat_eq, List, length, slice_index, Option, None, Some}
 use Rattle.heap_model.specs.declared.block.Block.{Block}
 use Rattle.heap_model.specs.Geometry.{roots, root_word, state_word, clean, dirty}
 use Rattle.heap_model.specs.Header.{IsWellFormed, HasKindsBelow, capacity_of, kinds_of}
@@ -59,26 +59,38 @@ pub record IsBetween (old new : List ℕ) (v : View) : Type 0 where
   pub volatile : (word : ℕ) → (volatile_at v word ≡ slice_index old word) ⊎ (volatile_at v word ≡ slice_index new word)
   pub durable : (word : ℕ) → (durable_at v word ≡ slice_index old word) ⊎ (durable_at v word ≡ slice_index new word)
 
--- as loads see them, the words below `done` are the new ones and the others the old ones; those below `settled` are durable so, or pending
+-- as loads see them, the words below `done` are the new ones and the others the old ones, durable too; those below `settled` are durable so, or pending
 pub record IsStoredTo (old new : List ℕ) (settled done : ℕ) (v : View) : Type 0 where
   pub count : word_count v ≡ length old
   pub stored : (word : ℕ) → word < done → volatile_at v word ≡ slice_index new word
   pub rest : (word : ℕ) → done ≤ word → volatile_at v word ≡ slice_index old word
   pub durable : (word : ℕ) → (durable_at v word ≡ slice_index old word) ⊎ (durable_at v word ≡ slice_index new word)
+  pub kept : (word : ℕ) → done ≤ word → durable_at v word ≡ slice_index old word
   pub settling : (word : ℕ) → word < settled → (durable_at v word ≡ slice_index new word) ⊎ IsPending v word
 
+-- from the word `at` on each is the old one, as loads see it and durable; and unless it had stopped before, the budget has a step for each
+-- word from `from` until there that differs
+pub record HasReached (old new : List ℕ) (from : ℕ) (v w : View) : Type 0 where
+  pub at : ℕ
+  pub volatile : (word : ℕ) → at ≤ word → volatile_at w word ≡ slice_index old word
+  pub durable : (word : ℕ) → at ≤ word → durable_at w word ≡ slice_index old word
+  pub steps : v.stopped ≡ None
+      → v.drawn + differences (slice_index old) (slice_index new) at ≤ v.budget + differences (slice_index old) (slice_index new) from
+
 -- it stopped at this ticket, and drew so many tickets at most
-pub record IsStoppedBetween (old new : List ℕ) (most ticket : ℕ) (v w : View) : Type 0 where
+pub record IsStoppedBetween (old new : List ℕ) (from most ticket : ℕ) (v w : View) : Type 0 where
   pub stopped : w.stopped ≡ Some ticket
   pub between : IsBetween old new w
   pub budget : w.budget ≡ v.budget
   pub drawn : w.drawn ≤ v.drawn + most
+  pub reached : HasReached old new from v w
 
 -- it stopped at this ticket, which is at or above the budget and one of the next `most` tickets or an earlier one
-pub record IsStoppedAt (most ticket : ℕ) (v w : View) : Type 0 where
+pub record IsStoppedAt (old new : List ℕ) (most ticket : ℕ) (v w : View) : Type 0 where
   pub stopped : w.stopped ≡ Some ticket
   pub above : v.budget ≤ ticket
   pub few : ticket < v.drawn + most
+  pub reached : HasReached old new 0 v w
 
 -- each word is that of the one image or of the other, but the state and those that a crash leaves with any value
 pub record IsPartlyRecovered (old new image : Image) : Type 0 where

@@ -33,7 +33,8 @@ fn store_line<M: LineMemory>(
         + differences (slice_index old.now) (slice_index new.now) (8 * line)
         ≡ (M.view memory.old).drawn
         + differences (slice_index old.now) (slice_index new.now) (8 * line + 8)) }
-    ensures cut_off { IfErr result (λ e. IsStoppedBetween old.now new.now
+    ensures going { OnOk result ((M.view memory.new).stopped ≡ (M.view memory.old).stopped) }
+    ensures cut_off { IfErr result (λ e. IsStoppedBetween old.now new.now (8 * line)
         (differences (slice_index old.now) (slice_index new.now) (8 * line + 8)
         - differences (slice_index old.now) (slice_index new.now) (8 * line)) e.step
         (M.view memory.old) (M.view memory.new)) }
@@ -59,7 +60,8 @@ fn store_differences<M: LineMemory>(memory: &mut M, old: &[u64], new: &[u64]) ->
     ensures budget { (M.view memory.new).budget ≡ (M.view memory.old).budget }
     ensures drawn { OnOk result ((M.view memory.new).drawn + 1 ≡ (M.view memory.old).drawn
         + steps_between (slice_index old.now) (slice_index new.now) (length old.now)) }
-    ensures cut_off { IfErr result (λ e. IsStoppedBetween old.now new.now
+    ensures going { OnOk result ((M.view memory.new).stopped ≡ (M.view memory.old).stopped) }
+    ensures cut_off { IfErr result (λ e. IsStoppedBetween old.now new.now 0
         (steps_between (slice_index old.now) (slice_index new.now) (length old.now)) e.step
         (M.view memory.old) (M.view memory.new)) }
 {
@@ -77,8 +79,8 @@ fn store_image<M: LineMemory>(memory: &mut M, old: &[u64], new: &[u64]) -> Resul
     requires whole { 8 * (length old.now / 8) ≡ length old.now }
     requires before { HoldsDurably old.now (M.view memory.old) }
     ensures ok { OnOk result (HoldsDurably new.now (M.view memory.new)) }
-    ensures stopped { IfErr result (λ e. IsStoppedAt (steps_between (slice_index old.now)
-        (slice_index new.now) (length old.now)) e.step (M.view memory.old) (M.view memory.new)) }
+    ensures stopped { IfErr result (λ e. IsStoppedAt old.now new.now
+        (steps_between (slice_index old.now) (slice_index new.now) (length old.now)) e.step (M.view memory.old) (M.view memory.new)) }
     ensures between { IsBetween old.now new.now (M.view memory.new) }
     ensures budget { (M.view memory.new).budget ≡ (M.view memory.old).budget }
     ensures drawn { (M.view memory.new).drawn ≤ (M.view memory.old).drawn
@@ -110,8 +112,8 @@ pub fn rebuild<M: LineMemory, F: Filter>(
     requires recovered { IsRecoveryOf (Some F.KINDS) x.now (F.links_of filter.now) to.now.words
         to.now.held }
     ensures ok { OnOk result (HoldsDurably to.now.words (M.view memory.new)) }
-    ensures stopped { IfErr result (λ e. IsStoppedAt (steps_between (slice_index x.now)
-        (slice_index to.now.words) (length x.now)) e.step (M.view memory.old) (M.view memory.new)) }
+    ensures stopped { IfErr result (λ e. IsStoppedAt x.now to.now.words
+        (steps_between (slice_index x.now) (slice_index to.now.words) (length x.now)) e.step (M.view memory.old) (M.view memory.new)) }
     ensures budget { (M.view memory.new).budget ≡ (M.view memory.old).budget }
     ensures drawn { (M.view memory.new).drawn ≤ (M.view memory.old).drawn
         + steps_between (slice_index x.now) (slice_index to.now.words) (length x.now) }

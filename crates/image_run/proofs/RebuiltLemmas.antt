@@ -52,16 +52,17 @@ module _ (old new : List ℕ) (held : List Block) (is : IsRecoveryOf (Some kind_
         done = λ _. same;
         within = λ _. omega arith;
         cause = λ e. absurd (cc);
+        comes = λ e. absurd (cc);
         others = λ word _ _. inr (ap (λ (ws : List ℕ). slice_index ws word) same);
       }
 
   -- it was stopped, and the image is one that a crash leaves
   pub rebuilt_cut : (budget ticket : ℕ) (kept left : List ℕ) (v w : View) → w.durable ≡ kept → IsBetween old new w → v.budget ≡ budget → v.drawn ≡ 0
-      → IsStoppedAt (steps_between (slice_index old) (slice_index new) (length old)) ticket v w
+      → v.stopped ≡ None → IsStoppedAt old new (steps_between (slice_index old) (slice_index new) (length old)) ticket v w
       → ((image : Image) → IsCrashImage (slice_index w.durable) image → RecoversAlike (Some kind_count) (8 * length old) (slice_index old) image dict_links)
       → IsCrashImage (slice_index kept) (slice_index left) → length left ≡ length kept → length w.durable ≡ length w.volatile
       → IsRebuilt (slice_index old) (length old) budget true left
-  rebuilt_cut budget ticket kept left v w kept_is between limit none stopped crash is_crash long lengths =
+  rebuilt_cut budget ticket kept left v w kept_is between limit none going stopped crash is_crash long lengths =
       let crashed : IsCrashImage (slice_index w.durable) (slice_index left) = subst (λ (ws : List ℕ). IsCrashImage (slice_index ws) (slice_index left)) (sym kept_is) is_crash in
       record {
         new = new;
@@ -72,6 +73,12 @@ module _ (old new : List ℕ) (held : List Block) (is : IsRecoveryOf (Some kind_
         done = λ e. absurd (cc);
         within = λ e. absurd (cc);
         cause = λ _. let above = stopped.above in let few = stopped.few in omega arith;
+        comes = λ _. record {
+          at = stopped.reached.at;
+          few = let steps = stopped.reached.steps going in omega arith;
+          rest = λ word past other lasts.
+              crashed.others word other (λ lost. lasts (subst (λ c. IsTransient c word) (durable_capacity w between) lost)) ∙ stopped.reached.durable word past;
+        };
         others = λ word other lasts.
             let same = crashed.others word other (λ lost. lasts (subst (λ c. IsTransient c word) (durable_capacity w between) lost)) in
             elim (between.durable word) as (λ _. (slice_index left word ≡ slice_index old word) ⊎ (slice_index left word ≡ slice_index new word)) [

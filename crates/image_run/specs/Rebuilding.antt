@@ -6,10 +6,17 @@ use Rattle.heap_model.specs.Image.{Image, bytes_of_words}
 use Rattle.heap_model.specs.Durability.{IsTransient}
 use Rattle.heap_model.specs.Recovery.{IsRecovered}
 use Rattle.region_header.specs.Words.{AreWordsOf}
-use Rattle.heap_recover.specs.InPlace.{steps_between, RecoversAlike}
+use Rattle.heap_recover.specs.InPlace.{differences, steps_between, RecoversAlike}
 use Rattle.dict_model.specs.Links.{dict_links, kind_count}
 use Rattle.trace_text.specs.Report.{line_feed}
 use Rattle.image_run.specs.Reporting.{IsKept, TellsHeap}
+
+-- How far recovery in place came that was stopped: from the word `at` on each is as it was, but the state and those that a crash leaves with
+-- any value, and of the words before it no more are changed than the budget has steps.
+pub record ComesTo (image new : Image) (budget : ℕ) (left : List ℕ) : Type 0 where
+  pub at : ℕ
+  pub few : differences image new at ≤ budget
+  pub rest : (word : ℕ) → at ≤ word → word ≢ state_word → (IsTransient (capacity_of image) word → ⊥) → slice_index left word ≡ image word
 
 -- The words that are left of an image of so many words, made the words of its recovery within a budget: all of them where that was
 -- not stopped, and else each the old or the new one, but those that a crash leaves with any value. Recovery of them keeps the same.
@@ -23,6 +30,7 @@ pub record IsRebuilt (image : Image) (count budget : ℕ) (stopped : Bool) (left
   pub done : stopped ≡ false → left ≡ new
   pub within : stopped ≡ false → steps_between image (slice_index new) count ≤ budget
   pub cause : stopped ≡ true → budget < steps_between image (slice_index new) count
+  pub comes : stopped ≡ true → ComesTo image (slice_index new) budget left
   pub others : (word : ℕ) → word ≢ state_word → (IsTransient (capacity_of image) word → ⊥)
       → (slice_index left word ≡ image word) ⊎ (slice_index left word ≡ slice_index new word)
 

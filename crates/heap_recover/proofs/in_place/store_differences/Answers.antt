@@ -1,7 +1,7 @@
 use Rattle.std.proofs.Common.{◌∙◌, ◌≡◌, ◌+◌, ◌-◌, ◌*◌, ◌/◌, length, slice_index, subst, sym, ap, arith}
 use Rattle.std.proofs.lemmas.Result.{err_from_is_err_and}
 use Rattle.heap_recover.specs.InPlace.{Differ, differences, changed_lines, steps_between, IsStoredTo}
-use Rattle.heap_recover.proofs.InPlaceLemmas.{line_written, line_same, line_more, line_none, lines_from, none_differ, write_back_draws, write_back_budget, refused_cut, cut_later, differ_from}
+use Rattle.heap_recover.proofs.InPlaceLemmas.{line_written, line_same, line_more, line_none, lines_from, none_differ, write_back_draws, write_back_budget, write_back_going, refused_cut, cut_later, differ_from}
 use Rattle.heap_recover.proofs.in_place.store_differences.Goals as goal
 use Rattle.heap_recover.proofs.in_place.store_differences.Goals.{then-branch+in_ok-write_back, else-branch}
 
@@ -14,8 +14,8 @@ returns-in_err-store_line-clause-cut_off g c =
     let first = differ_from old new (8 * c.loop-line.line) (8 * c.loop-line.line + 8) (omega arith) in
     let rest = differ_from old new (8 * c.loop-line.line + 8) (length c.args.old.now) (omega (arith, c.loop-line-test.true)) in
     let lines = lines_from old new c.loop-line.line (length c.args.old.now / 8) (omega (arith, c.loop-line-test.true)) in
-    let cut = cut_later c.args.old.now c.args.new.now (differences old new (8 * c.loop-line.line + 8) - differences old new (8 * c.loop-line.line)) (steps_between old new (length c.args.old.now))
-    c.in_err-store_line.field-0.0.step (view c.args.memory.now) (view c.loop-line.memory) (view c.store_line.new.memory) c.in_err-store_line.ensures.cut_off c.loop-line.invariant.budget (omega arith) in
+    let cut = cut_later c.args.old.now c.args.new.now 0 (8 * c.loop-line.line) (differences old new (8 * c.loop-line.line + 8) - differences old new (8 * c.loop-line.line)) (steps_between old new (length c.args.old.now))
+    c.in_err-store_line.field-0.0.step (view c.args.memory.now) (view c.loop-line.memory) (view c.store_line.new.memory) c.in_err-store_line.ensures.cut_off c.loop-line.invariant.budget c.loop-line.invariant.going (omega arith) (omega arith) in
     let p = err_from_is_err_and c.from_residual.result c.from_residual.ensures.1 in
     rw (p.1, p.2) cut
 
@@ -29,9 +29,10 @@ returns-in_err-write_back-clause-cut_off g c =
     let some = c.in_ok-store_line.ensures.some.0 c.if-branch.true in
     let rest = differ_from old new (8 * c.loop-line.line + 8) (length c.args.old.now) (omega (arith, c.loop-line-test.true)) in
     let lines = lines_from old new c.loop-line.line (length c.args.old.now / 8) (omega (arith, c.loop-line-test.true)) in
-    let cut = refused_cut c.args.old.now c.args.new.now (8 * c.loop-line.line) (8 * c.loop-line.line + 8) (steps_between old new (length c.args.old.now))
+    let cut = refused_cut c.args.old.now c.args.new.now (8 * c.loop-line.line) (8 * c.loop-line.line + 8) 0 (steps_between old new (length c.args.old.now))
     (view c.args.memory.now) (view c.store_line.new.memory) (view c.write_back.new.self) c.in_err-write_back.field-0.0.step c.in_ok-store_line.ensures.ok
-    c.in_err-write_back.ensures.stopped (c.store_line.ensures.budget ∙ c.loop-line.invariant.budget) (omega arith) in
+    c.in_err-write_back.ensures.stopped (c.store_line.ensures.budget ∙ c.loop-line.invariant.budget) (c.in_ok-store_line.ensures.going ∙ c.loop-line.invariant.going)
+    (g.met.M.LineMemory.sound c.store_line.new.memory) (omega arith) (omega arith) in
     let p = err_from_is_err_and c.from_residual-in_err-write_back.result c.from_residual-in_err-write_back.ensures.1 in
     rw (p.1, p.2) cut
 
@@ -59,6 +60,8 @@ loop-line-preserved g c =
                 (subst (λ n. IsStoredTo c.args.old.now c.args.new.now n n (view w.write_back.new.self)) next written);
             budget = ap (λ m. (view m).budget) w.memory-is ∙ write_back_budget c.loop-line.line (view c.store_line.new.memory) (view w.write_back.new.self) w.in_ok-write_back.ensures.ok
                 ∙ c.store_line.ensures.budget ∙ c.loop-line.invariant.budget;
+            going = ap (λ m. (view m).stopped) w.memory-is ∙ write_back_going c.loop-line.line (view c.store_line.new.memory) (view w.write_back.new.self) w.in_ok-write_back.ensures.ok
+                ∙ c.in_ok-store_line.ensures.going ∙ c.loop-line.invariant.going;
             drawn = ap (λ m. (view m).drawn) w.memory-is ∙ all;
           }
       | else-branch w ↦
@@ -74,6 +77,7 @@ loop-line-preserved g c =
             stored = subst (λ m. IsStoredTo c.args.old.now c.args.new.now (8 * (c.loop-line.line + 1)) (8 * (c.loop-line.line + 1)) (view m)) (sym w.memory-is)
                 (subst (λ n. IsStoredTo c.args.old.now c.args.new.now n n (view c.store_line.new.memory)) next kept);
             budget = ap (λ m. (view m).budget) w.memory-is ∙ c.store_line.ensures.budget ∙ c.loop-line.invariant.budget;
+            going = ap (λ m. (view m).stopped) w.memory-is ∙ c.in_ok-store_line.ensures.going ∙ c.loop-line.invariant.going;
             drawn = ap (λ m. (view m).drawn) w.memory-is ∙ all;
           }
     ]

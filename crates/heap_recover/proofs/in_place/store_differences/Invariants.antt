@@ -7,6 +7,7 @@ invariant-loop-line g l = record {
   high : l.line ≤ length l.old / 8;
   stored : IsStoredTo l.old l.new (8 * l.line) (8 * l.line) (g.M.LineMemory.view l.memory);
   budget : (g.M.LineMemory.view l.memory).budget ≡ (g.M.LineMemory.view l.initial.memory).budget;
+  going : (g.M.LineMemory.view l.memory).stopped ≡ (g.M.LineMemory.view l.initial.memory).stopped;
   drawn : (g.M.LineMemory.view l.memory).drawn ≡ (g.M.LineMemory.view l.initial.memory).drawn
       + (differences (slice_index l.old) (slice_index l.new) (8 * l.line) + changed_lines (slice_index l.old) (slice_index l.new) l.line);
 }

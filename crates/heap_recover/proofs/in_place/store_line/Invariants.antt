@@ -9,6 +9,7 @@ invariant-loop-word g l = record {
   stored : IsStoredTo l.old l.new (8 * l.fn.line) l.word (g.M.LineMemory.view l.memory);
   tells : IsTrue l.some ↔ Differ l.old l.new (8 * l.fn.line) l.word;
   budget : (g.M.LineMemory.view l.memory).budget ≡ (g.M.LineMemory.view l.initial.memory).budget;
+  going : (g.M.LineMemory.view l.memory).stopped ≡ (g.M.LineMemory.view l.initial.memory).stopped;
   drawn : (g.M.LineMemory.view l.memory).drawn + differences (slice_index l.old) (slice_index l.new) (8 * l.fn.line)
       ≡ (g.M.LineMemory.view l.initial.memory).drawn + differences (slice_index l.old) (slice_index l.new) l.word;
 }

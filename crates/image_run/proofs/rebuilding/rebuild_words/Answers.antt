@@ -39,7 +39,7 @@ returns-in-Err-clause-ok g c =
     let w = view_of c.rebuild-end.new.memory in
     rebuilt_cut c.args.words.now c.args.heap.now.words c.args.heap.now.held c.requires c.args.budget c.in-Err.field-0.step c.now.inside.kept.items c.left_by_crash.result.items v w
     (sym c.finish.ensures.durable ∙ sym (ap durable_words c.now.view_is)) c.in-Err.ensures.between (ap (λ (u : View). u.budget) c.in_ok-memory.ensures.ok)
-    (ap (λ (u : View). u.drawn) c.in_ok-memory.ensures.ok) c.in-Err.ensures.stopped
+    (ap (λ (u : View). u.drawn) c.in_ok-memory.ensures.ok) (ap (λ (u : View). u.stopped) c.in_ok-memory.ensures.ok) c.in-Err.ensures.stopped
     c.in-Err.ensures.crash
     c.left_by_crash.ensures.image c.left_by_crash.ensures.long
     (ap (λ (ws : List ℕ). length ws) (sym c.finish.ensures.durable ∙ sym (ap durable_words c.now.view_is)) ∙ c.now.invariant
