@@ -66,7 +66,7 @@ loop-line-preserved g c =
           }
       | else-branch w ↦
           let same_words : Differ c.args.old.now c.args.new.now (8 * c.loop-line.line) (8 * c.loop-line.line + 8) → ⊥ =
-              λ differ. absurd (let some = c.in_ok-store_line.ensures.some.1 differ in let none = w.if-branch.false in absurd (cc)) in
+          λ differ. absurd (let some = c.in_ok-store_line.ensures.some.1 differ in let none = w.if-branch.false in absurd (cc)) in
           let kept = line_same c.args.old.now c.args.new.now (8 * c.loop-line.line) (8 * c.loop-line.line + 8) (view c.store_line.new.memory) c.in_ok-store_line.ensures.ok
           same_words in
           let stays = none_differ c.args.old.now c.args.new.now (8 * c.loop-line.line) (8 * c.loop-line.line + 8) (omega arith) same_words in
