@@ -1,5 +1,5 @@
 -- Words stored one after the other over an image: how far they have come, and what stands where a call is refused.
-use Rattle.std.proofs.Common.{◌≡◌, ◌≢◌, ℕ, zero, suc, ◌+◌, ◌-◌, ◌*◌, ◌<◌, ◌≤◌, ◌⊎◌, inl, inr, List, [], ◌∷◌, length, slice_index, refl, sym, ap, subst, ◌∙◌, arith, cond, nat_eq, get_or-set_same, get_or-set_other, length-set, eq-eqb, ne_eqb}
+use Rattle.std.proofs.Common.{◌≡◌, ◌≢◌, ℕ, zero, suc, ◌+◌, ◌-◌, ◌*◌, ◌/◌, ◌<◌, ◌≤◌, ◌⊎◌, inl, inr, List, [], ◌∷◌, length, slice_index, refl, sym, ap, subst, ◌∙◌, arith, cond, nat_eq, get_or-set_same, get_or-set_other, length-set, eq-eqb, ne_eqb}
 use Rattle.std.proofs.lemmas.Bool.{cases_eq, cases_lt}
 use Rattle.std.proofs.lemmas.List.{get_or_past}
 use Rattle.std.specs.Prelude.{⊤}
@@ -8,7 +8,7 @@ use Rattle.line_memory.specs.View.{View, volatile_at, durable_at, IsPending, IsS
 use Rattle.line_memory.specs.Crash.{AddsNothing}
 use Rattle.line_memory.specs.Steps.{Takes, Refuses, after_draw, IsStore, IsWriteBack, IsFence}
 use Rattle.line_memory.proofs.CallerLemmas.{store_leaves, write_back_adds, fence_adds, refused_adds, refused_stopped, contains_or_not, draw_adds}
-use Rattle.heap_recover.specs.InPlace.{differences, changed_lines, HasReached, HoldsDurably, IsBetween, IsStoredTo, IsStoppedBetween, IsStoppedAt, Differ}
+use Rattle.heap_recover.specs.InPlace.{differences, changed_lines, steps_until, steps_between, HasReached, HoldsDurably, IsBetween, IsStoredTo, IsStoppedBetween, IsStoppedAt, Differ}
 
 plus_none : (n : ℕ) → n + 0 ≡ n
 plus_none n = omega arith
@@ -86,6 +86,26 @@ lines_along old new from (suc count) =
 pub lines_from : (old new : Image) (from to : ℕ) → from ≤ to → changed_lines old new from ≤ changed_lines old new to
 lines_from old new from to low =
     subst (λ k. changed_lines old new from ≤ changed_lines old new k) {x = from + (to - from)} {y = to} (omega arith) (lines_along old new from (to - from))
+
+-- a line that is changed has a word that is
+lines_few : (old new : Image) (line : ℕ) → changed_lines old new line ≤ differences old new (8 * line)
+lines_few old new zero = omega arith
+lines_few old new (suc line) =
+    let before = lines_few old new line in
+    let next = ap (changed_lines old new) {x = suc line} {y = line + 1} (omega arith) in
+    let end = ap (differences old new) {x = 8 * suc line} {y = 8 * line + 8} (omega arith) in
+    elim (cases_eq (differences old new (8 * line + 8)) (differences old new (8 * line))) as
+    (λ _. changed_lines old new (suc line) ≤ differences old new (8 * suc line)) [
+      | inl same ↦ let e = line_none old new line same in omega arith
+      | inr other ↦ let low = differ_from old new (8 * line) (8 * line + 8) (omega arith) in
+          let e = line_more old new line (omega arith) in omega arith
+    ]
+
+-- so there are at most twice as many steps as words that differ, and the fence
+pub steps_few : (old new : Image) (words : ℕ) → steps_between old new words ≤ 1 + 2 * differences old new words
+steps_few old new words =
+    let few = lines_few old new (words / 8) in
+    let low = differ_from old new (8 * (words / 8)) words (omega arith) in omega arith
 
 -- where the count stays over a range, no word of it differs
 pub same_there : (old new : Image) (from to word : ℕ) → differences old new to ≤ differences old new from → from ≤ word → word < to
@@ -236,12 +256,13 @@ module _ (old new : List ℕ) (settled done : ℕ) (v : View) (so_far : IsStored
   }
 
   -- no word from there on is stored to by such a step
-  pub adds_reached : (from : ℕ) (u w : View) → AddsNothing v w → IsSound v → v.budget ≡ u.budget → v.stopped ≡ u.stopped
-      → u.drawn + differences (slice_index old) (slice_index new) done ≤ v.drawn + differences (slice_index old) (slice_index new) from → HasReached old new from u w
-  adds_reached from u w adds sound same stays steps = record {
+  pub adds_reached : (before : ℕ) (u w : View) → AddsNothing v w → IsSound v → v.budget ≡ u.budget → v.stopped ≡ u.stopped
+      → u.drawn + steps_until (slice_index old) (slice_index new) done ≤ v.drawn + before → HasReached old new before u w
+  adds_reached before u w adds sound same stays steps = record {
     at = done;
-    volatile = λ word past. ap (λ (xs : List ℕ). slice_index xs word) adds.volatile ∙ so_far.rest word past;
-    durable = λ word past. stays_old word (durable_at w word) past (adds.durable word);
+    stored = λ word below. ap (λ (xs : List ℕ). slice_index xs word) adds.volatile ∙ so_far.stored word below;
+    rest = λ word past. ap (λ (xs : List ℕ). slice_index xs word) adds.volatile ∙ so_far.rest word past;
+    rest_durable = λ word past. stays_old word (durable_at w word) past (adds.durable word);
     steps = λ going. let below = sound.running (stays ∙ going) in omega arith;
   }
 
@@ -305,16 +326,25 @@ stopped_at old new most ticket v w sound cut = record {
 }
 
 -- a call is refused after few tickets
-pub refused_cut : (old new : List ℕ) (settled done from most : ℕ) (v u w : View) (ticket : ℕ) → IsStoredTo old new settled done u → Refuses ticket u w
+pub refused_cut : (old new : List ℕ) (settled done before most : ℕ) (v u w : View) (ticket : ℕ) → IsStoredTo old new settled done u → Refuses ticket u w
     → u.budget ≡ v.budget → u.stopped ≡ v.stopped → IsSound u → u.drawn + 1 ≤ v.drawn + most
-    → v.drawn + differences (slice_index old) (slice_index new) done ≤ u.drawn + differences (slice_index old) (slice_index new) from → IsStoppedBetween old new from most ticket v w
-refused_cut old new settled done from most v u w ticket so_far refuses same stays sound few steps = record {
+    → v.drawn + steps_until (slice_index old) (slice_index new) done ≤ u.drawn + before → IsStoppedBetween old new before most ticket v w
+refused_cut old new settled done before most v u w ticket so_far refuses same stays sound few steps = record {
   stopped = refused_stopped (λ _. ⊤) ticket u w refuses;
   between = adds_between old new settled done u so_far w (refused_adds (λ _. ⊤) ticket u w refuses);
   budget = refused_budget u w ticket refuses ∙ same;
   drawn = let one = refused_draws u w ticket refuses in omega arith;
-  reached = adds_reached old new settled done u so_far from v w (refused_adds (λ _. ⊤) ticket u w refuses) sound same stays steps;
+  reached = adds_reached old new settled done u so_far before v w (refused_adds (λ _. ⊤) ticket u w refuses) sound same stays steps;
 }
+
+-- the fence behind all stores is refused
+pub fence_cut : (old new : List ℕ) (ticket : ℕ) (v u w : View) → IsStoredTo old new (length old) (length old) u → Refuses ticket u w → u.budget ≡ v.budget → u.stopped ≡ v.stopped
+    → IsSound u → IsSound w → u.drawn + 1 ≡ v.drawn + steps_between (slice_index old) (slice_index new) (length old)
+    → IsStoppedAt old new (steps_between (slice_index old) (slice_index new) (length old)) ticket v w
+fence_cut old new ticket v u w so_far refuses same stays sound sound_then all =
+    let lines = lines_from (slice_index old) (slice_index new) ((length old - 1) / 8) (length old / 8) (omega arith) in
+    stopped_at old new (steps_between (slice_index old) (slice_index new) (length old)) ticket v w sound_then
+    (refused_cut old new (length old) (length old) 0 (steps_between (slice_index old) (slice_index new) (length old)) v u w ticket so_far refuses same stays sound (omega arith) (omega arith))
 
 -- a store and a write-back draw one ticket each
 pub store_draws : (word value : ℕ) (v w : View) → Takes (IsStore word value) v w → w.drawn ≡ v.drawn + 1
@@ -346,18 +376,19 @@ pub fence_within : (v u w : View) → u.budget ≡ v.budget → Takes IsFence u 
 fence_within v u w same takes = let draws = fence_draws u w takes in let allowed = takes.allowed in omega arith
 
 -- where a step behind another cuts off, so many tickets were drawn in all
-pub cut_later : (old new : List ℕ) (from mid few most ticket : ℕ) (v u w : View) → IsStoppedBetween old new mid few ticket u w → u.budget ≡ v.budget → u.stopped ≡ v.stopped
+pub cut_later : (old new : List ℕ) (before then few most ticket : ℕ) (v u w : View) → IsStoppedBetween old new then few ticket u w → u.budget ≡ v.budget → u.stopped ≡ v.stopped
     → u.drawn + few ≤ v.drawn + most
-    → v.drawn + differences (slice_index old) (slice_index new) mid ≤ u.drawn + differences (slice_index old) (slice_index new) from → IsStoppedBetween old new from most ticket v w
-cut_later old new from mid few most ticket v u w cut same stays less steps = record {
+    → v.drawn + then ≤ u.drawn + before → IsStoppedBetween old new before most ticket v w
+cut_later old new before then few most ticket v u w cut same stays less steps = record {
   stopped = cut.stopped;
   between = cut.between;
   budget = cut.budget ∙ same;
   drawn = let d = cut.drawn in omega arith;
   reached = record {
     at = cut.reached.at;
-    volatile = cut.reached.volatile;
-    durable = cut.reached.durable;
+    stored = cut.reached.stored;
+    rest = cut.reached.rest;
+    rest_durable = cut.reached.rest_durable;
     steps = λ going. let below = cut.reached.steps (stays ∙ going) in omega arith;
   };
 }

@@ -1,5 +1,5 @@
 -- Recovery made in place, word by word: what it asks for, and what stands of the image wherever it ends.
-use Rattle.std.specs.Prelude.{◌≡◌, ◌≢◌, ◌↔◌, ◌⊎◌, ℕ, zero, suc, ◌+◌, ◌*◌, ◌/◌, ◌<◌, ◌≤◌, cond, nat_eq, List, length, slice_index, Option, None, Some}
+use Rattle.std.specs.Prelude.{◌≡◌, ◌≢◌, ◌↔◌, ◌⊎◌, ℕ, zero, suc, ◌+◌, ◌-◌, ◌*◌, ◌/◌, ◌<◌, ◌≤◌, cond, nat_eq, List, length, slice_index, Option, None, Some}
 use Rattle.heap_model.specs.declared.block.Block.{Block}
 use Rattle.heap_model.specs.Geometry.{roots, root_word, state_word, clean, dirty}
 use Rattle.heap_model.specs.Header.{IsWellFormed, HasKindsBelow, capacity_of, kinds_of}
@@ -22,7 +22,12 @@ changed_lines old new zero = 0
 changed_lines old new (suc line) = changed_lines old new line
     + cond (nat_eq (differences old new (8 * line + 8)) (differences old new (8 * line))) 0 1
 
--- the steps that make the one image the other, of so many words: a store of each word that differs, a write-back of each such line, a fence
+-- the steps before a word: a store of each word below it that differs, and a write-back of each line that ends below it and has such a word
+abbrev pub steps_until : Image → Image → ℕ → ℕ
+steps_until old new word = differences old new word + changed_lines old new ((word - 1) / 8)
+
+-- the steps that make the one image the other, of so many whole lines: a store of each word that differs, a write-back of each line that
+-- has one, and a fence
 abbrev pub steps_between : Image → Image → ℕ → ℕ
 steps_between old new words = 1 + (differences old new words + changed_lines old new (words / 8))
 
@@ -59,7 +64,8 @@ pub record IsBetween (old new : List ℕ) (v : View) : Type 0 where
   pub volatile : (word : ℕ) → (volatile_at v word ≡ slice_index old word) ⊎ (volatile_at v word ≡ slice_index new word)
   pub durable : (word : ℕ) → (durable_at v word ≡ slice_index old word) ⊎ (durable_at v word ≡ slice_index new word)
 
--- as loads see them, the words below `done` are the new ones and the others the old ones, durable too; those below `settled` are durable so, or pending
+-- as loads see them, the words below `done` are the new ones and the others the old ones, which are durable too; those below `settled` are
+-- durable so, or pending
 pub record IsStoredTo (old new : List ℕ) (settled done : ℕ) (v : View) : Type 0 where
   pub count : word_count v ≡ length old
   pub stored : (word : ℕ) → word < done → volatile_at v word ≡ slice_index new word
@@ -68,24 +74,24 @@ pub record IsStoredTo (old new : List ℕ) (settled done : ℕ) (v : View) : Typ
   pub kept : (word : ℕ) → done ≤ word → durable_at v word ≡ slice_index old word
   pub settling : (word : ℕ) → word < settled → (durable_at v word ≡ slice_index new word) ⊎ IsPending v word
 
--- from the word `at` on each is the old one, as loads see it and durable; and unless it had stopped before, the budget has a step for each
--- word from `from` until there that differs
-pub record HasReached (old new : List ℕ) (from : ℕ) (v w : View) : Type 0 where
+-- how far stores in the order of word index have come: loads see the new words below `at` and the old ones from there on, which are
+-- durable too. Unless it had stopped before, the budget has a step for each of these stores and write-backs, but for so many before
+pub record HasReached (old new : List ℕ) (before : ℕ) (v w : View) : Type 0 where
   pub at : ℕ
-  pub volatile : (word : ℕ) → at ≤ word → volatile_at w word ≡ slice_index old word
-  pub durable : (word : ℕ) → at ≤ word → durable_at w word ≡ slice_index old word
-  pub steps : v.stopped ≡ None
-      → v.drawn + differences (slice_index old) (slice_index new) at ≤ v.budget + differences (slice_index old) (slice_index new) from
+  pub stored : (word : ℕ) → word < at → volatile_at w word ≡ slice_index new word
+  pub rest : (word : ℕ) → at ≤ word → volatile_at w word ≡ slice_index old word
+  pub rest_durable : (word : ℕ) → at ≤ word → durable_at w word ≡ slice_index old word
+  pub steps : v.stopped ≡ None → v.drawn + steps_until (slice_index old) (slice_index new) at ≤ v.budget + before
 
--- it stopped at this ticket, and drew so many tickets at most
-pub record IsStoppedBetween (old new : List ℕ) (from most ticket : ℕ) (v w : View) : Type 0 where
+-- it stopped at this ticket, drew so many tickets at most, behind so many steps before, and came so far
+pub record IsStoppedBetween (old new : List ℕ) (before most ticket : ℕ) (v w : View) : Type 0 where
   pub stopped : w.stopped ≡ Some ticket
   pub between : IsBetween old new w
   pub budget : w.budget ≡ v.budget
   pub drawn : w.drawn ≤ v.drawn + most
-  pub reached : HasReached old new from v w
+  pub reached : HasReached old new before v w
 
--- it stopped at this ticket, which is at or above the budget and one of the next `most` tickets or an earlier one
+-- it stopped at this ticket, which is at or above the budget and one of the next `most` tickets or an earlier one, and came so far
 pub record IsStoppedAt (old new : List ℕ) (most ticket : ℕ) (v w : View) : Type 0 where
   pub stopped : w.stopped ≡ Some ticket
   pub above : v.budget ≤ ticket

@@ -5,7 +5,7 @@ ghost use Rattle.heap_model.specs.Geometry.{roots};
 ghost use Rattle.heap_model.specs.Image.{Image};
 ghost use Rattle.heap_model.specs.Durability.{Mixes, IsCrashImage};
 ghost use Rattle.line_memory.specs.View.{View, word_count};
-ghost use Rattle.heap_recover.specs.InPlace.{differences, steps_between, HoldsDurably, IsRecoveryOf, RecoversAlike, IsBetween, IsStoredTo, IsStoppedBetween, IsStoppedAt, Differ};
+ghost use Rattle.heap_recover.specs.InPlace.{changed_lines, differences, steps_between, HoldsDurably, IsRecoveryOf, RecoversAlike, IsBetween, IsStoredTo, IsStoppedBetween, IsStoppedAt, Differ};
 
 use filter_trace::Filter;
 use line_memory::{LineMemory, Stopped};
@@ -34,7 +34,9 @@ fn store_line<M: LineMemory>(
         ≡ (M.view memory.old).drawn
         + differences (slice_index old.now) (slice_index new.now) (8 * line + 8)) }
     ensures going { OnOk result ((M.view memory.new).stopped ≡ (M.view memory.old).stopped) }
-    ensures cut_off { IfErr result (λ e. IsStoppedBetween old.now new.now (8 * line)
+    ensures cut_off { IfErr result (λ e. IsStoppedBetween old.now new.now
+        (differences (slice_index old.now) (slice_index new.now) (8 * line)
+        + changed_lines (slice_index old.now) (slice_index new.now) line)
         (differences (slice_index old.now) (slice_index new.now) (8 * line + 8)
         - differences (slice_index old.now) (slice_index new.now) (8 * line)) e.step
         (M.view memory.old) (M.view memory.new)) }

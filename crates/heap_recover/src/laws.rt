@@ -1,6 +1,6 @@
 //! What follows from the words that recovery leaves, and of recovery begun again, as functions with
 //! nothing to run.
-ghost use Rattle.std.specs.Prelude.{◌≡◌, ◌<◌, ℕ, List, Option, length, slice_index};
+ghost use Rattle.std.specs.Prelude.{◌≡◌, ◌+◌, ◌*◌, ◌<◌, ◌≤◌, ℕ, List, Option, length, slice_index};
 ghost use Rattle.heap_model.specs.declared.block.Block.{Block};
 ghost use Rattle.heap_model.specs.Geometry.{roots, root_word, kind_word};
 ghost use Rattle.heap_model.specs.Header.{capacity_of};
@@ -9,7 +9,7 @@ ghost use Rattle.heap_model.specs.Blocks.{IsIn, layout_of};
 ghost use Rattle.heap_model.specs.Reach.{Links, IsReached, IsReachedIn};
 ghost use Rattle.heap_model.specs.Recovered.{IsFreeSuperblock, AreAscending};
 ghost use Rattle.heap_model.specs.Recovery.{IsRecovered};
-ghost use Rattle.heap_recover.specs.InPlace.{RecoversAlike};
+ghost use Rattle.heap_recover.specs.InPlace.{RecoversAlike, differences, steps_between};
 ghost use Rattle.heap_recover.specs.Superblock.{LeavesSuperblock};
 
 /// Recovery changes no word of a reached block, no root, and no kind of a root.
@@ -56,4 +56,10 @@ pub fn recovery_has_one_outcome()
         → IsRecovered (slice_index old) (slice_index new) (IsReachedIn (slice_index old) links)
         → IsRecovered (slice_index old) (slice_index other) (IsReachedIn (slice_index old) links)
         → other ≡ new }
+{}
+
+/// Recovery in place takes at most two steps for each word that it changes, and one for the fence.
+pub fn recovery_in_place_takes_few_steps()
+    ensures { (old new : Image) (words : ℕ)
+        → steps_between old new words ≤ 1 + 2 * differences old new words }
 {}

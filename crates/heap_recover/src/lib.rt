@@ -21,6 +21,7 @@ pub use in_place::rebuild;
 pub use laws::{
     each_superblock_is_left_by_itself, reached_words_are_unchanged,
     recovery_begun_again_gives_the_same, recovery_has_one_outcome,
+    recovery_in_place_takes_few_steps,
 };
 pub use lists::{link_lists, members};
 pub use parts::SuperblockBlocks;

@@ -75,9 +75,9 @@ module _ (old new : List ℕ) (held : List Block) (is : IsRecoveryOf (Some kind_
         cause = λ _. let above = stopped.above in let few = stopped.few in omega arith;
         comes = λ _. record {
           at = stopped.reached.at;
-          few = let steps = stopped.reached.steps going in omega arith;
+          steps = let steps = stopped.reached.steps going in omega arith;
           rest = λ word past other lasts.
-              crashed.others word other (λ lost. lasts (subst (λ c. IsTransient c word) (durable_capacity w between) lost)) ∙ stopped.reached.durable word past;
+              crashed.others word other (λ lost. lasts (subst (λ c. IsTransient c word) (durable_capacity w between) lost)) ∙ stopped.reached.rest_durable word past;
         };
         others = λ word other lasts.
             let same = crashed.others word other (λ lost. lasts (subst (λ c. IsTransient c word) (durable_capacity w between) lost)) in

@@ -1,4 +1,4 @@
--- Worked examples: what the budget of a rebuild tells, that is done or stopped.
+-- Worked examples: what the budget tells of a rebuild, done or stopped.
 use Rattle.std.specs.Prelude.{◌≡◌, ℕ, ◌≤◌, ◌<◌, List, true, false, slice_index, refl}
 use Rattle.std.proofs.Common.{arith}
 use Rattle.heap_model.specs.Image.{Image}
@@ -17,10 +17,10 @@ changes_no_word image count left is =
     let within : steps_between image (slice_index is.new) count ≤ 1 = is.within refl in
     omega arith
 
--- one that is stopped with a budget of 0 has changed none of these words
+-- one that is stopped with a budget of 0 came to no word that recovery changes
 none_without_a_step : (image : Image) (count : ℕ) (left : List ℕ) (is : IsRebuilt image count 0 true left)
     → differences image (slice_index is.new) ((is.comes refl).at) ≡ 0
-none_without_a_step image count left is = let few = (is.comes refl).few in omega arith
+none_without_a_step image count left is = let steps = (is.comes refl).steps in omega arith
 
 -- and none is stopped with as many steps as it takes
 never_with_all_steps : (image : Image) (count budget : ℕ) (left : List ℕ) (is : IsRebuilt image count budget true left)

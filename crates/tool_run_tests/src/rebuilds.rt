@@ -123,7 +123,24 @@ $ rebuild h
 > write fault
 ";
 
-const TABLES: [Table; 2] = [(REFUSED, &[]), (FAILURES, &[])];
+/// A stop leaves what is durable, and not what was stored: where nothing is written back early, no
+/// block is linked behind any number of stores.
+const KEPT: &str = "
+@+ 2: used 1, info:0 4, root:8 @1080
+$ rebuild h --stop 1000
+% 0
+> rebuild stopped
+> heap 2 dirty
+> held 64 1
+& 1080 8192 0
+$ rebuild h
+> rebuild done
+> heap 2 dirty
+> held 64 1
+& 1088 1 1096
+";
+
+const TABLES: [Table; 3] = [(REFUSED, &[]), (FAILURES, &[]), (KEPT, &[])];
 
 #[test]
 fn recovery_in_place_is_gone_on_with(rt: HostRuntime) -> Result<(), Fail> {

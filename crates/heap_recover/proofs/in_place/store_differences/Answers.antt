@@ -14,7 +14,8 @@ returns-in_err-store_line-clause-cut_off g c =
     let first = differ_from old new (8 * c.loop-line.line) (8 * c.loop-line.line + 8) (omega arith) in
     let rest = differ_from old new (8 * c.loop-line.line + 8) (length c.args.old.now) (omega (arith, c.loop-line-test.true)) in
     let lines = lines_from old new c.loop-line.line (length c.args.old.now / 8) (omega (arith, c.loop-line-test.true)) in
-    let cut = cut_later c.args.old.now c.args.new.now 0 (8 * c.loop-line.line) (differences old new (8 * c.loop-line.line + 8) - differences old new (8 * c.loop-line.line)) (steps_between old new (length c.args.old.now))
+    let cut = cut_later c.args.old.now c.args.new.now 0 (differences old new (8 * c.loop-line.line) + changed_lines old new c.loop-line.line)
+    (differences old new (8 * c.loop-line.line + 8) - differences old new (8 * c.loop-line.line)) (steps_between old new (length c.args.old.now))
     c.in_err-store_line.field-0.0.step (view c.args.memory.now) (view c.loop-line.memory) (view c.store_line.new.memory) c.in_err-store_line.ensures.cut_off c.loop-line.invariant.budget c.loop-line.invariant.going (omega arith) (omega arith) in
     let p = err_from_is_err_and c.from_residual.result c.from_residual.ensures.1 in
     rw (p.1, p.2) cut
@@ -29,6 +30,7 @@ returns-in_err-write_back-clause-cut_off g c =
     let some = c.in_ok-store_line.ensures.some.0 c.if-branch.true in
     let rest = differ_from old new (8 * c.loop-line.line + 8) (length c.args.old.now) (omega (arith, c.loop-line-test.true)) in
     let lines = lines_from old new c.loop-line.line (length c.args.old.now / 8) (omega (arith, c.loop-line-test.true)) in
+    let here = ap (changed_lines old new) {x = (8 * c.loop-line.line + 8 - 1) / 8} {y = c.loop-line.line} (omega arith) in
     let cut = refused_cut c.args.old.now c.args.new.now (8 * c.loop-line.line) (8 * c.loop-line.line + 8) 0 (steps_between old new (length c.args.old.now))
     (view c.args.memory.now) (view c.store_line.new.memory) (view c.write_back.new.self) c.in_err-write_back.field-0.0.step c.in_ok-store_line.ensures.ok
     c.in_err-write_back.ensures.stopped (c.store_line.ensures.budget ∙ c.loop-line.invariant.budget) (c.in_ok-store_line.ensures.going ∙ c.loop-line.invariant.going)

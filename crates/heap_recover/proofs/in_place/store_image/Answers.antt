@@ -5,8 +5,8 @@ use Rattle.line_memory.specs.declared.memory.Stopped.{Stopped}
 use Rattle.line_memory.specs.Crash.{AddsNothing}
 use Rattle.line_memory.specs.Steps.{Refuses}
 use Rattle.line_memory.proofs.CallerLemmas.{at_both, fence_adds, refused_adds}
-use Rattle.heap_recover.specs.InPlace.{steps_between}
-use Rattle.heap_recover.proofs.InPlaceLemmas.{adds_between, fence_stores, fence_drew, fence_within}
+use Rattle.heap_recover.specs.InPlace.{IsStoppedAt, steps_between}
+use Rattle.heap_recover.proofs.InPlaceLemmas.{adds_between, fence_cut, fence_stores, fence_drew, fence_within}
 use Rattle.heap_recover.proofs.in_place.store_image.Goals as goal
 
 pub returns-clause-ok : goal.returns-clause-ok
@@ -40,3 +40,14 @@ returns-clause-within g c =
     let u = view c.store_differences.new.memory in
     let w = view c.fence.new.self in
     on_ok_weaker c.fence.result (fence_within (view c.args.memory.now) u w c.store_differences.ensures.budget) c.fence.ensures.ok
+
+pub returns-clause-stopped : goal.returns-clause-stopped
+returns-clause-stopped g c =
+    let view = g.M.LineMemory.view in
+    let v = view c.args.memory.now in
+    let u = view c.store_differences.new.memory in
+    let w = view c.fence.new.self in
+    let steps = steps_between (slice_index c.args.old.now) (slice_index c.args.new.now) (length c.args.old.now) in
+    IfErr-weaker c.fence.result (λ (e : Stopped). Refuses e.step u w) (λ (e : Stopped). IsStoppedAt c.args.old.now c.args.new.now steps e.step v w)
+    (λ e refuses. fence_cut c.args.old.now c.args.new.now e.step v u w c.in_ok-store_differences.ensures.ok refuses c.store_differences.ensures.budget c.in_ok-store_differences.ensures.going
+    (g.met.M.LineMemory.sound c.store_differences.new.memory) (g.met.M.LineMemory.sound c.fence.new.self) c.in_ok-store_differences.ensures.drawn) c.fence.ensures.stopped

@@ -1,7 +1,7 @@
-use Rattle.std.proofs.Common.{◌≡◌, ◌+◌, ◌-◌, ◌*◌, slice_index, subst, sym, ap, ◌∙◌, arith}
+use Rattle.std.proofs.Common.{◌≡◌, ◌+◌, ◌-◌, ◌*◌, ◌/◌, slice_index, subst, sym, ap, ◌∙◌, arith}
 use Rattle.std.proofs.lemmas.Result.{err_from_is_err_and}
-use Rattle.heap_recover.specs.InPlace.{differences, IsStoredTo}
-use Rattle.heap_recover.proofs.InPlaceLemmas.{stored_same, stored_more, store_draws, store_budget, store_going, refused_cut, differ_more, differ_same, differ_from}
+use Rattle.heap_recover.specs.InPlace.{differences, changed_lines, IsStoredTo}
+use Rattle.heap_recover.proofs.InPlaceLemmas.{stored_same, stored_more, store_draws, store_budget, store_going, refused_cut, lines_from, differ_more, differ_same, differ_from}
 use Rattle.heap_recover.proofs.in_place.store_line.Goals as goal
 use Rattle.heap_recover.proofs.in_place.store_line.Goals.{then-old-word+in_ok-store, else-old-word}
 
@@ -18,7 +18,9 @@ returns-in_err-store-clause-cut_off g c =
     let more = differ_more old new c.loop-word.word other in
     let first = differ_from old new (8 * c.args.line) c.loop-word.word low in
     let rest = differ_from old new (c.loop-word.word + 1) (8 * c.args.line + 8) (omega arith) in
-    let cut = refused_cut c.args.old.now c.args.new.now (8 * c.args.line) c.loop-word.word (8 * c.args.line) (differences old new (8 * c.args.line + 8) - differences old new (8 * c.args.line))
+    let lines = lines_from old new ((c.loop-word.word - 1) / 8) c.args.line (omega arith) in
+    let cut = refused_cut c.args.old.now c.args.new.now (8 * c.args.line) c.loop-word.word (differences old new (8 * c.args.line) + changed_lines old new c.args.line)
+    (differences old new (8 * c.args.line + 8) - differences old new (8 * c.args.line))
     (view c.args.memory.now) (view c.loop-word.memory) (view c.store.new.self) c.in_err-store.field-0.0.step i.stored c.in_err-store.ensures.stopped i.budget i.going
     (g.met.M.LineMemory.sound c.loop-word.memory) (omega arith) (omega arith) in
     let p = err_from_is_err_and c.from_residual.result c.from_residual.ensures.1 in

@@ -25,3 +25,18 @@ returns-clause-ok g c =
       tells = c.in_ok-report.ensures (slice_index rebuilt.words.items) c.in_ok-recovered.ensures;
       text_is = c.in_ok-text.ensures;
     }
+
+pub returns-clause-asked : goal.returns-clause-asked
+returns-clause-asked g c =
+    let rebuilt = c.in_ok-rebuilt.rebuilt in
+    let image_is : c.in_ok-image.image ≡ bytes_of_words rebuilt.words.items = search rules in
+    record {
+      begun = c.seed.new.self;
+      anew = c.seed.ensures;
+      stopped = rebuilt.stopped;
+      left = rebuilt.words.items;
+      put_is = image_is;
+      report = c.in_ok-report.report;
+      text_is = c.in_ok-text.ensures;
+      asked = c.in_ok-rebuilt.ensures.asked;
+    }

@@ -1,4 +1,5 @@
-use Rattle.std.proofs.Common.{ℕ, List, ◌∙◌, sym, ap, subst, slice_index, length}
+use Rattle.std.proofs.Common.{ℕ, List, ◌∙◌, refl, sym, ap, subst, map, slice_index, length}
+use Rattle.crash_image.specs.Crash.{GivesAll, transient_words}
 use Rattle.heap_model.specs.Header.{capacity_of}
 use Rattle.line_memory.specs.View.{View}
 use Rattle.line_memory.specs.Plain.{view_of}
@@ -56,3 +57,20 @@ returns-in-Ok-clause-chances g c = by_chance _ _ 0 _ unasked c.chance.ensures
 
 pub returns-in-Err-clause-chances : goal.returns-in-Err-clause-chances
 returns-in-Err-clause-chances g c = comes_then _ _ _ _ _ (by_chance _ _ 0 _ unasked c.chance.ensures) c.left_by_crash.ensures.chances
+
+pub returns-in-Ok-clause-asked : goal.returns-in-Ok-clause-asked
+returns-in-Ok-clause-asked g c = record {
+  dealt = c.chance.new.self;
+  workers_first = (c.chance.result, (c.chance.new.self, (c.chance.ensures, refl)));
+  then_nothing = λ _. refl;
+  then_words = λ e. absurd (cc);
+}
+
+pub returns-in-Err-clause-asked : goal.returns-in-Err-clause-asked
+returns-in-Err-clause-asked g c = record {
+  dealt = c.chance.new.self;
+  workers_first = (c.chance.result, (c.chance.new.self, (c.chance.ensures, refl)));
+  then_nothing = λ e. absurd (cc);
+  then_words = λ _. subst (λ n. GivesAll g.C.Chances.word_gives c.chance.new.self (map (slice_index c.left_by_crash.result.items) (transient_words n)) c.left_by_crash.new.chances)
+      (c.geometry-geometry.ensures ∙ capacity_new c.args.words.now c.args.heap.now.words c.args.heap.now.held c.requires) c.left_by_crash.ensures.drawn;
+}
