@@ -61,7 +61,7 @@ returns-in-Err-clause-chances g c = comes_then _ _ _ _ _ (by_chance _ _ 0 _ unas
 pub returns-in-Ok-clause-asked : goal.returns-in-Ok-clause-asked
 returns-in-Ok-clause-asked g c = record {
   dealt = c.chance.new.self;
-  workers_first = (c.chance.result, (c.chance.new.self, (c.chance.ensures, refl)));
+  workers_first = (c.chance.result, c.chance.new.self, c.chance.ensures, refl);
   then_nothing = λ _. refl;
   then_words = λ e. absurd (cc);
 }
@@ -69,7 +69,7 @@ returns-in-Ok-clause-asked g c = record {
 pub returns-in-Err-clause-asked : goal.returns-in-Err-clause-asked
 returns-in-Err-clause-asked g c = record {
   dealt = c.chance.new.self;
-  workers_first = (c.chance.result, (c.chance.new.self, (c.chance.ensures, refl)));
+  workers_first = (c.chance.result, c.chance.new.self, c.chance.ensures, refl);
   then_nothing = λ e. absurd (cc);
   then_words = λ _. subst (λ n. GivesAll g.C.Chances.word_gives c.chance.new.self (map (slice_index c.left_by_crash.result.items) (transient_words n)) c.left_by_crash.new.chances)
       (c.geometry-geometry.ensures ∙ capacity_new c.args.words.now c.args.heap.now.words c.args.heap.now.held c.requires) c.left_by_crash.ensures.drawn;
