@@ -5,15 +5,17 @@ use Rattle.std.specs.Ordering.{nat_cmp}
 use Rattle.std.proofs.lemmas.Bool.{cases_eq, cond_both}
 use Rattle.std.proofs.lemmas.List.{get_or-set_same, get_or-set_other}
 use Rattle.std.proofs.lemmas.List.Elements.{Contains-append_left, Contains-push}
-use Rattle.std.specs.Prelude.{nat_eq}
+use Rattle.std.specs.Prelude.{nat_eq, IsSome}
 use Rattle.heap_model.specs.declared.block.Block.{Block}
+use Rattle.heap_model.specs.Geometry.{root_word}
 use Rattle.heap_model.specs.Image.{Image}
 use Rattle.heap_model.proofs.MemberLemmas.{in_none, head_or_rest}
 use Rattle.dict_model.specs.Nodes.{buckets, shard_of, key_in, IsNode, find}
-use Rattle.dict_model.specs.Shards.{Map, Leading, HasTable, IsPath, link_behind, but, map_of, IsMap, has_table}
+use Rattle.dict_model.specs.Shards.{Map, Leading, LeadsOnce, LeadsAstray, HasTable, HasChains, IsPath, IsNext, link_behind, but, map_of, IsMap, is_empty, has_table, at_link}
+use Rattle.dict_model.proofs.ShardLemmas.{no_bad_place}
 use Rattle.dict_model.proofs.SpliceLemmas.{with_same, with_other}
 use Rattle.dictionary.specs.Reading.{AddsNode}
-use Rattle.dictionary.proofs.WalkLemmas.{path-push, link_behind-push, at_key, further, more_means}
+use Rattle.dictionary.proofs.WalkLemmas.{path-push, link_behind-push, at_key, further, more_means, no_node, no_new_key}
 
 -- one more bucket begins: its link is the word of the table, and its chain is to be read
 pub links_begin : (links : List ℕ) (from b : ℕ) → b < length links → ((k : ℕ) → k < b → slice_index links k ≡ from + k)
@@ -63,6 +65,25 @@ module _ (leads : Leading) (image : Image) (shard : ℕ) (table : Block) where
         ];
       })
       along.means
+
+  -- where a link leads to no next node, the shard is no map
+  module _ (once : LeadsOnce leads) (b : ℕ) (links unread : List ℕ) (read : Map) (there : HasTable leads image shard table) (below : b < buckets)
+      (along : IsMapAlong links unread read) where
+    no_next : (map : Map) → LeadsAstray (but table leads) (IsNext image shard b (along.nodes b)) (image (slice_index links b)) → IsMap leads image shard map → ⊥
+    no_next map astray (is_empty null none) = once.null table (subst (λ w. leads w table) null there.leads_there)
+    no_next map astray (has_table other nodes found chains means) =
+        let same : other ≡ table = once.one (image (root_word shard)) other table found.leads_there there.leads_there in
+        no_bad_place leads once image shard map (slice_index links b) (has_table other nodes found chains means)
+        (at_link table nodes b (slice_index links b) (along.nodes b) there below
+        (λ k low. subst (λ (t : Block). HasChains leads image shard t buckets nodes) same chains k (omega arith))
+        (along.paths b below) (along.links_are b below) astray)
+
+    pub astray_no_map : LeadsAstray (but table leads) (IsNode image shard b) (image (slice_index links b)) → (map : Map) → IsMap leads image shard map → ⊥
+    astray_no_map astray map = no_next map (no_node leads image shard table b (image (slice_index links b)) along.nodes astray)
+
+    pub met_no_map : (node : Block) → but table leads (image (slice_index links b)) node → IsNode image shard b node → IsSome (read (key_in image node))
+        → (map : Map) → IsMap leads image shard map → ⊥
+    met_no_map node to is met map = no_next map (no_new_key leads image shard table b once (image (slice_index links b)) along.nodes read node along.means to is met)
 
   module _ (b : ℕ) (links unread : List ℕ) where
     -- a chain ends

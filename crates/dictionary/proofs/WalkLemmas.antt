@@ -9,7 +9,7 @@ use Rattle.heap_model.specs.declared.block.Block.{Block}
 use Rattle.heap_model.specs.Image.{Image}
 use Rattle.dict_model.specs.Links.{shards}
 use Rattle.dict_model.specs.Nodes.{buckets, shard_of, bucket_of, key_in, value_in, IsNode, find}
-use Rattle.dict_model.specs.Shards.{Map, Leading, LeadsOnce, LeadsAstray, HasTable, HasChains, IsBucketChain, IsPath, link_behind, but, map_of, IsMap, MapOf, has_table, IsBadAt, at_link, BadShard as IsBadShard}
+use Rattle.dict_model.specs.Shards.{Map, Leading, LeadsOnce, LeadsAstray, HasTable, HasChains, IsBucketChain, IsPath, link_behind, but, map_of, IsMap, MapOf, has_table, IsBadAt, IsNext, at_link, BadShard as IsBadShard}
 use Rattle.dict_model.proofs.ShardLemmas.{find_first, find_behind, not_first, not_behind}
 use Rattle.dict_model.proofs.SpliceLemmas.{chains_with, with_same, with_other}
 use Rattle.dictionary.specs.declared.fault.MapFault.{MapFault}
@@ -140,23 +140,30 @@ module _ (leads : Leading) (image : Image) (shard : ℕ) (table : Block) where
           at_is = sym (ap (λ bs. link_behind (table.first_word + k) bs) this ∙ link_behind-push image b (table.first_word + k) (before.nodes k));
         }
 
-    -- a link that leads to no node of the bucket, and one that leads to a node whose key was met
+    -- a link that leads to no node of the bucket, and one that leads to a node whose key was met, lead to no next node
+    pub no_node : (word : ℕ) (nodes : ℕ → List Block) → LeadsAstray (but table leads) (IsNode image shard k) word → LeadsAstray (but table leads) (IsNext image shard k (nodes k)) word
+    no_node word nodes astray = record { not_null = astray.not_null; nowhere = λ b to next. astray.nowhere b to next.node }
+
+    pub no_new_key : (once : LeadsOnce leads) (word : ℕ) (nodes : ℕ → List Block) (map : Map) (b : Block) → ((key : ℕ) → map key ≡ map_of image shard nodes key)
+        → but table leads word b → IsNode image shard k b → IsSome (map (key_in image b)) → LeadsAstray (but table leads) (IsNext image shard k (nodes k)) word
+    no_new_key once word nodes map b means to is met = record {
+      not_null = λ null. once.null b (subst (λ w. leads w b) null to.0);
+      nowhere = λ c to_c next.
+          let new : find image (key_in image b) (nodes k) ≡ None =
+          subst (λ (x : Block). find image (key_in image x) (nodes k) ≡ None) (once.one word c b to_c.0 to.0) next.new in
+          let none : map (key_in image b) ≡ None = means (key_in image b) ∙ at_key nodes b is ∙ new in
+          let absent : IsSome {T = List ℕ} None = subst (λ o. IsSome o) none met in absurd (cc);
+    }
+
     pub bad_link : (at : ℕ) (map : Map) → HasTable leads image shard table → k < buckets → IsMapBefore leads image shard table k at map
         → LeadsAstray (but table leads) (IsNode image shard k) (image at) → IsBadAt leads image shard at
     bad_link at map there below before astray = at_link table before.nodes k at (before.nodes k) there below before.read.chains before.read.path before.at_is
-        (record { not_null = astray.not_null; nowhere = λ b to next. astray.nowhere b to next.node })
+        (no_node (image at) before.nodes astray)
 
     pub bad_key : (once : LeadsOnce leads) (at : ℕ) (map : Map) (b : Block) → HasTable leads image shard table → k < buckets → IsMapBefore leads image shard table k at map
         → but table leads (image at) b → IsNode image shard k b → IsSome (map (key_in image b)) → IsBadAt leads image shard at
     bad_key once at map b there below before to is met = at_link table before.nodes k at (before.nodes k) there below before.read.chains before.read.path before.at_is
-        (record {
-          not_null = λ null. once.null b (subst (λ w. leads w b) null to.0);
-          nowhere = λ c to_c next.
-              let new : find image (key_in image b) (before.nodes k) ≡ None =
-              subst (λ (x : Block). find image (key_in image x) (before.nodes k) ≡ None) (once.one (image at) c b to_c.0 to.0) next.new in
-              let none : map (key_in image b) ≡ None = before.read.means (key_in image b) ∙ at_key before.nodes b is ∙ new in
-              let absent : IsSome {T = List ℕ} None = subst (λ o. IsSome o) none met in absurd (cc);
-        })
+        (no_new_key once (image at) before.nodes map b before.read.means to is met)
 
 -- maps of one more shard
 pub maps_begin : (image : Image) → AreMaps image 0 []

@@ -1,10 +1,10 @@
 //! Reading the chains of a table side by side, a node of each in turn: nodes that were made one
 //! after another lie near each other, in the image and in the order of keys, and hang in different
 //! buckets.
-ghost use Rattle.std.specs.Prelude.{slice_index, IfOk, IfSome};
+ghost use Rattle.std.specs.Prelude.{slice_index, IfOk, IfSome, IsNone};
 ghost use Rattle.std.specs.BTreeMap.{get, IsOrdered};
 ghost use Rattle.std.specs.Ordering.{nat_cmp};
-ghost use Rattle.dict_model.specs.Shards.{HasTable, LeadsAlone, IsMap};
+ghost use Rattle.dict_model.specs.Shards.{HasTable, LeadsAlone, IsMap, Map};
 ghost use Rattle.dictionary.specs.Reading.{IsRead};
 
 use crate::walk::{Lead, Walk};
@@ -14,8 +14,8 @@ use region_header::Bytes;
 use std::alloc::{AllocError, Global};
 use std::collections::{BTreeMap, VecDeque};
 
-/// The map of a table, where each link leads to what it may and no key is met twice. Where one does
-/// not there is no answer: which of them is the first tells only a reading in order.
+/// The map of a table, where each link leads to what it may and no key is met twice, and none
+/// exactly where the shard is no map: which bad link is the first tells only a reading in order.
 pub fn read_together(
     alloc: Global,
     walk: &Walk,
@@ -29,6 +29,9 @@ pub fn read_together(
         IsMap (LeadsAlone (slice_index walk.now.scan.words.now) walk.now.shard)
         (slice_index walk.now.scan.words.now) walk.now.shard (get nat_cmp map))) }
     ensures ordered { IfOk result (λ found. IfSome found (λ map. IsOrdered nat_cmp map)) }
+    ensures none { IfOk result (λ found. IsNone found → (map : Map)
+        → IsMap (LeadsAlone (slice_index walk.now.scan.words.now) walk.now.shard)
+        (slice_index walk.now.scan.words.now) walk.now.shard map → ⊥) }
 {
     let mut map = BTreeMap::new(alloc);
     let mut links = [0; BUCKETS as usize];

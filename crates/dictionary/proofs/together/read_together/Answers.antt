@@ -5,9 +5,10 @@ use Rattle.std.proofs.lemmas.List.{nil_from_length, length-set}
 use Rattle.std.proofs.lemmas.List.Elements.{All-head, All-rest, All-same, All-push}
 use Rattle.dict_model.specs.Nodes.{buckets}
 use Rattle.dict_model.specs.Shards.{LeadsAlone}
+use Rattle.dict_model.proofs.ShardLemmas.{alone_once}
 use Rattle.dictionary.proofs.LeadLemmas.{lies_in}
 use Rattle.dictionary.proofs.WalkLemmas.{no_key}
-use Rattle.dictionary.proofs.TogetherLemmas.{links_begin, unread_begin, links_inside, IsMapAlong, along_begins, along_ends, along_null, along_step}
+use Rattle.dictionary.proofs.TogetherLemmas.{links_begin, unread_begin, links_inside, IsMapAlong, along_begins, along_ends, along_null, along_step, astray_no_map, met_no_map}
 use Rattle.dictionary.proofs.together.read_together.Goals as goal
 
 pub loop-bucket-preserved : goal.loop-bucket-preserved
@@ -96,3 +97,23 @@ returns-clause-map c =
     c.loop-bucket-2.links (get nat_cmp c.loop-bucket-2.map) c.requires.table
     (subst (λ bs. IsMapAlong (LeadsAlone (slice_index c.args.walk.now.scan.words.now) c.args.walk.now.shard) (slice_index c.args.walk.now.scan.words.now) c.args.walk.now.shard c.args.table
     c.loop-bucket-2.links bs (get nat_cmp c.loop-bucket-2.map)) items c.loop-bucket-2.invariant.along)
+
+pub returns-in-Astray-clause-none : goal.returns-in-Astray-clause-none
+returns-in-Astray-clause-none c = λ none map is.
+    let was = c.loop-bucket-2.invariant in
+    let image = slice_index c.args.walk.now.scan.words.now in
+    let shard = c.args.walk.now.shard in
+    let items : c.loop-bucket-2.unread.items ≡ c.in-Some.bucket ∷ c.pop_front.new.self.items = c.in-Some.ensures.items in
+    let below : c.in-Some.bucket < buckets = All-head (λ k. k < buckets) c.in-Some.bucket c.pop_front.new.self.items (subst (λ bs. All (λ k. k < buckets) bs) items was.few) in
+    astray_no_map (LeadsAlone image shard) image shard c.args.table (alone_once image shard) c.in-Some.bucket c.loop-bucket-2.links c.loop-bucket-2.unread.items (get nat_cmp c.loop-bucket-2.map)
+    c.requires.table below was.along c.in-Astray.ensures map is
+
+pub returns-then-not-branch-clause-none : goal.returns-then-not-branch-clause-none
+returns-then-not-branch-clause-none c = λ none map is.
+    let was = c.loop-bucket-2.invariant in
+    let image = slice_index c.args.walk.now.scan.words.now in
+    let shard = c.args.walk.now.shard in
+    let items : c.loop-bucket-2.unread.items ≡ c.in-Some.bucket ∷ c.pop_front.new.self.items = c.in-Some.ensures.items in
+    let below : c.in-Some.bucket < buckets = All-head (λ k. k < buckets) c.in-Some.bucket c.pop_front.new.self.items (subst (λ bs. All (λ k. k < buckets) bs) items was.few) in
+    met_no_map (LeadsAlone image shard) image shard c.args.table (alone_once image shard) c.in-Some.bucket c.loop-bucket-2.links c.loop-bucket-2.unread.items (get nat_cmp c.loop-bucket-2.map)
+    c.requires.table below was.along c.in-To.node c.in-To.ensures.0 c.in-To.ensures.1 (c.in_ok-add-in-To.ensures.known c.if-not-branch.true) map is
