@@ -4,15 +4,16 @@ use Rattle.heap_model.specs.Image.{Image}
 use Rattle.heap_seat.specs.declared.fault.Looks.{Looks}
 use Rattle.heap_seat.specs.View.{View}
 use Rattle.heap_seat.specs.Calls.{SameRefusals}
-use Rattle.heap_seat.specs.Rows.{IsRow}
 use Rattle.heap_seat.specs.Sound.{IsSeat}
+use Rattle.heap_seat.specs.Tickets.{Runs}
 use Rattle.dict_model.specs.Links.{shards}
-use Rattle.dict_model.specs.Nodes.{largest_value, shard_of, node_bytes, table_bytes}
+use Rattle.dict_model.specs.Nodes.{largest_value, shard_of, value_words, node_bytes, table_bytes}
 use Rattle.dict_model.specs.Requests.{Request, put, get, del, Reply, full}
 use Rattle.dict_model.specs.Shards.{Map, MapOf}
+use Rattle.dict_seat.specs.Answers.{MakesFew}
+use Rattle.dict_seat.specs.Gets.{words_of}
 use Rattle.dict_seat.specs.Maps.{GivesMap}
 use Rattle.dict_seat.specs.Puts.{WasTurnedDown}
-use Rattle.dict_seat.specs.Walks.{ListsKeys}
 use Rattle.run_model.specs.Workers.{Replies, shard_asked}
 use Rattle.run_model.specs.Progress.{Answers, MayAnswer, HasAnswered}
 use Rattle.run_model.specs.Spending.{TakesFew, HadNoRoom}
@@ -78,10 +79,21 @@ pub record Replied (request : Request) (told : Option Reply) (v w : View) : Type
   pub takes : TakesFew request reply v w
   pub room : reply ≡ full → HadNoRoom request w
 
--- a request makes few calls: three large ones at most, and so many small ones, four for each key of its shard
+-- the words of the value that a request puts, or that its key has which it gets
+abbrev pub words_moved : Request → Map → ℕ
+words_moved (put key value) map = value_words (length value)
+words_moved (get key) map = words_of (map key)
+words_moved (del key) map = 0
+
+-- a request makes few calls, by the words that it moves and the keys of its shard
 pub record MakesCalls (request : Request) (v w : View) : Type 0 where
   pub most : ℕ
-  pub row : (keys : List ℕ) → ListsKeys v (shard_asked request) keys → IsRow (33280 + 4 * length keys) 3 most v w
+  pub few : (map : Map) → GivesMap v (shard_asked request) map → MakesFew (words_moved request map) most (shard_asked request) v w
+
+-- What was done behind the last reply: nothing where no request is left, and else a part of the first one, by no more calls than that may make.
+abbrev pub IsUnderWay : List Request → View → View → Type 0
+IsUnderWay [] v w = w ≡ v
+IsUnderWay (request ∷ others) v w = MayAnswer request v w × MakesCalls request v w
 
 -- a request may ask the heap for so many bytes: those of its put's node, or of a table
 abbrev pub AsksFor : Request → ℕ → Type 0
@@ -95,11 +107,14 @@ pub record WasRefused {S : Type 0} (view : S → View) (keeps : S → S → Type
   pub asked : AsksFor request (view t).refused_bytes
   pub none : WasTurnedDown keeps has_none (view t).refused_bytes (view t).refused_looks s t
 
--- a request went from one state of a seat to the next: its reply is right, and what every call keeps was kept; one that was told full had a request for a block refused, and no other had
+-- A request went from one state of a seat to the next. Its reply is right, its tickets are below the budget, its calls are few, and what every call keeps
+-- was kept. One that was told full had a request for a block refused, and no other had.
 pub record TakesRequest {S : Type 0} (view : S → View) (keeps : S → S → Type 0) (has_none : S → S → ℕ → Looks → Type 0) (request : Request) (reply : Reply)
     (s t : S) : Type 0 where
   pub answers : Answers request reply (view s) (view t)
   pub may : MayAnswer request (view s) (view t)
+  pub runs : Runs (view s) (view t)
+  pub calls : MakesCalls request (view s) (view t)
   pub keeps_it : keeps s t
   pub refused : reply ≡ full → WasRefused view keeps has_none request s t
   pub granted : (reply ≡ full → ⊥) → SameRefusals (view s) (view t)

@@ -3,7 +3,6 @@ use Rattle.std.proofs.Common.{◌≡◌, ℕ, ◌+◌, ◌*◌, ◌≤◌, ◌�
 use Rattle.std.proofs.Math.Seq.{take-append_seam}
 use Rattle.std.proofs.lemmas.List.{take_all}
 use Rattle.heap_seat.specs.View.{View}
-use Rattle.heap_seat.proofs.RowLemmas.{row_more}
 use Rattle.dict_model.specs.Nodes.{shard_of, value_words, node_bytes, table_bytes}
 use Rattle.dict_model.specs.Requests.{Request, put, get, del, done, full, none, found, get_found, get_none, put_done, put_full, del_done, del_none, with_key, without_key, IsReply}
 use Rattle.dict_model.specs.Shards.{Map}
@@ -13,23 +12,18 @@ use Rattle.dict_seat.specs.Maps.{GivesMap}
 use Rattle.dict_seat.proofs.DelLemmas.{gives_same, without_missing}
 use Rattle.run_model.specs.Spending.{TakesFew, for_node as only_node, with_table, HadNoRoom}
 use Rattle.run_model.specs.Workers.{shard_asked}
-use Rattle.run_model.specs.Working.{Fits, Replied, MakesCalls, AsksFor, WasRefused}
+use Rattle.run_model.specs.Working.{Fits, Replied, AsksFor, WasRefused, words_moved}
 use Rattle.dict_seat.specs.Gets.{IsAnswer, Gets, ReadsFew, words_of}
 use Rattle.dict_seat.specs.Puts.{IsRefused, PutRefused, WasTurnedDown, of_node, of_node_behind_table, of_table, PutTakes, for_node, for_both}
 use Rattle.dict_seat.specs.Removal.{IsShard}
 use Rattle.heap_model.specs.Sizes.{span_of}
 use Rattle.heap_seat.specs.declared.fault.Looks.{Looks}
+use Rattle.worker_run.specs.Said.{IsShort}
 use Rattle.worker_run.specs.Taking.{MayTake, for_node as may_node, with_table as may_table}
 use Rattle.worker_run.proofs.KeyLemmas.{takes_none}
 use Rattle.worker_run.proofs.TakenLemmas.{key_has_table}
 use Rattle.std.specs.Prelude.{nat_eq}
 use Rattle.std.proofs.lemmas.Bool.{cond-true, eq-eqb}
-
-pub calls_few : (q : Request) (words most : ℕ) (v w : View) → words ≤ 16384 → MakesFew words most (shard_asked q) v w → MakesCalls q v w
-calls_few q words most v w short few = record {
-  most = most;
-  row = λ keys lists. row_more (512 + 2 * words + 4 * length keys) 3 most (33280 + 4 * length keys) 3 most v w (omega arith) (omega arith) (omega arith) (few keys lists);
-}
 
 -- a put that was done made a table where its shard had none
 put_takes : (key : ℕ) (value : List ℕ) (v w : View) → IsShard v (shard_of key) → Changes (shard_of key) (λ m. with_key m key value) v w
@@ -144,12 +138,15 @@ replied_none key v w shard few deletes = record {
     | inr value ↦ absurd (let yes : false ≡ true = (deletes.tells m gives).1 (λ nothing. let e : None ≡ Some value.0 = sym nothing ∙ value.1 in absurd (cc)) in cc)
   ]
 
-pub calls_get : (key room : ℕ) (v w : View) (m : Map) → GivesMap v (shard_of key) m → Fits v (get key) room → ReadsFew key v w → MakesCalls (get key) v w
-calls_get key room v w m gives fits few = calls_few (get key) (words_of (m key)) 0 v w (elim (there_or_not (m key)) as (λ _. words_of (m key) ≤ 16384) [
+-- the words that a request moves are few
+pub moves_few : (q : Request) (v : View) (room : ℕ) → IsShort q → Fits v q room → (map : Map) → GivesMap v (shard_asked q) map → words_moved q map ≤ 16384
+moves_few (put key value) v room short fits map gives = omega (arith, short)
+moves_few (del key) v room short fits map gives = omega arith
+moves_few (get key) v room short fits map gives = elim (there_or_not (map key)) as (λ _. words_of (map key) ≤ 16384) [
   | inl nothing ↦ subst (λ o. words_of o ≤ 16384) (sym nothing) (let none : 0 ≤ 16384 = omega arith in none)
   | inr value ↦ subst (λ o. words_of o ≤ 16384) (sym value.1)
-      (let short = fits.0 in let long = fits.1 m value.0 gives value.1 in let few : value_words (length value.0) ≤ 16384 = omega arith in few)
-]) (few m gives)
+      (let most = fits.0 in let long = fits.1 map value.0 gives value.1 in let few : value_words (length value.0) ≤ 16384 = omega arith in few)
+]
 
 pub replied_missing : (key : ℕ) (old new : List ℕ) (v w : View) → IsShard v (shard_of key) → ReadsFew key v w → Changes (shard_of key) (λ m. m) v w → Gets key None old new v w
     → Replied (get key) (Some none) v w

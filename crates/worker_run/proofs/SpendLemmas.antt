@@ -20,9 +20,9 @@ use Rattle.run_model.specs.Opened.{HasMaps}
 use Rattle.run_model.specs.Runs.{answered, unanswered, of_shard, span_taken}
 use Rattle.run_model.specs.Spending.{HadNoRoom, IsFullBehind, AreFullRightly, MakeFew}
 use Rattle.run_model.specs.Workers.{key_of, shard_asked, Replies}
-use Rattle.run_model.specs.Working.{HasWorked, MakesCalls, TakesRequest, TakesRequests}
-use Rattle.worker_run.specs.Said.{Told, reply_of, replies_of}
-use Rattle.worker_run.proofs.AnsweringLemmas.{there_or_not}
+use Rattle.run_model.specs.Working.{Fits, HasWorked, MakesCalls, TakesRequest, TakesRequests, words_moved}
+use Rattle.worker_run.specs.Said.{IsShort, Told, reply_of, replies_of}
+use Rattle.worker_run.proofs.AnsweringLemmas.{moves_few, there_or_not}
 use Rattle.worker_run.proofs.KeyLemmas.{seat_keys}
 use Rattle.run_model.proofs.OneMapLemmas.{small_shard}
 use Rattle.worker_run.proofs.TakenLemmas.{HasTaken, tables_few}
@@ -111,18 +111,21 @@ keys_listed image qs left q replies v keys maps owned worked lists = record { ma
 pub few_none : (small : ℕ) (v : View) → MakeFew 0 small v v
 few_none small v = record { most = 0; row = row_more 0 0 0 (0 * small) (3 * 0) 0 v v (omega arith) (omega arith) (omega arith) (row_none v) }
 
-pub few_next : (requests small : ℕ) (image : Image) (qs left : List Request) (q : Request) (replies : Replies) (v u w : View) (keys : List ℕ) → small ≡ 33280 + 4 * (length keys + length qs)
-    → HasMaps image → Contains u.roots (shard_asked q) → HasWorked image qs (q ∷ left) replies u → ListsKeysOf image keys → MakesCalls q u w → MakeFew requests small v u → MakeFew (requests + 1) small v w
-few_next requests small image qs left q replies v u w keys small_is maps owned worked lists calls few =
-    let row = calls.row (keys ++ map key_of qs) (keys_listed image qs left q replies u keys maps owned worked lists) in
+pub few_next : (requests small : ℕ) (image : Image) (qs left : List Request) (q : Request) (replies : Replies) (v u w : View) (room : ℕ) (keys : List ℕ) → small ≡ 33280 + 4 * (length keys + length qs)
+    → HasMaps image → Contains u.roots (shard_asked q) → HasWorked image qs (q ∷ left) replies u → ListsKeysOf image keys → IsShort q → Fits u q room → MakesCalls q u w → MakeFew requests small v u
+    → MakeFew (requests + 1) small v w
+few_next requests small image qs left q replies v u w room keys small_is maps owned worked lists short fits calls few =
+    let listed = keys_listed image qs left q replies u keys maps owned worked lists in
+    let moves : words_moved q listed.map ≤ 16384 = moves_few q u room short fits listed.map listed.gives in
+    let row = calls.few listed.map listed.gives (keys ++ map key_of qs) listed in
     let long = length-append keys (map key_of qs) in
     let same = length-map qs key_of in
     let product = add-mul requests 1 small in
     record {
       most = few.most + calls.most;
-      row = row_more (requests * small + (33280 + 4 * length (keys ++ map key_of qs))) (3 * requests + 3) (few.most + calls.most) ((requests + 1) * small) (3 * (requests + 1)) (few.most + calls.most) v w
+      row = row_more (requests * small + (512 + 2 * words_moved q listed.map + 4 * length (keys ++ map key_of qs))) (3 * requests + 3) (few.most + calls.most) ((requests + 1) * small) (3 * (requests + 1)) (few.most + calls.most) v w
           (omega arith) (omega arith) (omega arith)
-          (row_then (requests * small) (3 * requests) few.most (33280 + 4 * length (keys ++ map key_of qs)) 3 calls.most v u w few.row row);
+          (row_then (requests * small) (3 * requests) few.most (512 + 2 * words_moved q listed.map + 4 * length (keys ++ map key_of qs)) 3 calls.most v u w few.row row);
     }
 
 pub few_more : (requests more small : ℕ) (v w : View) → requests ≤ more → MakeFew requests small v w → MakeFew more small v w
@@ -171,7 +174,7 @@ knows_then u v w a b = omega arith
 pub knows_call : (q : Request) (v w : View) → IsShard v (shard_asked q) → MakesCalls q v w → KnowsNoLess v w
 knows_call q v w shard calls =
     let keys = seat_keys v (shard_asked q) shard.map shard.gives in
-    (calls.row keys.0 keys.1).goes_on.used
+    (calls.few shard.map shard.gives keys.0 keys.1).goes_on.used
 
 -- it stays so where the heap goes on
 pub refused_on : {S : Type 0} (view : S → View) (keeps : S → S → Type 0) (requests : List Request) (rs : List (Request × Reply)) (s t u : S)

@@ -11,7 +11,7 @@ ghost use Rattle.run_model.specs.Progress.{HasAnswered};
 ghost use Rattle.run_model.specs.Runs.{answered, unanswered};
 ghost use Rattle.run_model.specs.Spending.{AreFullRightly, HasTakenFew, MakeFew};
 ghost use Rattle.run_model.specs.Workers.{worker_of, worker_requests};
-ghost use Rattle.run_model.specs.Working.{HasWorked, HasStopped, HaveRoom, TakesRequests};
+ghost use Rattle.run_model.specs.Working.{HasWorked, HasStopped, HaveRoom, IsUnderWay, TakesRequests};
 ghost use Rattle.worker_run.specs.Said.{requests_of, replies_of, ValuesAreShort};
 
 use crate::answer::answer;
@@ -73,7 +73,10 @@ pub fn work_off<H: HeapSeat, G: Gate>(
         (requests_of requests.now)))) (H.view seat.old) (H.view seat.new) }
     ensures steps { (u : H) × TakesRequests H.view H.keeps H.has_none
         (answered (worker_requests worker.workers worker.number (requests_of requests.now))
-        (replies_of replies.new.items)) seat.old u × H.keeps u seat.new }
+        (replies_of replies.new.items)) seat.old u
+        × IsUnderWay (unanswered (worker_requests worker.workers worker.number
+        (requests_of requests.now)) (replies_of replies.new.items)) (H.view u) (H.view seat.new)
+        × H.keeps u seat.new }
     ensures roots { (H.view seat.new).roots ≡ (H.view seat.old).roots }
     ensures room { vec_capacity replies.new ≡ vec_capacity replies.old }
     ensures kept { H.keeps seat.old seat.new }

@@ -1,19 +1,19 @@
-use Rattle.std.proofs.Common.{Bool, subst, sym, arith}
+use Rattle.std.proofs.Common.{Bool, subst, sym}
 use Rattle.dict_model.specs.Requests.{del}
 use Rattle.dict_seat.specs.Answers.{Deletes}
 use Rattle.worker_run.specs.Said.{Told, reply_of}
 use Rattle.run_model.specs.Working.{Replied}
-use Rattle.worker_run.proofs.AnsweringLemmas.{calls_few, none_spent, replied_gone, replied_none}
+use Rattle.worker_run.proofs.AnsweringLemmas.{none_spent, replied_gone, replied_none}
 use Rattle.worker_run.proofs.KeyLemmas.{takes_none}
 use Rattle.dict_model.specs.Nodes.{shard_of}
 use Rattle.worker_run.proofs.answer.del_reply.Goals as goal
 use Rattle.worker_run.proofs.answer.del_reply.Goals.{then-found, else-found}
 
 pub returns-in_err-found-clause-calls : goal.returns-in_err-found-clause-calls
-returns-in_err-found-clause-calls g c = calls_few (del c.args.key) 0 0 (g.H.HeapSeat.view c.args.seat.now) (g.H.HeapSeat.view c.del.new.seat) (omega arith) c.del.ensures.calls
+returns-in_err-found-clause-calls g c = record { most = 0; few = λ map gives. c.del.ensures.calls }
 
 pub returns-clause-calls : goal.returns-clause-calls
-returns-clause-calls g c = calls_few (del c.args.key) 0 0 (g.H.HeapSeat.view c.args.seat.now) (g.H.HeapSeat.view c.del.new.seat) (omega arith) c.del.ensures.calls
+returns-clause-calls g c = record { most = 0; few = λ map gives. c.del.ensures.calls }
 
 pub returns-clause-ok : goal.returns-clause-ok
 returns-clause-ok g c =

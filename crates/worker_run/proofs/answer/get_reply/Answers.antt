@@ -3,20 +3,17 @@ use Rattle.dict_seat.specs.Gets.{Gets, words_of}
 use Rattle.dict_model.specs.Nodes.{shard_of}
 use Rattle.dict_model.specs.Requests.{get}
 use Rattle.worker_run.proofs.KeyLemmas.{takes_none}
-use Rattle.worker_run.proofs.AnsweringLemmas.{calls_get, none_spent, replied_missing, replied_found}
+use Rattle.worker_run.proofs.AnsweringLemmas.{none_spent, replied_missing, replied_found}
 use Rattle.worker_run.proofs.answer.get_reply.Goals as goal
 
 pub returns-in_err-length-clause-calls : goal.returns-in_err-length-clause-calls
-returns-in_err-length-clause-calls g c =
-    calls_get c.args.key (length c.args.room.items) (g.H.HeapSeat.view c.args.seat.now) (g.H.HeapSeat.view c.get.new.seat) c.requires.shard.map c.requires.shard.gives c.requires.fits c.get.ensures.calls
+returns-in_err-length-clause-calls g c = record { most = 0; few = c.get.ensures.calls }
 
 pub returns-in_default-clause-calls : goal.returns-in_default-clause-calls
-returns-in_default-clause-calls g c =
-    calls_get c.args.key (length c.args.room.items) (g.H.HeapSeat.view c.args.seat.now) (g.H.HeapSeat.view c.get.new.seat) c.requires.shard.map c.requires.shard.gives c.requires.fits c.get.ensures.calls
+returns-in_default-clause-calls g c = record { most = 0; few = c.get.ensures.calls }
 
 pub returns-clause-calls : goal.returns-clause-calls
-returns-clause-calls g c =
-    calls_get c.args.key (length c.args.room.items) (g.H.HeapSeat.view c.args.seat.now) (g.H.HeapSeat.view c.get.new.seat) c.requires.shard.map c.requires.shard.gives c.requires.fits c.get.ensures.calls
+returns-clause-calls g c = record { most = 0; few = c.get.ensures.calls }
 
 pub returns-in_default-clause-ok : goal.returns-in_default-clause-ok
 returns-in_default-clause-ok g c =

@@ -3,7 +3,7 @@ use Rattle.std.proofs.lemmas.List.{nil_from_length, length-append}
 use Rattle.run_model.specs.Runs.{answered}
 use Rattle.run_model.specs.Spending.{AreFullRightly, HasTakenFew, MakeFew}
 use Rattle.run_model.specs.Workers.{worker_requests}
-use Rattle.run_model.specs.Working.{HasWorked, Fits, TakesRequests}
+use Rattle.run_model.specs.Working.{HasWorked, Fits, IsUnderWay, TakesRequests}
 use Rattle.worker_run.specs.Said.{Line, request_of, requests_of, replies_of}
 use Rattle.worker_run.proofs.MineLemmas.{is_next, mine_among, mine_next, owns_still, puts_owned, rooms_next, no_room_left}
 use Rattle.worker_run.proofs.SpendLemmas.{answered_none, answered_next, unanswered_now, worked_count, few_none, few_next, few_more, full_behind, knows_call, refused_none, refused_on, refused_next, takes_push}
@@ -162,9 +162,36 @@ returns-in_default-answered-clause-calls g c = λ keys lists.
     c.requires.1.1.1.1.1.0 owns c.loop-request.invariant.worked in
     let w = g.H.HeapSeat.view c.answer-answered.new.seat in
     let start = g.H.HeapSeat.view c.args.seat.now in
+    let rooms = rooms_next workers worker c.loop-request.left.now c.in-Some.rest.now c.in-Some.request.now c.has.result c.in-Some.ensures.cases.0 c.has.ensures c.if-has.true image (requests_of lines)
+    c.loop-request.rooms.items c.pop_front.new.self.items c.in-Some-pop_front.room c.in-Some-pop_front.ensures.items c.loop-request.invariant.rooms in
+    let among = mine_among workers worker (requests_of lines) in
+    let short = c.requires.1.1.1.1.1.1.1.0.each q (among q next.among) in
+    let room = length c.in-Some-pop_front.room in
+    let fits = room_fits image (requests_of lines) mine c.requires.1.1.1.1.1.0 among q (q ∷ rest) (replies_of told) v room (g.met.H.HeapSeat.seat c.loop-request.seat) next.owned next.worked rooms.0 in
     let small = 33280 + 4 * (length keys + length mine) in
     few_more (length told + 1) (length mine) small start w (let count = worked_count image mine (q ∷ rest) told v next.worked in omega arith)
-    (few_next (length told) small image mine rest q (replies_of told) start v w keys refl c.requires.1.1.1.1.1.0 next.owned next.worked lists c.answer-answered.ensures.calls (c.loop-request.invariant.calls keys lists))
+    (few_next (length told) small image mine rest q (replies_of told) start v w room keys refl c.requires.1.1.1.1.1.0 next.owned next.worked lists short fits c.answer-answered.ensures.calls (c.loop-request.invariant.calls keys lists))
+
+pub returns-in_default-answered-clause-steps : goal.returns-in_default-answered-clause-steps
+returns-in_default-answered-clause-steps g c =
+    let image = g.image in
+    let v = g.H.HeapSeat.view c.loop-request.seat in
+    let lines = c.args.requests.now in
+    let workers = c.args.worker.workers in
+    let worker = c.args.worker.number in
+    let mine = worker_requests workers worker (requests_of lines) in
+    let q = request_of c.in-Some.request.now in
+    let rest = worker_requests workers worker (requests_of c.in-Some.rest.now) in
+    let told = c.loop-request.replies.items in
+    let owns = owns_still workers worker (g.H.HeapSeat.view c.args.seat.now) v c.loop-request.invariant.roots c.requires.1.1.1.1.0 in
+    let next = is_next workers worker c.loop-request.left.now c.in-Some.rest.now c.in-Some.request.now c.has.result c.in-Some.ensures.cases.0 c.has.ensures c.if-has.true image lines (replies_of told) v
+    c.requires.1.1.1.1.1.0 owns c.loop-request.invariant.worked in
+    let w = g.H.HeapSeat.view c.answer-answered.new.seat in (
+      c.loop-request.seat,
+      c.loop-request.invariant.steps,
+      subst (λ qs. IsUnderWay qs v w) (sym (unanswered_now image mine (q ∷ rest) (replies_of told) v next.worked)) (c.answer-answered.ensures.crash, c.answer-answered.ensures.calls),
+      c.answer-answered.ensures.kept,
+    )
 
 pub loop-request-preserved-in-Ok : goal.loop-request-preserved-in-Ok
 loop-request-preserved-in-Ok g c =
@@ -184,6 +211,10 @@ loop-request-preserved-in-Ok g c =
     let start = g.H.HeapSeat.view c.args.seat.now in
     let rooms = rooms_next workers worker c.loop-request.left.now c.in-Some.rest.now c.in-Some.request.now c.has.result c.in-Some.ensures.cases.0 c.has.ensures c.if-has.true image (requests_of lines)
     c.loop-request.rooms.items c.pop_front.new.self.items c.in-Some-pop_front.room c.in-Some-pop_front.ensures.items c.loop-request.invariant.rooms in
+    let among = mine_among workers worker (requests_of lines) in
+    let short = c.requires.1.1.1.1.1.1.1.0.each q (among q next.among) in
+    let room = length c.in-Some-pop_front.room in
+    let fits = room_fits image (requests_of lines) mine c.requires.1.1.1.1.1.0 among q (q ∷ rest) (replies_of told) v room (g.met.H.HeapSeat.seat c.loop-request.seat) next.owned next.worked rooms.0 in
     let replied = c.in-Ok.ensures.ok in
     let now = answered_next image mine rest q told c.push_reserved.new.self.items c.in-Ok.reply replied.reply v c.push_reserved.ensures.items replied.told_is next.worked in
     let taken = taken_next mine (answered mine (replies_of told)) q replied.reply start v w next.among (puts_owned workers worker v (requests_of lines) owns) c.answer-answered.ensures.crash c.loop-request.invariant.taken
@@ -211,13 +242,15 @@ loop-request-preserved-in-Ok g c =
           kept (g.met.H.HeapSeat.keeps_none c.answer-answered.new.seat)
           (λ full. full_behind mine (answered mine (replies_of told)) q replied.reply start w taken full (replied.room full)));
       calls = λ keys lists. subst (λ n. MakeFew n (33280 + 4 * (length keys + length mine)) start w) one_more
-          (few_next (length told) (33280 + 4 * (length keys + length mine)) image mine rest q (replies_of told) start v w keys refl
-          c.requires.1.1.1.1.1.0 next.owned next.worked lists c.answer-answered.ensures.calls (c.loop-request.invariant.calls keys lists));
+          (few_next (length told) (33280 + 4 * (length keys + length mine)) image mine rest q (replies_of told) start v w room keys refl
+          c.requires.1.1.1.1.1.0 next.owned next.worked lists short fits c.answer-answered.ensures.calls (c.loop-request.invariant.calls keys lists));
       steps = subst (λ rs. TakesRequests g.H.HeapSeat.view g.H.HeapSeat.keeps g.H.HeapSeat.has_none rs c.args.seat.now c.answer-answered.new.seat) (sym now)
           (takes_push g.H.HeapSeat.view g.H.HeapSeat.keeps g.H.HeapSeat.has_none (answered mine (replies_of told)) q replied.reply c.args.seat.now c.loop-request.seat c.answer-answered.new.seat c.loop-request.invariant.steps
           (record {
             answers = replied.answers;
             may = c.answer-answered.ensures.crash;
+            runs = c.in-Ok.ensures.runs;
+            calls = c.answer-answered.ensures.calls;
             keeps_it = c.answer-answered.ensures.kept;
             refused = λ full. c.in-Ok.ensures.refused (replied.told_is ∙ ap Some full);
             granted = λ not. c.in-Ok.ensures.granted (λ told. let is = sym replied.told_is ∙ told in not (cc));
@@ -245,3 +278,24 @@ returns-clause-taken g c =
       | in_default w ↦ subst (λ (ls : List Line). HasWorked image mine (worker_requests workers worker (requests_of ls)) told v) (nil_from_length c.loop-request.left.now w.in_default.ensures.cases) c.loop-request.invariant.worked
     ] in
     subst (λ qs. HasTakenFew mine (answered mine told) qs start v) (sym (unanswered_now image mine [] told v worked)) (taken_ended mine (answered mine told) start v c.loop-request.invariant.taken)
+
+pub returns-clause-steps : goal.returns-clause-steps
+returns-clause-steps g c =
+    let image = g.image in
+    let v = g.H.HeapSeat.view c.loop-request.seat in
+    let lines = c.args.requests.now in
+    let workers = c.args.worker.workers in
+    let worker = c.args.worker.number in
+    let mine = worker_requests workers worker (requests_of lines) in
+    let told = replies_of c.loop-request.replies.items in
+    let worked : HasWorked image mine [] told v = elim c.match-split_first.branch as (λ _. HasWorked image mine [] told v) [
+      | in-Some+then-has+in_default-pop_front w ↦
+          absurd (no_room_left workers worker c.loop-request.left.now w.in-Some.rest.now w.in-Some.request.now w.has.result w.in-Some.ensures.cases.0 w.has.ensures w.if-has.true image (requests_of lines) c.loop-request.rooms.items
+          (w.in_default-pop_front.ensures.items ∙ nil_from_length w.pop_front.new.self.items (let ok = w.pop_front.new.self.ok in let none = w.in_default-pop_front.ensures.cases.1 in omega arith)) c.loop-request.invariant.rooms)
+      | in_default w ↦ subst (λ (ls : List Line). HasWorked image mine (worker_requests workers worker (requests_of ls)) told v) (nil_from_length c.loop-request.left.now w.in_default.ensures.cases) c.loop-request.invariant.worked
+    ] in (
+      c.loop-request.seat,
+      c.loop-request.invariant.steps,
+      subst (λ qs. IsUnderWay qs v v) (sym (unanswered_now image mine [] told v worked)) refl,
+      g.met.H.HeapSeat.keeps_none c.loop-request.seat,
+    )
