@@ -1,5 +1,5 @@
 -- The reply to one request, from what the dictionary's call answers.
-use Rattle.std.proofs.Common.{◌≡◌, ℕ, ◌+◌, ◌*◌, ◌≤◌, ◌⊎◌, inl, inr, List, length, Option, None, Some, true, false, refl, subst, sym, ap, ◌++◌, take, drop, ◌∙◌, arith}
+use Rattle.std.proofs.Common.{◌≡◌, ℕ, ◌+◌, ◌≤◌, ◌⊎◌, inl, inr, List, length, Option, None, Some, true, false, refl, subst, sym, ap, ◌++◌, take, drop, ◌∙◌, arith}
 use Rattle.std.proofs.Math.Seq.{take-append_seam}
 use Rattle.std.proofs.lemmas.List.{take_all}
 use Rattle.heap_seat.specs.View.{View}
