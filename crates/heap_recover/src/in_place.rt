@@ -96,8 +96,8 @@ fn store_image<M: LineMemory>(memory: &mut M, old: &[u64], new: &[u64]) -> Resul
 }
 
 /// Makes the words of a memory those of a recovered heap: what recovery changes of the image is
-/// stored in the order of word index, each line is written back once, and at the end a fence makes
-/// all of it durable. Nothing is loaded.
+/// stored in the order of word index, each line in which it changed a word is written back once,
+/// and at the end a fence makes all of it durable. Nothing is loaded.
 ///
 /// The memory has the image `x`, of this version, perhaps migrated, of which recovery with this
 /// filter makes the heap `to`. Its kinds of roots are those that it stores: nothing is read of

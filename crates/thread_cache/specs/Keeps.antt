@@ -23,7 +23,9 @@ light_draws = 64
 abbrev pub traces : View → ℕ
 traces v = v.cuts + v.gives + v.taken + one_if_some v.stopped
 
--- between two views of a seat, with so many small and large calls by then: the setup and the owned roots stay, no count falls and what is known of the durable mark does not, and each call costs at most so much: a small one a ticket, any other the most, and one superblock that it cuts; with 16 tickets for each lost exchange and each move, and 2 wins for each move; and each call but a small one draws as many as a light one, with the most for each trace, and for each large block that is held no more
+-- Between two views of a seat, with so many small and large calls by then, the setup and the owned roots stay, no count falls, and what is known of the durable
+-- mark does not. A small call draws one ticket at most, and any other the most; it cuts one superblock at most. To that come 16 tickets for each lost exchange and
+-- each move, and 2 wins for each move. A large call draws as many tickets as a light one, with the most for each trace and for each large block that is held no more.
 pub record KeepsCosts (v : View) (small large : ℕ) (w : View) (smalls larges : ℕ) : Type 0 where
   pub setup : w.setup ≡ v.setup
   pub roots : w.roots ≡ v.roots

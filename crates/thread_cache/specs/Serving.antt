@@ -20,7 +20,8 @@ pub record HasSeenRoom (bytes : ℕ) (v w : View) : Type 0 where
   pub made : IsMade (next_of v) (next_of w) v.taken v.taken w.used_look
   pub room : w.used_look.word + span_of bytes ≤ w.setup.capacity
 
--- a granted request: a block of a class is the first of its cache, where that had one, by one ticket, and else the cache was filled in order; a large one begins at the mark that was seen; nothing else that the seat had changed, no batch was given, and it cost what a request may cost, one that cut nothing less
+-- A granted request. A block of a class is the first of its cache, where that had one, by one ticket; else the cache was filled in order. A large one begins at
+-- the mark that was seen. Nothing else that the seat had changed, and no batch was given. It cost what a request may cost, and less where it cut nothing.
 pub record IsServed (bytes : ℕ) (v w : View) : Type 0 where
   pub light : IsLight v w
   pub block : Block
@@ -32,7 +33,9 @@ pub record IsServed (bytes : ℕ) (v w : View) : Type 0 where
   pub uncut : w.cuts ≡ v.cuts → Passes (light_request bytes (w.moves - v.moves)) v w
   pub large : largest_small < bytes → HasSeenRoom bytes v w
 
--- a refused request: of a class, whose cache is empty, it found both lists empty and the mark past, in this order, and won no exchange from the first of these looks on; one that is too large for a class found the mark past, and won none at all; the seat has what it had, and cut and gave nothing; it cost what a request may cost that cuts nothing
+-- A refused request. Of a class, whose cache is empty, it found both lists empty and the mark past, in this order, and won no exchange from the first of these
+-- looks on. One that is too large for a class found the mark past, and won none at all. The seat has what it had, and cut and gave nothing. It cost what a request
+-- may cost that cuts nothing.
 pub record IsTurnedAway (bytes : ℕ) (looks : Looks) (v w : View) : Type 0 where
   pub light : IsLight v w
   pub parts_are : parts w ≡ parts v
@@ -42,7 +45,8 @@ pub record IsTurnedAway (bytes : ℕ) (looks : Looks) (v w : View) : Type 0 wher
   pub for_class : (class : ℕ) → IsLeastClassFor bytes class → IsFull class looks v w × (of_class v.caches class ≡ [])
   pub for_span : largest_small < bytes → HasNoRoom (span_of bytes) looks v w
 
--- a freed block: one of a class went before those of its cache, which was flushed where it then had as many as a superblock, in one batch for each run; of a large one no superblock is claimed; nothing was cut, and it cost what the freeing of a block may cost, one that only puts it into the cache less
+-- A freed block. One of a class went before those of its cache. Where that then had as many as a superblock it was flushed, in one batch for each run. Of a large
+-- one no superblock is claimed. Nothing was cut. It cost what the freeing of a block may cost, and less where it only went into the cache.
 pub record IsPutBack (b : Block) (v w : View) : Type 0 where
   pub light : IsLight v w
   pub cuts : w.cuts ≡ v.cuts

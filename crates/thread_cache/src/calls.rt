@@ -50,7 +50,8 @@ impl<'a, C: Chance> HeapSeat for CacheSeat<'a, C> {
 
     ghost keeps = { KeepsHeap };
 
-    /// Beside what the trait says: what it may cost, also where it stops.
+    /// Holds a block of at least so many bytes, as the trait says. Beside that: what it may cost, also
+    /// where it stops.
     fn alloc(&mut self, bytes: u64) -> Result<Block, AllocFault>
         ensures ok { IfOk result (λ b. Allocates bytes b
             (heap_view self.old) (heap_view self.new)) }
@@ -85,7 +86,8 @@ impl<'a, C: Chance> HeapSeat for CacheSeat<'a, C> {
         answer
     }
 
-    /// Beside what the trait says: what it may cost, also where it stops. It cuts nothing.
+    /// Frees a held block, as the trait says. Beside that: what it may cost, also where it stops. It
+    /// cuts nothing.
     fn free(&mut self, b: Block) -> Result<(), Stopped>
         requires { Contains (heap_view self.old).held b }
         ensures ok { OnOk result (Frees b (heap_view self.old) (heap_view self.new)) }
