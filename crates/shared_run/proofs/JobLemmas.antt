@@ -18,7 +18,7 @@ use Rattle.run_model.specs.Progress.{HasAnswered}
 use Rattle.run_model.specs.Runs.{answered, unanswered}
 use Rattle.run_model.specs.Spending.{AreFullRightly, HasTakenFew, MakeFew}
 use Rattle.run_model.specs.Workers.{Replies, root_owner, worker_of, worker_requests}
-use Rattle.run_model.specs.Working.{HasStopped, HasWorked, TakesRequests}
+use Rattle.run_model.specs.Working.{HasStopped, HasWorked, IsUnderWay, TakesRequests}
 use Rattle.seat_view.specs.CacheState.{CacheState, heap_view, opened_kinds}
 use Rattle.seat_view.proofs.HeldLemmas.{seat_law}
 use Rattle.thread_cache.specs.Keeps.{IsNew, KeepsHeap}
@@ -84,7 +84,8 @@ module _ (shared : SharedView) (requests : List Request) (workers worker : ℕ) 
       → HasTakenFew (worker_requests workers worker requests) (answered (worker_requests workers worker requests) replies) (unanswered (worker_requests workers worker requests) replies) (heap_view s) (heap_view u)
       → ((keys : List ℕ) → ListsKeysOf (slice_index s.view.setup.opened) keys
       → MakeFew (length (worker_requests workers worker requests)) (33280 + 4 * (length keys + length (worker_requests workers worker requests))) (heap_view s) (heap_view u))
-      → ((x : CacheState) × TakesRequests heap_view KeepsHeap TurnsAway (answered (worker_requests workers worker requests) replies) s x × KeepsHeap x u)
+      → ((x : CacheState) × TakesRequests heap_view KeepsHeap TurnsAway (answered (worker_requests workers worker requests) replies) s x
+      × IsUnderWay (unanswered (worker_requests workers worker requests) replies) (heap_view x) (heap_view u) × KeepsHeap x u)
       → (before ≡ false → ReachesAllHeld (heap_view s) → ReachesAllHeld (heap_view u))
       → IsPartOf shared requests workers worker last replies after
   whole_part kept worked stopped cause full taken calls steps exact = record {
@@ -104,7 +105,8 @@ module _ (shared : SharedView) (requests : List Request) (workers worker : ℕ) 
           (calls keys (subst (λ (i : Image). ListsKeysOf i keys) (sym same) lists));
       full = part_full opened_image (worker_requests workers worker requests) replies before after s u t settled full;
       taken = part_taken opened_image (worker_requests workers worker requests) replies before after s u t settled taken;
-      steps = part_steps opened_image (worker_requests workers worker requests) replies before after s u t settled steps;
+      steps = part_steps opened_image (worker_requests workers worker requests) replies before after s u t settled
+          (λ e. subst (λ (i : Image). HasWorked i (worker_requests workers worker requests) [] replies (heap_view u)) same (worked e)) steps;
       stops = part_stops opened_image (worker_requests workers worker requests) replies before after s u t settled cause;
       emptied = part_emptied opened_image (worker_requests workers worker requests) replies before after s u t settled;
       exact = part_exact opened_image (worker_requests workers worker requests) replies before after s u t settled (λ e. exact e (job_exact shared.opening workers worker seat fresh s new));

@@ -19,9 +19,10 @@ use Rattle.run_model.specs.Workers.{Replies}
 use Rattle.run_model.specs.Runs.{answered, unanswered}
 use Rattle.run_model.specs.Progress.{HasAnswered}
 use Rattle.run_model.specs.Spending.{AreFullRightly, HasTakenFew, MakeFew}
-use Rattle.run_model.specs.Working.{HasEnded, HasStopped, HasWorked, TakesRequests, at_end, in_one}
+use Rattle.run_model.specs.Working.{HasEnded, HasStopped, HasWorked, IsUnderWay, TakesRequests, at_end, in_one}
+use Rattle.worker_run.proofs.SpendLemmas.{unanswered_now}
 use Rattle.shared_run.specs.Parts.{IsUnused, SpendsFew, TurnsAway}
-use Rattle.shared_run.specs.Settling.{HasSettled, WasQuieted, had_stopped, is_empty, stops_now}
+use Rattle.shared_run.specs.Settling.{EndsWith, HasSettled, WasQuieted, had_stopped, is_empty, stops_now}
 
 -- emptied caches cost one large call at most, take nothing and forget nothing of the mark
 pub record CostsOne (s t : CacheState) : Type 0 where
@@ -99,9 +100,21 @@ module _ (image : Image) (mine : List Request) (replies : Replies) (before after
   pub part_taken : HasTakenFew mine (answered mine replies) (unanswered mine replies) (heap_view s) (heap_view u) → HasTakenFew mine (answered mine replies) (unanswered mine replies) (heap_view s) (heap_view t)
   part_taken few = record { taken = let a = few.taken in let b = costs.taken in omega (arith, a, b) }
 
-  pub part_steps : (x : CacheState) × TakesRequests heap_view KeepsHeap TurnsAway (answered mine replies) s x × KeepsHeap x u
-      → (x : CacheState) × TakesRequests heap_view KeepsHeap TurnsAway (answered mine replies) s x × KeepsHeap x t
-  part_steps steps = (steps.0, steps.1, keeps_row_law steps.0 u t steps.2 costs.kept)
+  pub part_steps : (before ≡ false → HasWorked image mine [] replies (heap_view u))
+      → (x : CacheState) × TakesRequests heap_view KeepsHeap TurnsAway (answered mine replies) s x × IsUnderWay (unanswered mine replies) (heap_view x) (heap_view u) × KeepsHeap x u
+      → (x : CacheState) × TakesRequests heap_view KeepsHeap TurnsAway (answered mine replies) s x × EndsWith (unanswered mine replies) after x t
+  part_steps worked steps = (
+    steps.0,
+    steps.1,
+    record {
+      worked = u;
+      under_way = steps.2;
+      kept = steps.3;
+      before = before;
+      all = λ going. unanswered_now image mine [] replies (heap_view u) (worked going);
+      settled = settled;
+    },
+  )
 
   pub part_stops : (before ≡ true → (ticket : ℕ) × (u.view.stopped ≡ Some ticket)) → (after ≡ true) ↔ (t.view.stopped ≢ None)
   part_stops cause = by_case settled where

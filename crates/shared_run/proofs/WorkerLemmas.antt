@@ -18,6 +18,7 @@ use Rattle.run_model.specs.Working.{TakesRequests}
 use Rattle.shared_run.specs.Parts.{IsUnused, TurnsAway}
 use Rattle.shared_run.specs.Together.{HaveWorked}
 use Rattle.shared_run.proofs.CountLemmas.{answered_padded, unanswered_padded}
+use Rattle.shared_run.proofs.PartLemmas.{settled_costs}
 use Rattle.run_model.proofs.SumLemmas.{sum_over, total_over}
 
 -- requests that were taken one by one keep what each call keeps
@@ -34,8 +35,10 @@ module _ {words : List ℕ} {held : List Block} {workers budget : ℕ} {requests
   pub kept_all : (worker : ℕ) → worker < workers → KeepsHeap (h.first worker) (h.last worker)
   kept_all worker below =
       let steps = (h.parts worker below).steps in
+      let ends = steps.2 in
       keeps_row_law (h.first worker) steps.0 (h.last worker)
-      (keeps_over (answered (worker_requests workers worker requests) (h.told worker)) (h.first worker) steps.0 steps.1) steps.2
+      (keeps_over (answered (worker_requests workers worker requests) (h.told worker)) (h.first worker) steps.0 steps.1)
+      (keeps_row_law steps.0 ends.worked (h.last worker) ends.kept (settled_costs ends.before _ ends.worked (h.last worker) ends.settled).kept)
 
   -- what is so of each view is so of each worker's, and a sum over the views is one over the workers
   pub of_each : (P : View → Type 0) → Each h.views P → (worker : ℕ) → worker < workers → P (last_view worker)

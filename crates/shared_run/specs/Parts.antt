@@ -15,6 +15,7 @@ use Rattle.run_model.specs.Needs.{ListsKeysOf}
 use Rattle.run_model.specs.Runs.{answered, unanswered}
 use Rattle.run_model.specs.Spending.{AreFullRightly, HasTakenFew}
 use Rattle.run_model.specs.Working.{HasEnded, TakesRequests}
+use Rattle.shared_run.specs.Settling.{EndsWith}
 
 -- a request for so many bytes was turned away from one state of a seat to the next, with these looks
 abbrev pub TurnsAway : CacheState → CacheState → ℕ → Looks → Type 0
@@ -43,7 +44,8 @@ pub record IsPart (image : Image) (workers : ℕ) (requests : List Request) (wor
       (answered (worker_requests workers worker requests) replies) s t
   pub taken : HasTakenFew (worker_requests workers worker requests) (answered (worker_requests workers worker requests) replies)
       (unanswered (worker_requests workers worker requests) replies) (heap_view s) (heap_view t)
-  pub steps : (u : CacheState) × TakesRequests heap_view KeepsHeap TurnsAway (answered (worker_requests workers worker requests) replies) s u × KeepsHeap u t
+  pub steps : (u : CacheState) × TakesRequests heap_view KeepsHeap TurnsAway (answered (worker_requests workers worker requests) replies) s u
+      × EndsWith (unanswered (worker_requests workers worker requests) replies) stopped u t
   pub stops : (stopped ≡ true) ↔ (t.view.stopped ≢ None)
   pub emptied : stopped ≡ false → HasEmptyCaches t
   pub exact : stopped ≡ false → ReachesAllHeld (heap_view t)
