@@ -1,11 +1,14 @@
 //! The tool's output, as a sink.
-ghost use Rattle.std.specs.Prelude.{◌≡◌, ◌<◌, ◌≤◌, None, IfOk, length};
+ghost use Rattle.std.specs.Prelude.{◌≡◌, ◌<◌, ◌≤◌, length, take, IfOk, IsErr, OnErr};
 ghost use Rattle.std.specs.Io.KnownBytes.{WriteAppends};
+ghost use Rattle.tool_ports.specs.Causes.{HasCause};
+ghost use Rattle.tool_ports.specs.Taken.{taken_with};
 
 use std::io::{ErrorKind, Write};
 use tool_ports::{Failed, FaultCount, Sink};
 
-/// A sink over a writer, as standard output is. It tells nothing of what it took.
+/// A sink over a writer, as standard output is. It tells nothing of what it took, but its own
+/// clauses do, by what the writer holds.
 #[derive(Drop)]
 pub struct OutputSink<W: Write> {
     writer: W,
@@ -16,7 +19,8 @@ impl<W: Write> OutputSink<W> {
     ghost use Rattle.file_ports.specs.OutputSink.{fault_count};
 
     pub fn new(writer: W) -> Self
-        ensures { fault_count result ≡ 0 }
+        ensures faults { fault_count result ≡ 0 }
+        ensures writer { result.writer ≡ writer }
     {
         OutputSink {
             writer,
@@ -26,15 +30,28 @@ impl<W: Write> OutputSink<W> {
 }
 
 impl<W: Write> Sink for OutputSink<W> {
-    ghost use Rattle.file_ports.specs.OutputSink.{fault_count};
+    ghost use Rattle.file_ports.specs.OutputSink.{fault_count, taken_of};
 
-    ghost taken = { λ _. None };
+    ghost taken = { taken_of };
 
     ghost faults = { fault_count };
 
     ghost faults_fit = { λ s. s.faults.fits };
 
-    fn write(&mut self, bytes: &[u8]) -> Result<usize, Failed> {
+    fn write(&mut self, bytes: &[u8]) -> Result<usize, Failed>
+        requires { 0 < length bytes.now }
+
+        // as any sink
+        ensures some { IfOk result (λ n. (0 < n) × (n ≤ length bytes.now)) }
+        ensures ok { IfOk result (λ n.
+            taken_of self.new ≡ taken_with (taken_of self.old) (take n bytes.now)) }
+        ensures err { OnErr result (taken_of self.new ≡ taken_of self.old) }
+        ensures cause { HasCause (fault_count self.old) (fault_count self.new) (IsErr result) }
+
+        // the writer has these bytes more, or after a failure what it had
+        ensures bytes { WriteAppends (W.contents self.old.writer) (W.contents self.new.writer)
+            result bytes.now }
+    {
         let result = write_retrying(&mut self.writer, bytes);
         if result.is_err() {
             self.faults.rise();
