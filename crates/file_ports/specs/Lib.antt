@@ -1,4 +1,5 @@
 pub mod FileStore
+pub mod Folders
 pub mod InputSource
 pub mod OutputSink
 pub mod Reading

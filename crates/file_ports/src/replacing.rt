@@ -3,6 +3,7 @@ ghost use Rattle.std.specs.Prelude.{◌≡◌, ◌↔◌, Ok, None, bit_and, IsO
 ghost use Rattle.std.specs.Fs.{metadata_mode};
 ghost use Rattle.std.specs.Io.KnownBytes.{Appends};
 ghost use Rattle.std.specs.IoError.{error_kind};
+ghost use Rattle.file_ports.specs.Folders.{IsFolderOf};
 
 use std::alloc::Global;
 use std::fs::{Metadata, OpenFile, OpenOptions, Permissions};
@@ -121,7 +122,9 @@ fn sync_folder<R: Files>(rt: &R, name: &str) -> io::Result<()> {
 }
 
 // The folder of a file.
-fn folder_of(name: &str) -> &str {
+fn folder_of(name: &str) -> &str
+    ensures { IsFolderOf name.now result.now }
+{
     match name.rsplit_once('/') {
         Some(("", _)) => "/",
         Some((folder, _)) => folder,
