@@ -1,11 +1,12 @@
 -- What a replay of a schedule over a heap at rest prints.
-use Rattle.std.specs.Prelude.{◌≡◌, ℕ, ◌+◌, ◌<◌, ◌≤◌, List, [], ◌∷◌, ◌++◌, length, get_or, drop, replicate, slice_index, Contains, None}
+use Rattle.std.specs.Prelude.{◌≡◌, ℕ, ◌+◌, ◌<◌, ◌≤◌, List, [], ◌∷◌, ◌++◌, length, get_or, drop, map, replicate, slice_index, Contains, None}
 use Rattle.std.specs.List.{flat_map}
 use Rattle.heap_model.specs.declared.block.Block.{Block}
 use Rattle.heap_model.specs.Geometry.{roots, image_words}
 use Rattle.heap_model.specs.Image.{Image}
 use Rattle.heap_model.specs.Header.{capacity_of}
 use Rattle.heap_model.specs.Durability.{IsCrashImage}
+use Rattle.crash_image.specs.Crash.{GivesAll, transient_words}
 use Rattle.core_model.specs.declared.answer.StepAnswer.{StepAnswer}
 use Rattle.core_model.specs.declared.answer.StepAnswer.TheVariants.{NotNow}
 use Rattle.core_model.specs.declared.event.Event.{Event}
@@ -72,6 +73,15 @@ pub record Replays (words : List ℕ) (held : List Block) (seats : ℕ) (lines :
   pub report : List ℕ
   pub tells : TellsHeap (slice_index left) report
   pub text_is : text ≡ answers_text_of (last_answers lines answers) ++ tickets_line_of tickets ++ report
+
+-- The chances of a replay that prints this text began anew by the seed, first of all and once. Then the words were taken that the crash
+-- leaves at random, and nothing else.
+pub record ReplayAsks {C : Type 0} (seed_gives word_gives : C → ℕ → C → Type 0) (words : List ℕ) (held : List Block) (seats : ℕ) (lines : List (ℕ × Event))
+    (seed : ℕ) (text : List ℕ) (old new : C) : Type 0 where
+  pub begun : C
+  pub anew : seed_gives old seed begun
+  pub replays : Replays words held seats lines text
+  pub asked : GivesAll word_gives begun (map (slice_index replays.left) (transient_words (capacity_of (slice_index words)))) new
 
 -- the image that the crash leaves has a word that points outside
 pub record LeavesOutside (words : List ℕ) (held : List Block) (seats : ℕ) (lines : List (ℕ × Event)) (at value : ℕ) : Type 0 where

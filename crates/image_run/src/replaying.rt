@@ -1,8 +1,9 @@
 //! Replays a schedule over a heap at rest, and makes what is printed.
-ghost use Rattle.std.specs.Prelude.{◌≡◌, ◌*◌, ◌++◌, Some, None, length, replicate, slice_index, IfOk, IfErr, IsErr, ℕ};
+ghost use Rattle.std.specs.Prelude.{◌≡◌, ◌*◌, ◌++◌, Some, None, length, map, replicate, slice_index, IfOk, IfErr, IsErr, ℕ};
 ghost use Rattle.heap_model.specs.Durability.{IsCrashImage};
 ghost use Rattle.heap_model.specs.Geometry.{image_words, roots, version, version_word};
-ghost use Rattle.heap_model.specs.Header.{header_fault, HasKindsBelow};
+ghost use Rattle.heap_model.specs.Header.{capacity_of, header_fault, HasKindsBelow};
+ghost use Rattle.crash_image.specs.Crash.{GivesAll, transient_words};
 ghost use Rattle.core_model.specs.Held.{durable_image};
 ghost use Rattle.core_model.specs.Steps.{TableState};
 ghost use Rattle.core_model.specs.View.{Setup};
@@ -10,7 +11,7 @@ ghost use Rattle.crash_core.specs.Standing.{StandsFor};
 ghost use Rattle.dict_model.specs.Links.{kind_count};
 ghost use Rattle.tool_ports.specs.Chances.{ComesFrom, ComesFromSeed};
 ghost use Rattle.trace_text.specs.Answered.{answers_text_of, tickets_line_of};
-ghost use Rattle.image_run.specs.Replaying.{CanBeReplayed, IsReplayed, LeavesOutside, Replays, StopsReplay};
+ghost use Rattle.image_run.specs.Replaying.{CanBeReplayed, IsReplayed, LeavesOutside, ReplayAsks, Replays, StopsReplay};
 
 use crate::fault::ReplayFault;
 use crate::left::recover_left;
@@ -56,6 +57,9 @@ pub fn replay_image<C: Chances>(
         schedule.now.seats schedule.now.lines.items at value → IsErr result }
     ensures seeded { ComesFromSeed C.seed_gives C.chance_gives C.word_gives
         chances.old seed chances.new }
+    ensures asked { IfOk result (λ product. ReplayAsks C.seed_gives C.word_gives
+        heap.now.words heap.now.held schedule.now.seats schedule.now.lines.items seed
+        product.text chances.old chances.new) }
 {
     chances.seed(seed);
     let replayed = replay_lines(alloc, heap, schedule, chances)?;
@@ -81,6 +85,9 @@ fn replay_lines<C: Chances>(
         (slice_index r.left.items) ≡ None) }
     ensures version { IfOk result (λ r. slice_index r.left.items version_word ≡ version) }
     ensures chances { ComesFrom C.chance_gives C.word_gives chances.old chances.new }
+    ensures drawn { IfOk result (λ r. GivesAll C.word_gives chances.old
+        (map (slice_index r.left.items)
+        (transient_words (capacity_of (slice_index heap.now.words)))) chances.new) }
 {
     let owners = owned_by_the_first(alloc, heap.held().len())?;
     let mut core = Core::of(alloc, heap, &owners, schedule.seats, MOST_BUDGET)?;
@@ -110,6 +117,9 @@ fn left_by_words<C: Chances>(
     ensures same_reference { scramble.new.chances.ghost_name ≡ scramble.old.chances.ghost_name }
     ensures chances { ComesFrom C.chance_gives C.word_gives
         scramble.old.chances.now scramble.new.chances.now }
+    ensures drawn { IfOk result (λ left. (k : Setup) (s : TableState)
+        → StandsFor core.now.state k s → GivesAll C.word_gives scramble.old.chances.now
+        (map (slice_index left.items) (transient_words k.capacity)) scramble.new.chances.now) }
 {
     core.image(alloc, scramble)
 }

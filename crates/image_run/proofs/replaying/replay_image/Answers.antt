@@ -30,3 +30,12 @@ pub returns-clause-always_outside : goal.returns-clause-always_outside
 returns-clause-always_outside g c at value leaves =
     let there = left_in_each _ _ _ _ at value leaves _ _ _ c.in_ok-replayed.ensures.replayed in
     absurd (c.in_ok-recovered.ensures.inside at there.0)
+
+pub returns-clause-asked : goal.returns-clause-asked
+unfolding returns-clause-ok
+returns-clause-asked g c = record {
+  begun = c.seed.new.self;
+  anew = c.seed.ensures;
+  replays = returns-clause-ok g c;
+  asked = c.in_ok-replayed.ensures.drawn;
+}
