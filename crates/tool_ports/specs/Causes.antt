@@ -9,11 +9,11 @@ one_more count = min (count + 1) (2 ^ 64 - 1)
 abbrev pub Rose : ℕ → ℕ → Type 0
 Rose before now = one_more before ≤ now
 
--- The count of faults never falls. It rises at the answer that tells of a failure, and stays at
--- every other.
+-- The count of faults never falls. At the answer that tells of a failure it is one more, so one call failed
+-- and none was made again; it stays at every other.
 pub record HasCause (before now : ℕ) (failed : Type 0) : Type 0 where
   pub later : before ≤ now
-  pub rose : failed → Rose before now
+  pub rose : failed → now ≡ one_more before
   pub steady : ¬ failed → now ≡ before
 
 -- one event is counted
