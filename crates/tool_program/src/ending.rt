@@ -2,6 +2,7 @@
 ghost use Rattle.std.specs.Prelude.{◌≡◌, ◌≢◌, ℕ, List, IsErrAnd};
 ghost use Rattle.std.specs.IoError.{error_kind};
 ghost use Rattle.std.specs.Process.{exit_status};
+ghost use Rattle.tool_program.specs.Calls.{CallsStore, ReadsSourceInTurn, AsksChances};
 ghost use Rattle.tool_program.specs.Ending.{IsStatusOf};
 ghost use Rattle.tool_program.specs.Words.{words_behind};
 ghost use Rattle.tool_run.specs.Lines.{Tells};
@@ -60,6 +61,12 @@ pub fn run_line<
         (exit_status result) }
     ensures has_ended { (name : List ℕ) → AsksForSource (words_behind args) name
         → exit_status result ≡ done → T.has_ended trace.new }
+    ensures calls { CallsStore (words_behind args) (exit_status result)
+        (I.calls images.old) (I.calls images.new) }
+    ensures reading { ReadsSourceInTurn (words_behind args) (exit_status result)
+        (I.contents images.old) (T.left trace.new) trace.old trace.new }
+    ensures chances { AsksChances C.seed_gives C.chance_gives C.word_gives (words_behind args)
+        (exit_status result) chances.old chances.new }
     ensures no_memory { IsErrAnd args (λ e. error_kind e ≡ ErrorKind.OutOfMemory)
         → exit_status result ≡ out_of_memory }
     ensures help { exit_status result ≡ usage → Tells USAGE.now
@@ -102,6 +109,12 @@ fn answer<R: Threads + Sync, I: ImageStore, T: Source, O: Sink, G: Gate + Sync, 
         result }
     ensures has_ended { (name : List ℕ) → AsksForSource (words_behind args) name
         → result ≡ done → T.has_ended trace.new }
+    ensures calls { CallsStore (words_behind args) result
+        (I.calls images.old) (I.calls images.new) }
+    ensures reading { ReadsSourceInTurn (words_behind args) result
+        (I.contents images.old) (T.left trace.new) trace.old trace.new }
+    ensures chances { AsksChances C.seed_gives C.chance_gives C.word_gives (words_behind args)
+        result chances.old chances.new }
     ensures no_memory { IsErrAnd args (λ e. error_kind e ≡ ErrorKind.OutOfMemory)
         → result ≡ out_of_memory }
 {

@@ -1,6 +1,7 @@
 use Rattle.std.proofs.Common.{ℕ, List, refl, sym, ap, subst, ◌∙◌}
 use Rattle.tool_command.specs.Command.{texts}
 use Rattle.tool_run.specs.Outcome.{AsksForSource}
+use Rattle.tool_program.proofs.CallsLemmas.{store_by_words, store_uncalled, source_by_words, source_unread, chances_by_words, chances_unasked}
 use Rattle.tool_program.proofs.EndingLemmas.{told_memory, by_words}
 use Rattle.tool_program.proofs.ending.answer.Goals as goal
 
@@ -34,3 +35,43 @@ returns-in-Err-clause-status g c = told_memory _ _ _ _ c.tell_out_of_memory.ensu
 pub returns-in-Ok-clause-has_ended : goal.returns-in-Ok-clause-has_ended
 returns-in-Ok-clause-has_ended g c name asks =
     c.run_tool.ensures.has_ended name (subst (λ (ws : List (List ℕ)). AsksForSource ws name) (sym (ap texts c.deref.ensures.value ∙ c.in-Ok.ensures.ok)) asks)
+
+pub returns-in-Ok-clause-calls : goal.returns-in-Ok-clause-calls
+returns-in-Ok-clause-calls g c =
+    let did = c.run_tool.ensures in
+    store_by_words _ _ _ _ _ (ap texts c.deref.ensures.value ∙ c.in-Ok.ensures.ok) (record {
+      no_call = did.no_call;
+      no_call_for_a_trace = did.no_call_for_a_trace;
+      one_get = did.one_get;
+      get_and_put = did.get_and_put;
+      get_alone = did.get_alone;
+      get_or_none = did.get_or_none;
+      one_put = did.one_put;
+      no_put = did.no_put;
+    })
+
+pub returns-in-Err-clause-calls : goal.returns-in-Err-clause-calls
+returns-in-Err-clause-calls g c = store_uncalled _ _ _ c.tell_out_of_memory.ensures.status
+
+pub returns-in-Ok-clause-reading : goal.returns-in-Ok-clause-reading
+returns-in-Ok-clause-reading g c =
+    let did = c.run_tool.ensures in
+    source_by_words _ _ _ _ _ _ _ (ap texts c.deref.ensures.value ∙ c.in-Ok.ensures.ok) (record {
+      unread = did.unread;
+      not_yet_read = did.not_yet_read;
+      image_first = did.image_first;
+      read_to_the_end = did.read_to_the_end;
+    })
+
+pub returns-in-Err-clause-reading : goal.returns-in-Err-clause-reading
+returns-in-Err-clause-reading g c = source_unread _ _ _ _ _ c.tell_out_of_memory.ensures.status
+
+pub returns-in-Ok-clause-chances : goal.returns-in-Ok-clause-chances
+returns-in-Ok-clause-chances g c =
+    let did = c.run_tool.ensures in
+    chances_by_words g.C.Chances.seed_gives g.C.Chances.chance_gives g.C.Chances.word_gives _ _ _ c.args.chances.now c.run_tool.new.chances
+    (ap texts c.deref.ensures.value ∙ c.in-Ok.ensures.ok) (record { seeded = did.seeded })
+
+pub returns-in-Err-clause-chances : goal.returns-in-Err-clause-chances
+returns-in-Err-clause-chances g c =
+    chances_unasked g.C.Chances.seed_gives g.C.Chances.chance_gives g.C.Chances.word_gives _ _ c.args.chances.now c.tell_out_of_memory.ensures.status
