@@ -56,4 +56,6 @@ module _ {C One : Type 0} (seed_gives : C → ℕ → C → Type 0) (chance_give
   pub chances_unasked : (words : List (List ℕ)) (status : ℕ) (old : C) → status ≡ out_of_memory → AsksChances seed_gives chance_gives word_gives words status old old
   chances_unasked words status old is = record {
     seeded = λ command asks ended. absurd (no_result status is ended);
+    no_chance = λ leaves no_replay. refl;
+    never_asked = λ none. refl;
   }

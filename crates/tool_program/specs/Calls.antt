@@ -1,5 +1,5 @@
 -- How often the store is called, when the source is read and by which seed the chances begin, by the words and the status.
-use Rattle.std.specs.Prelude.{◌≡◌, ◌≢◌, ◌⊎◌, ℕ, List, Option}
+use Rattle.std.specs.Prelude.{◌≡◌, ◌≢◌, ◌⊎◌, ℕ, List, Option, None}
 use Rattle.tool_ports.specs.Calls.{with_get, with_put}
 use Rattle.tool_ports.specs.Contents.{Contents}
 use Rattle.tool_ports.specs.Left.{IsAtEnd}
@@ -9,7 +9,7 @@ use Rattle.tool_run.specs.Calls.{get_limit}
 use Rattle.tool_run.specs.Making.{RefusesOutside}
 use Rattle.tool_run.specs.Outcome.{AsksToGet, AsksToLook, AsksToPutBack, AsksForReplay, AsksForSource, HoldsOutside}
 use Rattle.tool_run.specs.Seeding.{seed_of, BeginBy}
-use Rattle.tool_run.specs.Status.{done, out_of_memory, write_fault, outside, IsBeforeTrace}
+use Rattle.tool_run.specs.Status.{done, out_of_memory, write_fault, outside, LeavesChances, IsBeforeTrace}
 
 -- the store is called not at all, or for one get, for one put, or for both
 pub record CallsStore (words : List (List ℕ)) (status : ℕ) (old new : StoreCalls) : Type 0 where
@@ -33,8 +33,11 @@ pub record ReadsSourceInTurn {T : Type 0} (words : List (List ℕ)) (status : �
       → RefusesOutside asks.command has.bytes → new ≡ old
   pub read_to_the_end : (name : List ℕ) → AsksForSource words name → status ≡ done → IsAtEnd left
 
--- The chances begin by the seed that is asked for, where a result was made; without one they are not asked.
+-- The chances begin by the seed that is asked for, where a result was made. They are as they were where there is no seed, and where
+-- there is no result, but for want of memory and what a replay left.
 pub record AsksChances {C One : Type 0} (seed_gives : C → ℕ → C → Type 0) (chance_gives : C → ℕ → One → C → Type 0) (word_gives : C → ℕ → C → Type 0)
     (words : List (List ℕ)) (status : ℕ) (old new : C) : Type 0 where
   pub seeded : (command : Command) → Asks words command → (status ≡ done) ⊎ (status ≡ write_fault)
       → BeginBy seed_gives chance_gives word_gives (seed_of command) old new
+  pub no_chance : LeavesChances status → (status ≡ outside → (name : List ℕ) → ¬ (AsksForReplay words name)) → new ≡ old
+  pub never_asked : ((command : Command) → Asks words command → seed_of command ≡ None) → new ≡ old

@@ -1,14 +1,18 @@
 -- From the seed of the command that was carried out to that of the one that the words ask for.
 use Rattle.std.proofs.Common.{◌≡◌, ◌⊎◌, ℕ, List, Option, inl, inr, sym, ap, subst, ◌∙◌, arith}
+use Rattle.image_run.specs.declared.fault.ReplayFault.{ReplayFault}
+use Rattle.image_run.specs.declared.fault.ReplayFault.TheVariants.{Outside as OutsideLeft, Memory as ReplayMemory}
 use Rattle.tool_ports.specs.Contents.{Contents}
-use Rattle.tool_command.specs.Command.{Command, Asks}
+use Rattle.tool_command.specs.Command.{Command, replay_image, image_name, Asks}
 use Rattle.tool_command.proofs.OneCommandLemmas.{one_command}
 use Rattle.tool_run.specs.declared.fault.Fault.{Fault}
-use Rattle.tool_run.specs.declared.fault.Fault.TheVariants.{WriteFault}
-use Rattle.tool_run.specs.Inside.{RefusesEither, status_of}
+use Rattle.tool_run.specs.declared.fault.Fault.TheVariants.{Usage, Memory, ReadFault, WriteFault, Absent, Malformed, Outside, BadShard, BadLine, BadStep, TooLong}
+use Rattle.tool_run.specs.Inside.{RefusesEither, IsBeforeSeeding, status_of, fault_of_replay}
+use Rattle.tool_run.specs.Outcome.{AsksForReplay}
 use Rattle.tool_run.specs.Seeding.{seed_of, BeginBy}
-use Rattle.tool_run.specs.Status.{done, write_fault}
+use Rattle.tool_run.specs.Status.{done, write_fault, outside, LeavesChances}
 use Rattle.tool_run.proofs.PutBackLemmas.{not_done}
+use Rattle.tool_run.proofs.StatusLemmas.{for_replay}
 
 -- a command for which nothing was made is not cut off
 not_cut_off : (command : Command) (contents : Contents) (left : Option (List ℕ)) (A B : Type 0) (fault : Fault)
@@ -33,3 +37,27 @@ module _ {C One : Type 0} (seed_gives : C → ℕ → C → Type 0) (chance_give
       → (status ≡ done) ⊎ (status ≡ write_fault) → BeginBy seed_gives chance_gives word_gives (seed_of other) old new
   cut_off_by_its_seed status fault is begun (inl delivered) = absurd (not_done fault (sym is ∙ delivered))
   cut_off_by_its_seed status fault is begun (inr cut) = by_its_seed (begun (sym is ∙ cut))
+
+-- by want of memory the chances may have begun
+pub memory_is_later : (command : Command) (fault : Fault) → fault ≡ Memory → IsBeforeSeeding command fault → ⊥
+memory_is_later command fault is before = subst (IsBeforeSeeding command) is before
+
+-- and so they have where a replay itself made nothing
+pub replay_is_later : (name : List ℕ) (seed : ℕ) (cause : ReplayFault) (fault : Fault) → fault ≡ fault_of_replay cause → IsBeforeSeeding (replay_image name seed) fault → ⊥
+replay_is_later name seed (OutsideLeft at value) fault is before = subst (IsBeforeSeeding (replay_image name seed)) is before tt
+replay_is_later name seed ReplayMemory fault is before = subst (IsBeforeSeeding (replay_image name seed)) is before
+
+-- by such a status they had not begun
+pub before_seeding : (words : List (List ℕ)) (command : Command) (status : ℕ) (fault : Fault) → Asks words command → status ≡ status_of fault → LeavesChances status
+    → (status ≡ outside → (name : List ℕ) → ¬ (AsksForReplay words name)) → IsBeforeSeeding command fault
+before_seeding words command status Usage asked is leaves no_replay = tt
+before_seeding words command status Memory asked is leaves no_replay = leaves.had_memory is
+before_seeding words command status ReadFault asked is leaves no_replay = tt
+before_seeding words command status WriteFault asked is leaves no_replay = leaves.not_put is
+before_seeding words command status Absent asked is leaves no_replay = tt
+before_seeding words command status (Malformed cause) asked is leaves no_replay = tt
+before_seeding words command status (Outside at value) asked is leaves no_replay = λ replays. no_replay is (image_name command) (for_replay words command replays asked)
+before_seeding words command status (BadShard shard at) asked is leaves no_replay = tt
+before_seeding words command status (BadLine line) asked is leaves no_replay = tt
+before_seeding words command status (BadStep line) asked is leaves no_replay = tt
+before_seeding words command status TooLong asked is leaves no_replay = tt

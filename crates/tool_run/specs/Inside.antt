@@ -149,6 +149,21 @@ IsBeforeReading command (BadLine line) = ⊥
 IsBeforeReading command (BadStep line) = ⊥
 IsBeforeReading command TooLong = ⊥
 
+-- the words, the image or the source were refused, so that the chances had not begun; but a word that points outside may be one
+-- that a replay left
+abbrev pub IsBeforeSeeding : Command → Fault → Type 0
+IsBeforeSeeding command Usage = Unit {0}
+IsBeforeSeeding command Memory = ⊥
+IsBeforeSeeding command ReadFault = Unit {0}
+IsBeforeSeeding command WriteFault = ⊥
+IsBeforeSeeding command Absent = Unit {0}
+IsBeforeSeeding command (Malformed cause) = Unit {0}
+IsBeforeSeeding command (Outside at value) = ¬ (ReplaysASchedule command)
+IsBeforeSeeding command (BadShard shard at) = Unit {0}
+IsBeforeSeeding command (BadLine line) = Unit {0}
+IsBeforeSeeding command (BadStep line) = Unit {0}
+IsBeforeSeeding command TooLong = Unit {0}
+
 -- the requests of the trace that the source has left
 pub record IsTraceLeft (left : Option (List ℕ)) (lines : List Line) : Type 0 where
   pub trace : List ℕ

@@ -50,6 +50,12 @@ pub record LeavesStore (status : ℕ) : Type 0 where
   pub refused : status ≢ done
   pub not_put : status ≢ write_fault
 
+-- a status after which the chances are as they were, whatever the command, but for a replay that points outside itself
+pub record LeavesChances (status : ℕ) : Type 0 where
+  pub refused : status ≢ done
+  pub not_put : status ≢ write_fault
+  pub had_memory : status ≢ out_of_memory
+
 -- a status by which the words or the image are refused, so that nothing is read from the source
 pub record IsBeforeTrace (status : ℕ) : Type 0 where
   pub among : Contains (usage ∷ no_image ∷ bad_header ∷ outside ∷ bad_shard ∷ []) status

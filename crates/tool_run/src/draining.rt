@@ -5,7 +5,7 @@ ghost use Rattle.tool_ports.specs.Causes.{Rose};
 ghost use Rattle.tool_ports.specs.Chances.{ComesFromSeed};
 ghost use Rattle.tool_run.specs.Calls.{get_limit};
 ghost use Rattle.tool_command.specs.Command.{drain_image};
-ghost use Rattle.tool_run.specs.Inside.{Refuses};
+ghost use Rattle.tool_run.specs.Inside.{Refuses, IsBeforeSeeding};
 ghost use Rattle.tool_run.specs.Making.{TellsDrained, drained_text};
 ghost use Rattle.tool_run.specs.Recovering.{IsDrainableAtRest, IsGivenText};
 
@@ -40,6 +40,8 @@ pub fn drain_image<I: ImageStore, C: Chances>(
     ensures calls { I.calls images.new ≡ with_get get_limit (I.calls images.old) }
     ensures seeded { IfOk result (λ _. ComesFromSeed C.seed_gives C.chance_gives C.word_gives
         chances.old 0 chances.new) }
+    ensures no_chance { IfErr result (λ fault. IsBeforeSeeding (drain_image name.now class.number)
+        fault → chances.new ≡ chances.old) }
 {
     let recovered = recover_image(alloc, name, images)?;
     let Recovered {

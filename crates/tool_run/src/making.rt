@@ -4,7 +4,7 @@ ghost use Rattle.tool_ports.specs.Calls.{with_get};
 ghost use Rattle.tool_ports.specs.Causes.{Rose};
 ghost use Rattle.tool_run.specs.Calls.{get_limit, with_making};
 ghost use Rattle.tool_command.specs.Invocations.{command_of};
-ghost use Rattle.tool_run.specs.Inside.{Refuses, RefusesEither, IsBeforeReading};
+ghost use Rattle.tool_run.specs.Inside.{Refuses, RefusesEither, IsBeforeReading, IsBeforeSeeding};
 ghost use Rattle.tool_command.specs.Command.{show_image, image_name};
 ghost use Rattle.tool_ports.specs.Left.{IsAtEnd, GivesAtMost};
 ghost use Rattle.tool_run.specs.Making.{Makes, RefusesOutside, ReadsSource, IsFormatted, Shows, longest_trace};
@@ -66,6 +66,9 @@ pub fn make<R: Threads + Sync, I: ImageStore, T: Source, G: Gate + Sync, C: Chan
         ≡ with_making (command_of command.entry) (I.calls images.old) }
     ensures seeded { OnOk result (BeginBy C.seed_gives C.chance_gives C.word_gives
         (seed_of (command_of command.entry)) chances.old chances.new) }
+    ensures no_chance { IfErr result (λ fault. IsBeforeSeeding (command_of command.entry) fault
+        → chances.new ≡ chances.old) }
+    ensures never_asked { seed_of (command_of command.entry) ≡ None → chances.new ≡ chances.old }
 {
     match command {
         Invocation::Format { image: _, layout } => Ok(empty_image(alloc, layout)?),

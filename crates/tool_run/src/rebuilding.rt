@@ -4,8 +4,8 @@ ghost use Rattle.tool_ports.specs.Calls.{with_get};
 ghost use Rattle.tool_ports.specs.Causes.{Rose};
 ghost use Rattle.tool_ports.specs.Chances.{ComesFromSeed};
 ghost use Rattle.tool_run.specs.Calls.{get_limit};
-ghost use Rattle.tool_command.specs.Command.{Command, image_name};
-ghost use Rattle.tool_run.specs.Inside.{Refuses};
+ghost use Rattle.tool_command.specs.Command.{Command, rebuild_image, image_name};
+ghost use Rattle.tool_run.specs.Inside.{Refuses, IsBeforeSeeding};
 ghost use Rattle.tool_run.specs.Making.{RebuildsNamed, FollowsLinks};
 
 use crate::fault::Fault;
@@ -36,6 +36,8 @@ pub fn rebuild_named<I: ImageStore, C: Chances>(
     ensures calls { I.calls images.new ≡ with_get get_limit (I.calls images.old) }
     ensures seeded { IfOk result (λ _. ComesFromSeed C.seed_gives C.chance_gives C.word_gives
         chances.old seed chances.new) }
+    ensures no_chance { IfErr result (λ fault. IsBeforeSeeding (rebuild_image name.now budget seed)
+        fault → chances.new ≡ chances.old) }
 {
     let (words, recovered) = recover_words(alloc, name, images)?;
     let product = rebuild_image(alloc, &words, &recovered.heap, budget, seed, chances)?;

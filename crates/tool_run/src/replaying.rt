@@ -7,7 +7,7 @@ ghost use Rattle.tool_ports.specs.Contents.{Contents};
 ghost use Rattle.tool_ports.specs.Left.{IsAtEnd, GivesAtMost};
 ghost use Rattle.tool_run.specs.Calls.{get_limit};
 ghost use Rattle.tool_command.specs.Command.{replay_image};
-ghost use Rattle.tool_run.specs.Inside.{RefusesEither, IsReplayFault, IsBeforeReading};
+ghost use Rattle.tool_run.specs.Inside.{RefusesEither, IsReplayFault, IsBeforeReading, IsBeforeSeeding};
 ghost use Rattle.tool_run.specs.Making.{HasSchedule, ReplaysNamed, longest_trace};
 ghost use Rattle.tool_run.specs.Outcome.{HoldsOutside};
 
@@ -51,6 +51,8 @@ pub fn replay_named<I: ImageStore, T: Source, C: Chances>(
     ensures calls { I.calls images.new ≡ with_get get_limit (I.calls images.old) }
     ensures seeded { IfOk result (λ _. ComesFromSeed C.seed_gives C.chance_gives C.word_gives
         chances.old seed chances.new) }
+    ensures no_chance { IfErr result (λ fault. IsBeforeSeeding (replay_image name.now seed) fault
+        → chances.new ≡ chances.old) }
 {
     let recovered = recover_image(alloc, name, images)?;
     let schedule = read_schedule(alloc, source)?;

@@ -7,12 +7,12 @@ ghost use Rattle.tool_ports.specs.Left.{IsAtEnd, GivesAtMost};
 ghost use Rattle.tool_run.specs.Calls.{get_limit, with_command, with_status};
 ghost use Rattle.tool_command.specs.Command.{Command, Asks, AsksToFormat, AsksToGen, IsUsage, texts, image_name};
 ghost use Rattle.tool_command.specs.Invocations.{command_of};
-ghost use Rattle.tool_run.specs.Inside.{status_of, IsCarriedOut, IsStopped, IsBeforeReading};
+ghost use Rattle.tool_run.specs.Inside.{status_of, IsCarriedOut, IsStopped, IsBeforeReading, IsBeforeSeeding};
 ghost use Rattle.tool_run.specs.Making.{RefusesOutside, ReadsSource, kinds_checked, longest_trace};
 ghost use Rattle.tool_run.specs.Lines.{Tells, memory_line};
 ghost use Rattle.tool_run.specs.Seeding.{seed_of, BeginBy};
 ghost use Rattle.tool_run.specs.Outcome.{IsDone, IsReadFault, IsWriteFault, AsksToGet, AsksToLook, AsksToPutBack, AsksToRead, AsksForRun, AsksForReplay, AsksForSource, IsAbsent, IsBadHeader, IsOutsideAt, IsBadShardAt, IsBadTrace, HoldsMalformed, HoldsOutside, HoldsOutsideLeft, HoldsBadShard, HoldsGood, HoldsMaps, HoldsBadLine, HoldsBadStep, HoldsTooMuch, CanBeDone};
-ghost use Rattle.tool_run.specs.Status.{done, usage, out_of_memory, read_fault, write_fault, no_image, bad_header, outside, bad_shard, bad_trace, statuses, LeavesStore, IsBeforeTrace, own_line};
+ghost use Rattle.tool_run.specs.Status.{done, usage, out_of_memory, read_fault, write_fault, no_image, bad_header, outside, bad_shard, bad_trace, statuses, LeavesStore, LeavesChances, IsBeforeTrace, own_line};
 
 use crate::delivery::deliver;
 use crate::fault::Fault;
@@ -127,11 +127,17 @@ pub fn run_tool<R: Threads + Sync, I: ImageStore, T: Source, O: Sink, G: Gate + 
     ensures no_put { (image : List ℕ) (capacity : ℕ) → AsksToFormat (texts words.now) image capacity
         → result ≡ out_of_memory → I.calls images.new ≡ I.calls images.old }
 
-    // By which seed the chances begin, where a result was made; without one they are not asked.
+    // By which seed the chances begin, where a result was made. They are as they were where there is
+    // no seed; so they are where there is no result, but for want of memory and what a replay left.
     ensures seeded { (command : Command) → Asks (texts words.now) command
         → (result ≡ done) ⊎ (result ≡ write_fault)
         → BeginBy C.seed_gives C.chance_gives C.word_gives (seed_of command)
         chances.old chances.new }
+    ensures no_chance { LeavesChances result
+        → (result ≡ outside → (name : List ℕ) → ¬ (AsksForReplay (texts words.now) name))
+        → chances.new ≡ chances.old }
+    ensures never_asked { ((command : Command) → Asks (texts words.now) command
+        → seed_of command ≡ None) → chances.new ≡ chances.old }
 
     // When a status comes: nothing else does, but want of memory or a failure before it.
     ensures always_usage { IsUsage (texts words.now)
@@ -237,6 +243,9 @@ fn carry_out<R: Threads + Sync, I: ImageStore, T: Source, O: Sink, G: Gate + Syn
     ensures seeded_err { IfErr result (λ fault. status_of fault ≡ write_fault
         → BeginBy C.seed_gives C.chance_gives C.word_gives
         (seed_of (command_of command.entry)) chances.old chances.new) }
+    ensures no_chance { IfErr result (λ fault. IsBeforeSeeding (command_of command.entry) fault
+        → chances.new ≡ chances.old) }
+    ensures never_asked { seed_of (command_of command.entry) ≡ None → chances.new ≡ chances.old }
 {
     let product = make(rt, alloc, command, images, trace, gate, chances)?;
     deliver(alloc, command.image(), &product, images, out)

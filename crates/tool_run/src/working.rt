@@ -7,7 +7,7 @@ ghost use Rattle.tool_ports.specs.Chances.{ComesFromSeed};
 ghost use Rattle.tool_ports.specs.Left.{IsAtEnd, GivesAtMost};
 ghost use Rattle.tool_run.specs.Calls.{get_limit};
 ghost use Rattle.tool_command.specs.Command.{Command, run_image, image_name};
-ghost use Rattle.tool_run.specs.Inside.{Refuses, RefusesEither, IsTraceFault, IsTraceLeft, IsBeforeReading};
+ghost use Rattle.tool_run.specs.Inside.{Refuses, RefusesEither, IsTraceFault, IsTraceLeft, IsBeforeReading, IsBeforeSeeding};
 ghost use Rattle.tool_run.specs.Making.{RunsTrace, Reads, longest_trace};
 ghost use Rattle.tool_run.specs.Outcome.{HoldsOutside};
 ghost use Rattle.tool_run.specs.Recovering.{IsMapped};
@@ -59,6 +59,9 @@ pub fn work_named<R: Threads + Sync, I: ImageStore, T: Source, G: Gate + Sync, C
     ensures calls { I.calls images.new ≡ with_get get_limit (I.calls images.old) }
     ensures seeded { IfOk result (λ _. ComesFromSeed C.seed_gives C.chance_gives C.word_gives
         chances.old options.seed chances.new) }
+    ensures no_chance { IfErr result (λ fault.
+        IsBeforeSeeding (run_image name.now (options_of options)) fault
+        → chances.new ≡ chances.old) }
 {
     let mapped = mapped_heap(alloc, name, images)?;
     let requests = read_trace(alloc, trace)?;

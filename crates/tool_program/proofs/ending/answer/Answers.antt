@@ -70,7 +70,7 @@ pub returns-in-Ok-clause-chances : goal.returns-in-Ok-clause-chances
 returns-in-Ok-clause-chances g c =
     let did = c.run_tool.ensures in
     chances_by_words g.C.Chances.seed_gives g.C.Chances.chance_gives g.C.Chances.word_gives _ _ _ c.args.chances.now c.run_tool.new.chances
-    (ap texts c.deref.ensures.value ∙ c.in-Ok.ensures.ok) (record { seeded = did.seeded })
+    (ap texts c.deref.ensures.value ∙ c.in-Ok.ensures.ok) (record { seeded = did.seeded; no_chance = did.no_chance; never_asked = did.never_asked })
 
 pub returns-in-Err-clause-chances : goal.returns-in-Err-clause-chances
 returns-in-Err-clause-chances g c =

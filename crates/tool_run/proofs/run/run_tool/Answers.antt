@@ -1,4 +1,4 @@
-use Rattle.tool_run.proofs.SeedLemmas.{by_its_seed, cut_off_by_its_seed}
+use Rattle.tool_run.proofs.SeedLemmas.{by_its_seed, cut_off_by_its_seed, before_seeding}
 use Rattle.tool_run.proofs.StatusLemmas.{has_status, is_read_fault, is_write_fault, is_bad_header, is_outside, is_bad_shard, is_absent, is_bad_trace, is_own_line, for_source, before_reading}
 use Rattle.std.proofs.Common.{arith, rules}
 use Rattle.tool_run.proofs.CallLemmas.{rose_since}
@@ -219,3 +219,13 @@ returns-in-Err-clause-no_failed_call g c read write =
 
 pub returns-in-Ok-carry_out-clause-no_failed_write : goal.returns-in-Ok-carry_out-clause-no_failed_write
 returns-in-Ok-carry_out-clause-no_failed_write g c done = c.in-Ok-carry_out.ensures.sink_steady (not_err _ _)
+
+pub returns-in-Err-clause-no_chance : goal.returns-in-Err-clause-no_chance
+returns-in-Err-clause-no_chance g c leaves no_replay =
+    c.in-Err.ensures.no_chance (before_seeding _ _ _ c.in-Err.fault c.in-Ok.ensures.ok c.tell-in-Err.ensures.status leaves no_replay)
+
+pub returns-in-Ok-carry_out-clause-never_asked : goal.returns-in-Ok-carry_out-clause-never_asked
+returns-in-Ok-carry_out-clause-never_asked g c none = c.carry_out.ensures.never_asked (none _ c.in-Ok.ensures.ok)
+
+pub returns-in-Err-clause-never_asked : goal.returns-in-Err-clause-never_asked
+returns-in-Err-clause-never_asked g c none = c.carry_out.ensures.never_asked (none _ c.in-Ok.ensures.ok)
