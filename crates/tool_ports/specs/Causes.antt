@@ -9,11 +9,15 @@ one_more count = min (count + 1) (2 ^ 64 - 1)
 abbrev pub Rose : ℕ → ℕ → Type 0
 Rose before now = one_more before ≤ now
 
+-- one fault was counted: the count is one more, or stands at its last value
+abbrev pub RoseByOne : ℕ → ℕ → Type 0
+RoseByOne before now = now ≡ one_more before
+
 -- The count of faults never falls. At the answer that tells of a failure it is one more, so one call failed
 -- and none was made again; it stays at every other.
 pub record HasCause (before now : ℕ) (failed : Type 0) : Type 0 where
   pub later : before ≤ now
-  pub rose : failed → now ≡ one_more before
+  pub rose : failed → RoseByOne before now
   pub steady : ¬ failed → now ≡ before
 
 -- one event is counted

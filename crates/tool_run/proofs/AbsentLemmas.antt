@@ -46,11 +46,11 @@ refused command contents name get_failed status (BadShard shard at) named none i
 refused command contents name get_failed status other named none is why = absurd why
 
 -- why a command stopped
-pub stops_absent : (words : List (List ℕ)) (command : Command) (old new : Contents) (left : Option (List ℕ)) (store_failed source_failed sink_failed : Type 0) (taken taken' : Option (List ℕ)) (status : ℕ) (fault : Fault)
-    → Asks words command → IsStopped command old new left store_failed source_failed sink_failed taken taken' fault → status ≡ status_of fault
+pub stops_absent : (words : List (List ℕ)) (command : Command) (old new : Contents) (left : Option (List ℕ)) (store_failed source_failed : Type 0) (faults between : ℕ) (taken taken' : Option (List ℕ)) (status : ℕ) (fault : Fault)
+    → Asks words command → IsStopped command old new left store_failed source_failed faults between taken taken' fault → status ≡ status_of fault
     → (name : List ℕ) → AsksToGet words name → told_of old name ≡ Some None
     → (status ≡ no_image) ⊎ (status ≡ out_of_memory) ⊎ (status ≡ read_fault)
-stops_absent words command old new left store_failed source_failed sink_failed taken taken' status fault asked stopped is name asks none =
+stops_absent words command old new left store_failed source_failed faults between taken taken' status fault asked stopped is name asks none =
     let same : asks.command ≡ command = one_command words asks.command command asks.asked asked in
     let named : image_name command ≡ name = subst (λ (c : Command). image_name c ≡ name) same asks.is_named in
     elim stopped.cause as (λ _. (status ≡ no_image) ⊎ (status ≡ out_of_memory) ⊎ (status ≡ read_fault)) [

@@ -64,9 +64,9 @@ module _ (words : List (List ℕ)) (command : Command) (old new : Contents) (lef
       let made = subst (λ (c : Command). Makes c old left is.image is.text) same is.made in
       absurd (unfit.none made.1.schedule made.1.has_schedule)
 
-  stops_unfit : (store_failed source_failed sink_failed : Type 0) (fault : Fault) → IsStopped command old new left store_failed source_failed sink_failed taken taken' fault → status ≡ status_of fault
+  stops_unfit : (store_failed source_failed : Type 0) (faults between : ℕ) (fault : Fault) → IsStopped command old new left store_failed source_failed faults between taken taken' fault → status ≡ status_of fault
       → (name : List ℕ) → AsksForReplay words name → HoldsGood old name → HasNoSchedule left → IsRefusal status
-  stops_unfit store_failed source_failed sink_failed fault stopped is name asks has unfit =
+  stops_unfit store_failed source_failed faults between fault stopped is name asks has unfit =
       let same : command ≡ replay_image name asks.seed = one_command words command (replay_image name asks.seed) asked asks.asked in
       elim stopped.cause as (λ _. IsRefusal status) [
         | inl (inl why, untouched) ↦ inr (by_image old name asks.seed store_failed status fault has is (subst (λ (c : Command). Refuses c old store_failed fault) same why))
@@ -83,12 +83,12 @@ module _ (words : List (List ℕ)) (command : Command) (old new : Contents) (lef
   pub done_schedule_too_long : IsCarriedOut command old new left taken taken' → (name : List ℕ) → AsksForReplay words name → HoldsGood old name → HoldsTooMuch left → IsRefusal status
   done_schedule_too_long is name asks has bad = done_unfit is name asks (too_much_unfit left bad)
 
-  pub stops_bad_step : (store_failed source_failed sink_failed : Type 0) (fault : Fault) → IsStopped command old new left store_failed source_failed sink_failed taken taken' fault → status ≡ status_of fault
+  pub stops_bad_step : (store_failed source_failed : Type 0) (faults between : ℕ) (fault : Fault) → IsStopped command old new left store_failed source_failed faults between taken taken' fault → status ≡ status_of fault
       → (name : List ℕ) (line : ℕ) → AsksForReplay words name → HoldsGood old name → HoldsBadStep left line → IsRefusal status
-  stops_bad_step store_failed source_failed sink_failed fault stopped is name line asks has bad =
-      stops_unfit store_failed source_failed sink_failed fault stopped is name asks has (bad_step_unfit left line bad)
+  stops_bad_step store_failed source_failed faults between fault stopped is name line asks has bad =
+      stops_unfit store_failed source_failed faults between fault stopped is name asks has (bad_step_unfit left line bad)
 
-  pub stops_schedule_too_long : (store_failed source_failed sink_failed : Type 0) (fault : Fault) → IsStopped command old new left store_failed source_failed sink_failed taken taken' fault → status ≡ status_of fault
+  pub stops_schedule_too_long : (store_failed source_failed : Type 0) (faults between : ℕ) (fault : Fault) → IsStopped command old new left store_failed source_failed faults between taken taken' fault → status ≡ status_of fault
       → (name : List ℕ) → AsksForReplay words name → HoldsGood old name → HoldsTooMuch left → IsRefusal status
-  stops_schedule_too_long store_failed source_failed sink_failed fault stopped is name asks has bad =
-      stops_unfit store_failed source_failed sink_failed fault stopped is name asks has (too_much_unfit left bad)
+  stops_schedule_too_long store_failed source_failed faults between fault stopped is name asks has bad =
+      stops_unfit store_failed source_failed faults between fault stopped is name asks has (too_much_unfit left bad)

@@ -90,11 +90,11 @@ no_maps (conservative_image n with_map) reads replays = reads
 no_maps (count_image n with_map) reads replays = reads
 
 -- why a command stopped
-pub stops_bad : (words : List (List ℕ)) (command : Command) (old new : Contents) (left : Option (List ℕ)) (store_failed source_failed sink_failed : Type 0) (taken taken' : Option (List ℕ)) (status : ℕ) (fault : Fault)
-    → Asks words command → IsStopped command old new left store_failed source_failed sink_failed taken taken' fault → status ≡ status_of fault
+pub stops_bad : (words : List (List ℕ)) (command : Command) (old new : Contents) (left : Option (List ℕ)) (store_failed source_failed : Type 0) (faults between : ℕ) (taken taken' : Option (List ℕ)) (status : ℕ) (fault : Fault)
+    → Asks words command → IsStopped command old new left store_failed source_failed faults between taken taken' fault → status ≡ status_of fault
     → (name : List ℕ) (shard at : ℕ) → AsksToRead words name → HoldsBadShard old name shard at
     → (status ≡ bad_shard) ⊎ (status ≡ out_of_memory) ⊎ (status ≡ read_fault)
-stops_bad words command old new left store_failed source_failed sink_failed taken taken' status fault asked stopped is name shard at asks has =
+stops_bad words command old new left store_failed source_failed faults between taken taken' status fault asked stopped is name shard at asks has =
     elim stopped.cause as (λ _. (status ≡ bad_shard) ⊎ (status ≡ out_of_memory) ⊎ (status ≡ read_fault)) [
       | inl (inl why, untouched) ↦
           let same : asks.command ≡ command = one_command words asks.command command asks.asked asked in

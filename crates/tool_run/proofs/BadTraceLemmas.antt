@@ -67,9 +67,9 @@ module _ (words : List (List ℕ)) (command : Command) (old new : Contents) (lef
       let same : command ≡ run_image name asks.options = one_command words command (run_image name asks.options) asked asks.asked in
       absurd (not_made old name asks.options left is.image is.text unfit (subst (λ (c : Command). Makes c old left is.image is.text) same is.made))
 
-  stops_unfit : (store_failed source_failed sink_failed : Type 0) (fault : Fault) → IsStopped command old new left store_failed source_failed sink_failed taken taken' fault → status ≡ status_of fault
+  stops_unfit : (store_failed source_failed : Type 0) (faults between : ℕ) (fault : Fault) → IsStopped command old new left store_failed source_failed faults between taken taken' fault → status ≡ status_of fault
       → (name : List ℕ) → AsksForRun words name → HoldsMaps old name → HasNoTrace left → IsRefusal status
-  stops_unfit store_failed source_failed sink_failed fault stopped is name asks has unfit =
+  stops_unfit store_failed source_failed faults between fault stopped is name asks has unfit =
       let same : command ≡ run_image name asks.options = one_command words command (run_image name asks.options) asked asks.asked in
       elim stopped.cause as (λ _. IsRefusal status) [
         | inl (inl why, untouched) ↦ by_image old name asks.options store_failed status fault has is (subst (λ (c : Command). Refuses c old store_failed fault) same why)
@@ -85,12 +85,12 @@ module _ (words : List (List ℕ)) (command : Command) (old new : Contents) (lef
   pub done_too_long : IsCarriedOut command old new left taken taken' → (name : List ℕ) → AsksForRun words name → HoldsMaps old name → HoldsTooMuch left → IsRefusal status
   done_too_long is name asks has bad = done_unfit is name asks (too_much_unfit left bad)
 
-  pub stops_bad_line : (store_failed source_failed sink_failed : Type 0) (fault : Fault) → IsStopped command old new left store_failed source_failed sink_failed taken taken' fault → status ≡ status_of fault
+  pub stops_bad_line : (store_failed source_failed : Type 0) (faults between : ℕ) (fault : Fault) → IsStopped command old new left store_failed source_failed faults between taken taken' fault → status ≡ status_of fault
       → (name : List ℕ) (line : ℕ) → AsksForRun words name → HoldsMaps old name → HoldsBadLine left line → IsRefusal status
-  stops_bad_line store_failed source_failed sink_failed fault stopped is name line asks has bad =
-      stops_unfit store_failed source_failed sink_failed fault stopped is name asks has (bad_line_unfit left line bad)
+  stops_bad_line store_failed source_failed faults between fault stopped is name line asks has bad =
+      stops_unfit store_failed source_failed faults between fault stopped is name asks has (bad_line_unfit left line bad)
 
-  pub stops_too_long : (store_failed source_failed sink_failed : Type 0) (fault : Fault) → IsStopped command old new left store_failed source_failed sink_failed taken taken' fault → status ≡ status_of fault
+  pub stops_too_long : (store_failed source_failed : Type 0) (faults between : ℕ) (fault : Fault) → IsStopped command old new left store_failed source_failed faults between taken taken' fault → status ≡ status_of fault
       → (name : List ℕ) → AsksForRun words name → HoldsMaps old name → HoldsTooMuch left → IsRefusal status
-  stops_too_long store_failed source_failed sink_failed fault stopped is name asks has bad =
-      stops_unfit store_failed source_failed sink_failed fault stopped is name asks has (too_much_unfit left bad)
+  stops_too_long store_failed source_failed faults between fault stopped is name asks has bad =
+      stops_unfit store_failed source_failed faults between fault stopped is name asks has (too_much_unfit left bad)

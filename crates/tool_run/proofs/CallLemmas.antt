@@ -1,6 +1,6 @@
 -- From the contracts of the two steps of a command to the command, and to the status of the call.
 use Rattle.std.proofs.Common.{◌≡◌, ℕ, ◌≤◌, List, Option, Some, Result, Ok, Err, OnOk, IfErr, IsErrOf, inl, inr, refl, sym, ap, ◌∙◌, subst, arith}
-use Rattle.tool_ports.specs.Causes.{Rose}
+use Rattle.tool_ports.specs.Causes.{Rose, RoseByOne}
 use Rattle.tool_ports.specs.Contents.{Contents}
 use Rattle.tool_ports.specs.Calls.{with_get, with_put}
 use Rattle.tool_ports.specs.declared.store_calls.StoreCalls.{StoreCalls}
@@ -14,46 +14,50 @@ use Rattle.tool_run.specs.Making.{Makes, GetsImage, FollowsLinks, PutsBack, kind
 use Rattle.tool_run.specs.Outcome.{IsCutOff, while_putting, while_printing}
 use Rattle.tool_run.proofs.FilterLemmas.{follows_gets, follows_checks}
 
+-- a count that was one more at a moment has risen since
+pub rose_by_then : (before then later : ℕ) → RoseByOne before then → then ≤ later → Rose before later
+rose_by_then before then later once high = subst (λ n. n ≤ later) once high
+
 -- a count that rose after an earlier moment rose since then, and before a later one too
-pub rose_since : (before mid now later : ℕ) → before ≤ mid → now ≤ later → Rose mid now → Rose before later
+rose_since : (before mid now later : ℕ) → before ≤ mid → now ≤ later → Rose mid now → Rose before later
 rose_since before mid now later low high rose = omega arith
 
--- a result that was cut off, with wider words on the causes
-pub wider_cut : (name : List ℕ) (image : Option (List ℕ)) (text : List ℕ) (old new : Contents) (A B A' B' : Type 0) (taken taken' : Option (List ℕ)) → (A → A') → (B → B')
-    → IsCutOff name image text old new A B taken taken' → IsCutOff name image text old new A' B' taken taken'
-wider_cut name image text old new A B A' B' taken taken' to still (while_putting bytes is failed stored others same) = while_putting bytes is (to failed) stored others same
-wider_cut name image text old new A B A' B' taken taken' to still (while_printing failed put part) = while_printing (still failed) put part
+-- a result that was cut off, with wider words on the cause
+wider_cut : (name : List ℕ) (image : Option (List ℕ)) (text : List ℕ) (old new : Contents) (A A' : Type 0) (faults between : ℕ) (taken taken' : Option (List ℕ)) → (A → A')
+    → IsCutOff name image text old new A faults between taken taken' → IsCutOff name image text old new A' faults between taken taken'
+wider_cut name image text old new A A' faults between taken taken' to (while_putting bytes is failed unprinted stored others same) = while_putting bytes is (to failed) unprinted stored others same
+wider_cut name image text old new A A' faults between taken taken' to (while_printing once put part) = while_printing once put part
 
 -- what was made and not delivered
-wider_failure : (name text : List ℕ) (old new : Contents) (A A' B : Type 0) (taken taken' image : Option (List ℕ)) → (A → A') → (fault : Fault)
-    → DeliveryFails name image text old new A B taken taken' fault → DeliveryFails name image text old new A' B taken taken' fault
-wider_failure name text old new A A' B taken taken' image to Memory h = h
-wider_failure name text old new A A' B taken taken' image to WriteFault cut = wider_cut name image text old new A B A' B taken taken' to (λ b. b) cut
-wider_failure name text old new A A' B taken taken' image to Usage h = h
-wider_failure name text old new A A' B taken taken' image to ReadFault h = h
-wider_failure name text old new A A' B taken taken' image to Absent h = h
-wider_failure name text old new A A' B taken taken' image to (Malformed cause) h = h
-wider_failure name text old new A A' B taken taken' image to (Outside at value) h = h
-wider_failure name text old new A A' B taken taken' image to (BadShard shard at) h = h
-wider_failure name text old new A A' B taken taken' image to (BadLine line) h = h
-wider_failure name text old new A A' B taken taken' image to (BadStep line) h = h
-wider_failure name text old new A A' B taken taken' image to TooLong h = h
+wider_failure : (name text : List ℕ) (old new : Contents) (A A' : Type 0) (faults between : ℕ) (taken taken' image : Option (List ℕ)) → (A → A') → (fault : Fault)
+    → DeliveryFails name image text old new A faults between taken taken' fault → DeliveryFails name image text old new A' faults between taken taken' fault
+wider_failure name text old new A A' faults between taken taken' image to Memory h = h
+wider_failure name text old new A A' faults between taken taken' image to WriteFault h = wider_cut name image text old new A A' faults between taken taken' to h
+wider_failure name text old new A A' faults between taken taken' image to Usage h = h
+wider_failure name text old new A A' faults between taken taken' image to ReadFault h = h
+wider_failure name text old new A A' faults between taken taken' image to Absent h = h
+wider_failure name text old new A A' faults between taken taken' image to (Malformed cause) h = h
+wider_failure name text old new A A' faults between taken taken' image to (Outside at value) h = h
+wider_failure name text old new A A' faults between taken taken' image to (BadShard shard at) h = h
+wider_failure name text old new A A' faults between taken taken' image to (BadLine line) h = h
+wider_failure name text old new A A' faults between taken taken' image to (BadStep line) h = h
+wider_failure name text old new A A' faults between taken taken' image to TooLong h = h
 
-pub stops_at_delivery : (command : Command) (name text : List ℕ) (image : Option (List ℕ)) (old mid new : Contents) (left : Option (List ℕ)) (first second third : ℕ) (read_failed print_failed : Type 0) (taken taken' : Option (List ℕ)) (fault : Fault)
+pub stops_at_delivery : (command : Command) (name text : List ℕ) (image : Option (List ℕ)) (old mid new : Contents) (left : Option (List ℕ)) (first second third : ℕ) (read_failed : Type 0) (faults between : ℕ) (taken taken' : Option (List ℕ)) (fault : Fault)
     → Makes command old left image text → name ≡ image_name command → mid ≡ old → first ≤ second
-    → DeliveryFails name image text mid new (Rose second third) print_failed taken taken' fault
-    → IsStopped command old new left (Rose first third) read_failed print_failed taken taken' fault
-stops_at_delivery command name text image old mid new left first second third read_failed print_failed taken taken' fault made named same low why =
-    let here : DeliveryFails (image_name command) image text mid new (Rose second third) print_failed taken taken' fault =
-    subst (λ (n : List ℕ). DeliveryFails n image text mid new (Rose second third) print_failed taken taken' fault) named why in
-    let there : DeliveryFails (image_name command) image text old new (Rose second third) print_failed taken taken' fault =
-    subst (λ (m : Contents). DeliveryFails (image_name command) image text m new (Rose second third) print_failed taken taken' fault) same here in
+    → DeliveryFails name image text mid new (Rose second third) faults between taken taken' fault
+    → IsStopped command old new left (Rose first third) read_failed faults between taken taken' fault
+stops_at_delivery command name text image old mid new left first second third read_failed faults between taken taken' fault made named same low why =
+    let here : DeliveryFails (image_name command) image text mid new (Rose second third) faults between taken taken' fault =
+    subst (λ (n : List ℕ). DeliveryFails n image text mid new (Rose second third) faults between taken taken' fault) named why in
+    let there : DeliveryFails (image_name command) image text old new (Rose second third) faults between taken taken' fault =
+    subst (λ (m : Contents). DeliveryFails (image_name command) image text m new (Rose second third) faults between taken taken' fault) same here in
     record {
       cause = inr (
         image,
         text,
         made,
-        wider_failure (image_name command) text old new (Rose second third) (Rose first third) print_failed taken taken' image
+        wider_failure (image_name command) text old new (Rose second third) (Rose first third) faults between taken taken' image
             (rose_since first second third third low (omega arith)) fault there,
       );
     }
@@ -132,21 +136,21 @@ module _ (command : Command) (contents : Contents) (left image : Option (List �
   calls_done (Err e) put = tt
 
   -- and of one that was not delivered
-  pub calls_undelivered : {U : Type 0} (name : List ℕ) (old new : Contents) (A B : Type 0) (taken taken' : Option (List ℕ)) (result : Result U Fault) → IfErr result (DeliveryFails name image text old new A B taken taken')
+  pub calls_undelivered : {U : Type 0} (name : List ℕ) (old new : Contents) (A : Type 0) (faults between : ℕ) (taken taken' : Option (List ℕ)) (result : Result U Fault) → IfErr result (DeliveryFails name image text old new A faults between taken taken')
       → ((IsErrOf result Memory → ⊥) → after ≡ with_putting image mid) → (IsErrOf result Memory → after ≡ mid)
       → IfErr result (λ fault. after ≡ with_status command (status_of fault) before)
-  calls_undelivered name old new A B taken taken' (Ok u) why put not_put = tt
-  calls_undelivered name old new A B taken taken' (Err Memory) why put not_put = not_put refl ∙ first
-  calls_undelivered name old new A B taken taken' (Err WriteFault) why put not_put = all_put (put (λ e. other_fault _ WriteFault Memory refl e (λ same. let never : WriteFault ≡ Memory = same in cc)))
-  calls_undelivered name old new A B taken taken' (Err Usage) why put not_put = absurd why
-  calls_undelivered name old new A B taken taken' (Err ReadFault) why put not_put = absurd why
-  calls_undelivered name old new A B taken taken' (Err Absent) why put not_put = absurd why
-  calls_undelivered name old new A B taken taken' (Err (Malformed cause)) why put not_put = absurd why
-  calls_undelivered name old new A B taken taken' (Err (Outside at value)) why put not_put = absurd why
-  calls_undelivered name old new A B taken taken' (Err (BadShard shard at)) why put not_put = absurd why
-  calls_undelivered name old new A B taken taken' (Err (BadLine line)) why put not_put = absurd why
-  calls_undelivered name old new A B taken taken' (Err (BadStep line)) why put not_put = absurd why
-  calls_undelivered name old new A B taken taken' (Err TooLong) why put not_put = absurd why
+  calls_undelivered name old new A faults between taken taken' (Ok u) why put not_put = tt
+  calls_undelivered name old new A faults between taken taken' (Err Memory) why put not_put = not_put refl ∙ first
+  calls_undelivered name old new A faults between taken taken' (Err WriteFault) why put not_put = all_put (put (λ e. other_fault _ WriteFault Memory refl e (λ same. let never : WriteFault ≡ Memory = same in cc)))
+  calls_undelivered name old new A faults between taken taken' (Err Usage) why put not_put = absurd why
+  calls_undelivered name old new A faults between taken taken' (Err ReadFault) why put not_put = absurd why
+  calls_undelivered name old new A faults between taken taken' (Err Absent) why put not_put = absurd why
+  calls_undelivered name old new A faults between taken taken' (Err (Malformed cause)) why put not_put = absurd why
+  calls_undelivered name old new A faults between taken taken' (Err (Outside at value)) why put not_put = absurd why
+  calls_undelivered name old new A faults between taken taken' (Err (BadShard shard at)) why put not_put = absurd why
+  calls_undelivered name old new A faults between taken taken' (Err (BadLine line)) why put not_put = absurd why
+  calls_undelivered name old new A faults between taken taken' (Err (BadStep line)) why put not_put = absurd why
+  calls_undelivered name old new A faults between taken taken' (Err TooLong) why put not_put = absurd why
 
 -- what was refused by its image was refused
 pub refused_by_image : (command : Command) (contents : Contents) (left : Option (List ℕ)) (A B : Type 0) (fault cause : Fault) → fault ≡ cause → Refuses command contents A cause

@@ -1,5 +1,6 @@
 -- A command against which nothing stands stops for want of memory alone, where neither the store nor the sink fails.
 use Rattle.std.proofs.Common.{◌≡◌, ◌⊎◌, ℕ, ◌<◌, List, length, Option, Some, None, inl, inr, sym, subst, arith}
+use Rattle.tool_ports.specs.Causes.{RoseByOne}
 use Rattle.tool_ports.specs.Contents.{Contents}
 use Rattle.tool_run.specs.Making.{image_in}
 use Rattle.dict_model.specs.Shards.{BadShard as IsBadShard}
@@ -163,31 +164,31 @@ module _ (command : Command) (contents : Contents) (left : Option (List ℕ)) (g
   refused (BadStep line) is why = absurd why
   refused TooLong is why = absurd why
 
-cut_off : (P : Type 0) (name : List ℕ) (image : Option (List ℕ)) (text : List ℕ) (old new : Contents) (store_failed sink_failed : Type 0) (taken taken' : Option (List ℕ))
-    → (store_failed → ⊥) → (sink_failed → ⊥) → IsCutOff name image text old new store_failed sink_failed taken taken' → P
-cut_off P name image text old new store_failed sink_failed taken taken' store sink (while_putting bytes is failed stored others same) = absurd (store failed)
-cut_off P name image text old new store_failed sink_failed taken taken' store sink (while_printing failed put part) = absurd (sink failed)
+cut_off : (P : Type 0) (name : List ℕ) (image : Option (List ℕ)) (text : List ℕ) (old new : Contents) (store_failed : Type 0) (faults between : ℕ) (taken taken' : Option (List ℕ))
+    → (store_failed → ⊥) → (RoseByOne faults between → ⊥) → IsCutOff name image text old new store_failed faults between taken taken' → P
+cut_off P name image text old new store_failed faults between taken taken' store sink (while_putting bytes is failed unprinted stored others same) = absurd (store failed)
+cut_off P name image text old new store_failed faults between taken taken' store sink (while_printing once put part) = absurd (sink once)
 
-undelivered : (name : List ℕ) (image : Option (List ℕ)) (text : List ℕ) (old new : Contents) (store_failed sink_failed : Type 0) (taken taken' : Option (List ℕ)) (status : ℕ) (fault : Fault)
-    → (store_failed → ⊥) → (sink_failed → ⊥) → status ≡ status_of fault → DeliveryFails name image text old new store_failed sink_failed taken taken' fault
+undelivered : (name : List ℕ) (image : Option (List ℕ)) (text : List ℕ) (old new : Contents) (store_failed : Type 0) (faults between : ℕ) (taken taken' : Option (List ℕ)) (status : ℕ) (fault : Fault)
+    → (store_failed → ⊥) → (RoseByOne faults between → ⊥) → status ≡ status_of fault → DeliveryFails name image text old new store_failed faults between taken taken' fault
     → (status ≡ done) ⊎ (status ≡ out_of_memory)
-undelivered name image text old new store_failed sink_failed taken taken' status Memory store sink is why = inr is
-undelivered name image text old new store_failed sink_failed taken taken' status WriteFault store sink is why =
-    cut_off ((status ≡ done) ⊎ (status ≡ out_of_memory)) name image text old new store_failed sink_failed taken taken' store sink why
-undelivered name image text old new store_failed sink_failed taken taken' status Usage store sink is why = absurd why
-undelivered name image text old new store_failed sink_failed taken taken' status ReadFault store sink is why = absurd why
-undelivered name image text old new store_failed sink_failed taken taken' status Absent store sink is why = absurd why
-undelivered name image text old new store_failed sink_failed taken taken' status (Malformed cause) store sink is why = absurd why
-undelivered name image text old new store_failed sink_failed taken taken' status (Outside at value) store sink is why = absurd why
-undelivered name image text old new store_failed sink_failed taken taken' status (BadShard shard at) store sink is why = absurd why
-undelivered name image text old new store_failed sink_failed taken taken' status (BadLine line) store sink is why = absurd why
-undelivered name image text old new store_failed sink_failed taken taken' status (BadStep line) store sink is why = absurd why
-undelivered name image text old new store_failed sink_failed taken taken' status TooLong store sink is why = absurd why
+undelivered name image text old new store_failed faults between taken taken' status Memory store sink is why = inr is
+undelivered name image text old new store_failed faults between taken taken' status WriteFault store sink is why =
+    cut_off ((status ≡ done) ⊎ (status ≡ out_of_memory)) name image text old new store_failed faults between taken taken' store sink why
+undelivered name image text old new store_failed faults between taken taken' status Usage store sink is why = absurd why
+undelivered name image text old new store_failed faults between taken taken' status ReadFault store sink is why = absurd why
+undelivered name image text old new store_failed faults between taken taken' status Absent store sink is why = absurd why
+undelivered name image text old new store_failed faults between taken taken' status (Malformed cause) store sink is why = absurd why
+undelivered name image text old new store_failed faults between taken taken' status (Outside at value) store sink is why = absurd why
+undelivered name image text old new store_failed faults between taken taken' status (BadShard shard at) store sink is why = absurd why
+undelivered name image text old new store_failed faults between taken taken' status (BadLine line) store sink is why = absurd why
+undelivered name image text old new store_failed faults between taken taken' status (BadStep line) store sink is why = absurd why
+undelivered name image text old new store_failed faults between taken taken' status TooLong store sink is why = absurd why
 
-pub stops_complete : (words : List (List ℕ)) (command : Command) (old new : Contents) (left : Option (List ℕ)) (store_failed source_failed sink_failed : Type 0) (taken taken' : Option (List ℕ)) (status : ℕ) (fault : Fault)
-    → Asks words command → IsStopped command old new left store_failed source_failed sink_failed taken taken' fault → status ≡ status_of fault
-    → (other : Command) → Asks words other → CanBeDone other old left → (store_failed → ⊥) → (ReadsSource other → source_failed → ⊥) → (sink_failed → ⊥) → (status ≡ done) ⊎ (status ≡ out_of_memory)
-stops_complete words command old new left store_failed source_failed sink_failed taken taken' status fault asked stopped is other asks can store source sink =
+pub stops_complete : (words : List (List ℕ)) (command : Command) (old new : Contents) (left : Option (List ℕ)) (store_failed source_failed : Type 0) (faults between : ℕ) (taken taken' : Option (List ℕ)) (status : ℕ) (fault : Fault)
+    → Asks words command → IsStopped command old new left store_failed source_failed faults between taken taken' fault → status ≡ status_of fault
+    → (other : Command) → Asks words other → CanBeDone other old left → (store_failed → ⊥) → (ReadsSource other → source_failed → ⊥) → (RoseByOne faults between → ⊥) → (status ≡ done) ⊎ (status ≡ out_of_memory)
+stops_complete words command old new left store_failed source_failed faults between taken taken' status fault asked stopped is other asks can store source sink =
     let same : other ≡ command = one_command words other command asks asked in
     let here : CanBeDone command old left = subst (λ (c : Command). CanBeDone c old left) same can in
     elim stopped.cause as (λ _. (status ≡ done) ⊎ (status ≡ out_of_memory)) [
@@ -196,5 +197,5 @@ stops_complete words command old new left store_failed source_failed sink_failed
           trace_good left source_failed status fault (trace_of command old left trace.runs here) (source (subst ReadsSource (sym same) (inl trace.runs))) is trace.why
       | inl (inr (inr replay), untouched) ↦
           replay_good old left (image_name command) source_failed status fault (replay_of command old left replay.replays here) (source (subst ReadsSource (sym same) (inr replay.replays))) is replay.why
-      | inr (image, text, made, why) ↦ undelivered (image_name command) image text old new store_failed sink_failed taken taken' status fault store sink is why
+      | inr (image, text, made, why) ↦ undelivered (image_name command) image text old new store_failed faults between taken taken' status fault store sink is why
     ]

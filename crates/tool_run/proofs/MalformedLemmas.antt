@@ -75,11 +75,11 @@ refused command contents name get_failed status (Outside place value) named has 
     both_headers (Some kind_count) why.0.bytes here.bytes here.cause (same_bytes contents (image_name command) name why.0.bytes here.bytes named why.0.is_there here.held) why.0.good here.fault
 
 -- why a command stopped
-pub stops_malformed : (words : List (List ℕ)) (command : Command) (old new : Contents) (left : Option (List ℕ)) (store_failed source_failed sink_failed : Type 0) (taken taken' : Option (List ℕ)) (status : ℕ) (fault : Fault)
-    → Asks words command → IsStopped command old new left store_failed source_failed sink_failed taken taken' fault → status ≡ status_of fault
+pub stops_malformed : (words : List (List ℕ)) (command : Command) (old new : Contents) (left : Option (List ℕ)) (store_failed source_failed : Type 0) (faults between : ℕ) (taken taken' : Option (List ℕ)) (status : ℕ) (fault : Fault)
+    → Asks words command → IsStopped command old new left store_failed source_failed faults between taken taken' fault → status ≡ status_of fault
     → (name : List ℕ) (asks : AsksToGet words name) → HoldsMalformed (kinds_checked asks.command) old name
     → (status ≡ bad_header) ⊎ (status ≡ out_of_memory) ⊎ (status ≡ read_fault)
-stops_malformed words command old new left store_failed source_failed sink_failed taken taken' status fault asked stopped is name asks has =
+stops_malformed words command old new left store_failed source_failed faults between taken taken' status fault asked stopped is name asks has =
     let same : asks.command ≡ command = one_command words asks.command command asks.asked asked in
     let named : image_name command ≡ name = subst (λ (c : Command). image_name c ≡ name) same asks.is_named in
     let here : HoldsMalformed (kinds_checked command) old name = subst (λ (c : Command). HoldsMalformed (kinds_checked c) old name) same has in

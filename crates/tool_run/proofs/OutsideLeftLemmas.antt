@@ -83,9 +83,9 @@ module _ (words : List (List ℕ)) (command : Command) (old new : Contents) (lef
       let made = subst (λ (c : Command). Makes c old left is.image is.text) same is.made in
       absurd (none_printed old name left at has is.text made.1)
 
-  pub stops_outside_left : (store_failed source_failed sink_failed : Type 0) (fault : Fault) → IsStopped command old new left store_failed source_failed sink_failed taken taken' fault → status ≡ status_of fault
+  pub stops_outside_left : (store_failed source_failed : Type 0) (faults between : ℕ) (fault : Fault) → IsStopped command old new left store_failed source_failed faults between taken taken' fault → status ≡ status_of fault
       → (name : List ℕ) (at : ℕ) → AsksForReplay words name → HoldsOutsideLeft old name left at → IsOutsideOr status
-  stops_outside_left store_failed source_failed sink_failed fault stopped is name at asks has =
+  stops_outside_left store_failed source_failed faults between fault stopped is name at asks has =
       let same : command ≡ replay_image name asks.seed = one_command words command (replay_image name asks.seed) asked asks.asked in
       elim stopped.cause as (λ _. IsOutsideOr status) [
         | inl (inl why, untouched) ↦ inr (by_image old name asks.seed store_failed status fault has.image is (subst (λ (c : Command). Refuses c old store_failed fault) same why))

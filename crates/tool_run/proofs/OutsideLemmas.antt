@@ -103,11 +103,11 @@ pub not_done : (words : List (List ℕ)) (command : Command) (old new : Contents
 not_done words command old new left taken taken' status asked done name at asks has refuses = absurd (none_made words command old left done.image done.text asked done.made name at asks has refuses)
 
 -- why a command stopped
-pub stops_outside : (words : List (List ℕ)) (command : Command) (old new : Contents) (left : Option (List ℕ)) (store_failed source_failed sink_failed : Type 0) (taken taken' : Option (List ℕ)) (status : ℕ) (fault : Fault)
-    → Asks words command → IsStopped command old new left store_failed source_failed sink_failed taken taken' fault → status ≡ status_of fault
+pub stops_outside : (words : List (List ℕ)) (command : Command) (old new : Contents) (left : Option (List ℕ)) (store_failed source_failed : Type 0) (faults between : ℕ) (taken taken' : Option (List ℕ)) (status : ℕ) (fault : Fault)
+    → Asks words command → IsStopped command old new left store_failed source_failed faults between taken taken' fault → status ≡ status_of fault
     → (name : List ℕ) (at : ℕ) (asks : AsksToGet words name) (has : HoldsOutside old name at) → RefusesOutside asks.command has.bytes
     → (status ≡ outside) ⊎ (status ≡ out_of_memory) ⊎ (status ≡ read_fault)
-stops_outside words command old new left store_failed source_failed sink_failed taken taken' status fault asked stopped is name at asks has refuses =
+stops_outside words command old new left store_failed source_failed faults between taken taken' status fault asked stopped is name at asks has refuses =
     elim stopped.cause as (λ _. (status ≡ outside) ⊎ (status ≡ out_of_memory) ⊎ (status ≡ read_fault)) [
       | inl (inl why, untouched) ↦
           let same : asks.command ≡ command = one_command words asks.command command asks.asked asked in

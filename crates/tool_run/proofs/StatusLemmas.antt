@@ -1,6 +1,5 @@
 -- From why a command stopped, and the line that was printed then, to what its status says.
 use Rattle.std.proofs.Common.{◌≡◌, ◌≢◌, ◌⊎◌, ℕ, zero, suc, ◌<◌, ◌≤◌, List, [], ◌∷◌, get_or, Option, IfSome, Contains, inl, inr, refl, sym, subst, arith, lit<}
-use Rattle.tool_ports.specs.Causes.{Rose}
 use Rattle.tool_ports.specs.Contents.{Contents}
 use Rattle.tool_command.specs.Command.{Command, format_image, show_image, drain_image, gen_trace, run_image, rebuild_image, replay_image, conservative_image, count_image, image_name, Asks}
 use Rattle.tool_run.specs.declared.fault.Fault.{Fault}
@@ -62,7 +61,7 @@ for_source words command reads asked = record { command = command; asked = asked
 module _ (words : List (List ℕ)) (command : Command) (old new : Contents) (left : Option (List ℕ)) (store_failed source_failed : Type 0) (first second third : ℕ) (taken mid final : Option (List ℕ))
     (status : ℕ) (asked : Asks words command) (low : first ≤ second) (high : second ≤ third) (stood : status ≢ write_fault → second ≡ first) where
   -- the outside failed while something was read
-  pub is_read_fault : (fault : Fault) → IsStopped command old new left store_failed source_failed (Rose first second) taken mid fault → status ≡ status_of fault
+  pub is_read_fault : (fault : Fault) → IsStopped command old new left store_failed source_failed first second taken mid fault → status ≡ status_of fault
       → status ≡ read_fault → IsReadFault words old store_failed source_failed
   is_read_fault ReadFault stopped is four = elim stopped.cause [
     | inl (inl why, same) ↦ at_image (image_name command) (record { command = command; asked = asked; gets = why.0; is_named = refl }) why.1
@@ -73,7 +72,7 @@ module _ (words : List (List ℕ)) (command : Command) (old new : Contents) (lef
   is_read_fault other stopped is four = absurd (omega arith)
 
   -- the result was cut off
-  pub is_write_fault : (fault : Fault) (name : List ℕ) → IsStopped command old new left store_failed source_failed (Rose first second) taken mid fault → status ≡ status_of fault
+  pub is_write_fault : (fault : Fault) (name : List ℕ) → IsStopped command old new left store_failed source_failed first second taken mid fault → status ≡ status_of fault
       → Tells (line_of fault name) second third mid final
       → status ≡ write_fault → IsWriteFault words old new left store_failed first third taken final
   is_write_fault WriteFault name stopped is told five = elim stopped.cause [
@@ -96,7 +95,7 @@ module _ (words : List (List ℕ)) (command : Command) (old new : Contents) (lef
   is_write_fault other name stopped is told five = absurd (omega arith)
 
   -- the image has a malformed header
-  pub is_bad_header : (fault : Fault) (name : List ℕ) → IsStopped command old new left store_failed source_failed (Rose first second) taken mid fault → status ≡ status_of fault
+  pub is_bad_header : (fault : Fault) (name : List ℕ) → IsStopped command old new left store_failed source_failed first second taken mid fault → status ≡ status_of fault
       → Tells (line_of fault name) second third mid final
       → status ≡ bad_header → IsBadHeader words old (λ line. Tells line first third taken final)
   is_bad_header (Malformed cause) name stopped is told seven = elim stopped.cause [
@@ -114,7 +113,7 @@ module _ (words : List (List ℕ)) (command : Command) (old new : Contents) (lef
   is_bad_header other name stopped is told seven = absurd (omega arith)
 
   -- a word points outside, in the image or in what a crash leaves of a replay
-  pub is_outside : (fault : Fault) (name : List ℕ) → IsStopped command old new left store_failed source_failed (Rose first second) taken mid fault → status ≡ status_of fault
+  pub is_outside : (fault : Fault) (name : List ℕ) → IsStopped command old new left store_failed source_failed first second taken mid fault → status ≡ status_of fault
       → Tells (line_of fault name) second third mid final
       → status ≡ outside → IsOutsideAt words old left (λ line. Tells line first third taken final)
   is_outside (Outside at value) name stopped is told eight = elim stopped.cause [
@@ -128,7 +127,7 @@ module _ (words : List (List ℕ)) (command : Command) (old new : Contents) (lef
   is_outside other name stopped is told eight = absurd (omega arith)
 
   -- a shard of the image has no map
-  pub is_bad_shard : (fault : Fault) (name : List ℕ) → IsStopped command old new left store_failed source_failed (Rose first second) taken mid fault → status ≡ status_of fault
+  pub is_bad_shard : (fault : Fault) (name : List ℕ) → IsStopped command old new left store_failed source_failed first second taken mid fault → status ≡ status_of fault
       → Tells (line_of fault name) second third mid final
       → status ≡ bad_shard → IsBadShardAt words old (λ line. Tells line first third taken final)
   is_bad_shard (BadShard shard at) name stopped is told nine = elim stopped.cause [
@@ -147,7 +146,7 @@ module _ (words : List (List ℕ)) (command : Command) (old new : Contents) (lef
   is_bad_shard other name stopped is told nine = absurd (omega arith)
 
   -- there is no such image
-  pub is_absent : (fault : Fault) (name : List ℕ) → name ≡ image_name command → IsStopped command old new left store_failed source_failed (Rose first second) taken mid fault → status ≡ status_of fault
+  pub is_absent : (fault : Fault) (name : List ℕ) → name ≡ image_name command → IsStopped command old new left store_failed source_failed first second taken mid fault → status ≡ status_of fault
       → Tells (line_of fault name) second third mid final
       → status ≡ no_image → IsAbsent words old (λ line. Tells line first third taken final)
   is_absent Absent name named stopped is told six = elim stopped.cause [
@@ -164,7 +163,7 @@ module _ (words : List (List ℕ)) (command : Command) (old new : Contents) (lef
   is_absent other name named stopped is told six = absurd (omega arith)
 
   -- the line of a status that has one line alone
-  own_told : (fault : Fault) (name : List ℕ) → IsStopped command old new left store_failed source_failed (Rose first second) taken mid fault → status ≡ status_of fault
+  own_told : (fault : Fault) (name : List ℕ) → IsStopped command old new left store_failed source_failed first second taken mid fault → status ≡ status_of fault
       → Tells (line_of fault name) second third mid final → IfSome (own_line (status_of fault)) (λ line. Tells line first third taken final)
   own_told Usage name stopped is told = elim stopped.cause [
     | inl (inl why, same) ↦ absurd why
@@ -182,13 +181,13 @@ module _ (words : List (List ℕ)) (command : Command) (old new : Contents) (lef
   ]
   own_told other name stopped is told = tt
 
-  pub is_own_line : (fault : Fault) (name : List ℕ) → IsStopped command old new left store_failed source_failed (Rose first second) taken mid fault → status ≡ status_of fault
+  pub is_own_line : (fault : Fault) (name : List ℕ) → IsStopped command old new left store_failed source_failed first second taken mid fault → status ≡ status_of fault
       → Tells (line_of fault name) second third mid final → IfSome (own_line status) (λ line. Tells line first third taken final)
   is_own_line fault name stopped is told =
       subst (λ n. IfSome (own_line n) (λ line. Tells line first third taken final)) (sym is) (own_told fault name stopped is told)
 
   -- the trace is refused
-  pub is_bad_trace : (fault : Fault) (name : List ℕ) → IsStopped command old new left store_failed source_failed (Rose first second) taken mid fault → status ≡ status_of fault
+  pub is_bad_trace : (fault : Fault) (name : List ℕ) → IsStopped command old new left store_failed source_failed first second taken mid fault → status ≡ status_of fault
       → Tells (line_of fault name) second third mid final
       → status ≡ bad_trace → IsBadTrace words old left (λ line. Tells line first third taken final)
   is_bad_trace (BadLine line) name stopped is told ten = elim stopped.cause [

@@ -182,21 +182,21 @@ pub record IsUntouched (old new : Contents) (taken taken' : Option (List ℕ)) :
   pub sink : taken' ≡ taken
 
 -- why a result was not put and printed in full
-abbrev pub DeliveryFails : List ℕ → Option (List ℕ) → List ℕ → Contents → Contents → Type 0 → Type 0
+abbrev pub DeliveryFails : List ℕ → Option (List ℕ) → List ℕ → Contents → Contents → Type 0 → ℕ → ℕ
     → Option (List ℕ) → Option (List ℕ) → Fault → Type 0
-DeliveryFails name image text old new put_failed print_failed taken taken' Memory =
+DeliveryFails name image text old new put_failed faults between taken taken' Memory =
     IsUntouched old new taken taken'
-DeliveryFails name image text old new put_failed print_failed taken taken' WriteFault =
-    IsCutOff name image text old new put_failed print_failed taken taken'
-DeliveryFails name image text old new put_failed print_failed taken taken' Usage = ⊥
-DeliveryFails name image text old new put_failed print_failed taken taken' ReadFault = ⊥
-DeliveryFails name image text old new put_failed print_failed taken taken' Absent = ⊥
-DeliveryFails name image text old new put_failed print_failed taken taken' (Malformed cause) = ⊥
-DeliveryFails name image text old new put_failed print_failed taken taken' (Outside at value) = ⊥
-DeliveryFails name image text old new put_failed print_failed taken taken' (BadShard shard at) = ⊥
-DeliveryFails name image text old new put_failed print_failed taken taken' (BadLine line) = ⊥
-DeliveryFails name image text old new put_failed print_failed taken taken' (BadStep line) = ⊥
-DeliveryFails name image text old new put_failed print_failed taken taken' TooLong = ⊥
+DeliveryFails name image text old new put_failed faults between taken taken' WriteFault =
+    IsCutOff name image text old new put_failed faults between taken taken'
+DeliveryFails name image text old new put_failed faults between taken taken' Usage = ⊥
+DeliveryFails name image text old new put_failed faults between taken taken' ReadFault = ⊥
+DeliveryFails name image text old new put_failed faults between taken taken' Absent = ⊥
+DeliveryFails name image text old new put_failed faults between taken taken' (Malformed cause) = ⊥
+DeliveryFails name image text old new put_failed faults between taken taken' (Outside at value) = ⊥
+DeliveryFails name image text old new put_failed faults between taken taken' (BadShard shard at) = ⊥
+DeliveryFails name image text old new put_failed faults between taken taken' (BadLine line) = ⊥
+DeliveryFails name image text old new put_failed faults between taken taken' (BadStep line) = ⊥
+DeliveryFails name image text old new put_failed faults between taken taken' TooLong = ⊥
 
 -- a command's result was made, put and printed in full
 pub record IsCarriedOut (command : Command) (old new : Contents) (left taken taken' : Option (List ℕ))
@@ -207,11 +207,11 @@ pub record IsCarriedOut (command : Command) (old new : Contents) (left taken tak
   pub delivered : IsDelivered (image_name command) image text old new taken taken'
 
 -- nothing was made for a command, or not all of it was put and printed
-pub record IsStopped (command : Command) (old new : Contents) (left : Option (List ℕ)) (store_failed source_failed sink_failed : Type 0)
-    (taken taken' : Option (List ℕ)) (fault : Fault) : Type 0 where
+pub record IsStopped (command : Command) (old new : Contents) (left : Option (List ℕ)) (store_failed source_failed : Type 0)
+    (faults between : ℕ) (taken taken' : Option (List ℕ)) (fault : Fault) : Type 0 where
   pub cause : RefusesEither command old left store_failed source_failed fault × IsUntouched old new taken taken'
       ⊎ ((image : Option (List ℕ)) × (text : List ℕ) × Makes command old left image text
-      × DeliveryFails (image_name command) image text old new store_failed sink_failed taken taken' fault)
+      × DeliveryFails (image_name command) image text old new store_failed faults between taken taken' fault)
 
 -- a failed `get`, as a fault of the tool
 abbrev pub fault_of_get : GetFault → Fault

@@ -2,7 +2,7 @@
 use Rattle.std.specs.Prelude.{◌≡◌, ◌⊎◌, ℕ, List, ◌++◌, codes, decimal, Option}
 use Rattle.std.specs.Int.{w64, to_be_bytes}
 use Rattle.hex.specs.Hex.{encode_lower}
-use Rattle.tool_ports.specs.Causes.{Rose}
+use Rattle.tool_ports.specs.Causes.{RoseByOne}
 use Rattle.tool_ports.specs.Taken.{taken_with, TakesPart}
 use Rattle.heap_model.specs.declared.header.BadHeader.{BadHeader}
 use Rattle.heap_model.specs.declared.header.BadHeader.TheVariants.{Short, Magic, Version, Capacity, Length, State, Used, Kind}
@@ -60,7 +60,7 @@ bad_step_line line = codes "bad schedule line " ++ decimal line ++ line_feed
 abbrev pub too_long_line : List ℕ
 too_long_line = codes "bad trace too long" ++ line_feed
 
--- A sink took the line, and the count of its failures stood; or the count rose, and it took a first part of it.
+-- A sink took the line, and the count of its failures stood; or the count rose by one, and it took a first part of it.
 abbrev pub Tells : List ℕ → ℕ → ℕ → Option (List ℕ) → Option (List ℕ) → Type 0
 Tells line faults faults' taken taken' =
-    ((taken' ≡ taken_with taken line) × (faults' ≡ faults)) ⊎ (Rose faults faults' × TakesPart line taken taken')
+    ((taken' ≡ taken_with taken line) × (faults' ≡ faults)) ⊎ (RoseByOne faults faults' × TakesPart line taken taken')

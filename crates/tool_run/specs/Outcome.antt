@@ -2,7 +2,7 @@
 -- it holds after it; `left` is what the source had left before it; `taken` and `taken'` are what the sink had taken.
 use Rattle.std.specs.Prelude.{◌≡◌, ◌⊎◌, ℕ, ◌<◌, ◌≤◌, List, length, Option, Some, None}
 use Rattle.heap_model.specs.declared.header.BadHeader.{BadHeader}
-use Rattle.tool_ports.specs.Causes.{Rose}
+use Rattle.tool_ports.specs.Causes.{RoseByOne}
 use Rattle.tool_ports.specs.Contents.{Contents, Holds, HoldsOldOrNew, KeepsOthers, Lacks, told_of}
 use Rattle.tool_ports.specs.Taken.{taken_with, TakesPart}
 use Rattle.worker_run.specs.Said.{Line}
@@ -31,16 +31,17 @@ pub record IsDone (words : List (List ℕ)) (old new : Contents) (left taken tak
   pub stored : Puts (image_name command) image old new
   pub printed : taken' ≡ taken_with taken text
 
--- what is left of a result that wasn't put and printed in full
+-- What is left of a result that wasn't put and printed in full. `faults` and `between` are the sink's count of failures before and
+-- after that.
 pub data IsCutOff (name : List ℕ) (image : Option (List ℕ)) (text : List ℕ) (old new : Contents)
-    (store_failed sink_failed : Type 0) (taken taken' : Option (List ℕ)) : Type 0 where
+    (store_failed : Type 0) (faults between : ℕ) (taken taken' : Option (List ℕ)) : Type 0 where
   -- The store failed: the name has its old bytes or the new, and nothing is printed.
-  while_putting : (bytes : List ℕ) → image ≡ Some bytes → store_failed
+  while_putting : (bytes : List ℕ) → image ≡ Some bytes → store_failed → between ≡ faults
       → HoldsOldOrNew name bytes old new → KeepsOthers name old new → taken' ≡ taken
-      → IsCutOff name image text old new store_failed sink_failed taken taken'
-  -- The sink failed: the image is put, and a first part of the text is printed.
-  while_printing : sink_failed → Puts name image old new → TakesPart text taken taken'
-      → IsCutOff name image text old new store_failed sink_failed taken taken'
+      → IsCutOff name image text old new store_failed faults between taken taken'
+  -- The sink failed once: the image is put, and a first part of the text is printed.
+  while_printing : RoseByOne faults between → Puts name image old new → TakesPart text taken taken'
+      → IsCutOff name image text old new store_failed faults between taken taken'
 
 -- The words ask for a command, and its result was cut off. `faults` and `faults'` are the sink's count of
 -- failures before and after the call. The line was tried after that: `before` and `between` are what the
@@ -55,7 +56,7 @@ pub record IsWriteFault (words : List (List ℕ)) (old new : Contents) (left : O
   pub before : Option (List ℕ)
   pub between : ℕ
   pub later : faults ≤ between
-  pub cut_off : IsCutOff (image_name command) image text old new store_failed (Rose faults between) taken before
+  pub cut_off : IsCutOff (image_name command) image text old new store_failed faults between taken before
   pub told : Tells write_line between faults' before taken'
 
 -- the words ask for a command that gets the image of this name

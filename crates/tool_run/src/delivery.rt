@@ -24,7 +24,7 @@ pub fn deliver<I: ImageStore, O: Sink>(
     ensures err { IfErr result (DeliveryFails name.now product.now.image product.now.text
         (I.contents images.old) (I.contents images.new)
         (Rose (I.faults images.old) (I.faults images.new))
-        (Rose (O.faults out.old) (O.faults out.new)) (O.taken out.old) (O.taken out.new)) }
+        (O.faults out.old) (O.faults out.new) (O.taken out.old) (O.taken out.new)) }
     ensures put { ¬ (IsErrOf result Fault.Memory) →
         I.calls images.new ≡ with_putting product.now.image (I.calls images.old) }
     ensures not_put { IsErrOf result Fault.Memory → I.calls images.new ≡ I.calls images.old }

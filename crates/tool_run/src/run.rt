@@ -214,7 +214,7 @@ fn carry_out<R: Threads + Sync, I: ImageStore, T: Source, O: Sink, G: Gate + Syn
         (I.contents images.old) (I.contents images.new) (T.left trace.old)
         (Rose (I.faults images.old) (I.faults images.new))
         (Rose (T.faults trace.old) (T.faults trace.new))
-        (Rose (O.faults out.old) (O.faults out.new)) (O.taken out.old) (O.taken out.new)) }
+        (O.faults out.old) (O.faults out.new) (O.taken out.old) (O.taken out.new)) }
     ensures unread { IfErr result (λ fault. IsBeforeReading (command_of command.entry) fault
         → trace.new ≡ trace.old) }
     ensures image_first { (at : ℕ)

@@ -12,7 +12,7 @@ returns-in_err-put_image-clause-err g c =
 pub returns-in_err-write_all-clause-err : goal.returns-in_err-write_all-clause-err
 returns-in_err-write_all-clause-err g c =
     at_cause _ c.from_residual-in_err-write_all.result c.from_residual-in_err-write_all.ensures
-    (λ fault is. not_printed _ _ _ _ _ _ _ _ _ _ fault is (c.in_err-write_all.ensures.cause.rose refl) c.in_ok-put_image.ensures.ok c.as_slice.ensures c.in_err-write_all.ensures.err)
+    (λ fault is. not_printed _ _ _ _ _ _ _ _ _ _ _ fault is (c.in_err-write_all.ensures.cause.rose refl) c.in_ok-put_image.ensures.ok c.as_slice.ensures c.in_err-write_all.ensures.err)
 
 pub returns-in_err-put_image-clause-store_steady : goal.returns-in_err-put_image-clause-store_steady
 returns-in_err-put_image-clause-store_steady g c =

@@ -17,7 +17,7 @@ returns-in_err-product-clause-seeded_err g c =
 pub returns-clause-err : goal.returns-clause-err
 returns-clause-err g c =
     if_error _ _ c.deliver.result c.deliver.ensures.err
-    (λ fault why. stops_at_delivery _ _ _ _ _ _ _ _ _ _ _ _ _ _ _ fault c.in_ok-product.ensures.ok c.image.ensures c.make.ensures.unchanged c.make.ensures.later why)
+    (λ fault why. stops_at_delivery _ _ _ _ _ _ _ _ _ _ _ _ _ _ _ _ fault c.in_ok-product.ensures.ok c.image.ensures c.make.ensures.unchanged c.make.ensures.later why)
 
 pub returns-clause-calls : goal.returns-clause-calls
 returns-clause-calls g c =
@@ -25,7 +25,7 @@ returns-clause-calls g c =
 
 pub returns-clause-calls_err : goal.returns-clause-calls_err
 returns-clause-calls_err g c =
-    calls_undelivered _ _ _ _ _ _ _ _ c.in_ok-product.ensures.ok c.make.ensures.calls _ _ _ _ _ _ _ c.deliver.result c.deliver.ensures.err c.deliver.ensures.put c.deliver.ensures.not_put
+    calls_undelivered _ _ _ _ _ _ _ _ c.in_ok-product.ensures.ok c.make.ensures.calls _ _ _ _ _ _ _ _ c.deliver.result c.deliver.ensures.err c.deliver.ensures.put c.deliver.ensures.not_put
 
 pub returns-in_err-product-clause-steady : goal.returns-in_err-product-clause-steady
 returns-in_err-product-clause-steady g c =

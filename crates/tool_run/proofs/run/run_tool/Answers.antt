@@ -1,7 +1,7 @@
 use Rattle.tool_run.proofs.SeedLemmas.{by_its_seed, cut_off_by_its_seed, before_seeding}
 use Rattle.tool_run.proofs.StatusLemmas.{has_status, is_read_fault, is_write_fault, is_bad_header, is_outside, is_bad_shard, is_absent, is_bad_trace, is_own_line, for_source, before_reading}
 use Rattle.std.proofs.Common.{arith, rules}
-use Rattle.tool_run.proofs.CallLemmas.{rose_since}
+use Rattle.tool_run.proofs.CallLemmas.{rose_by_then}
 use Rattle.tool_run.proofs.ReadingLemmas.{none_taken, not_err, not_told}
 use Rattle.tool_run.proofs.PutBackLemmas.{put_once, looked_once, got_alone}
 use Rattle.tool_run.proofs.AbsentLemmas.{stops_absent, not_done_absent}
@@ -56,7 +56,7 @@ returns-in-Err-clause-outside g c =
 
 pub returns-in-Err-clause-always_outside : goal.returns-in-Err-clause-always_outside
 returns-in-Err-clause-always_outside g c =
-    stops_outside _ _ _ _ _ _ _ _ _ _ _ c.in-Err.fault c.in-Ok.ensures.ok c.in-Err.ensures.err c.tell-in-Err.ensures.status
+    stops_outside _ _ _ _ _ _ _ _ _ _ _ _ c.in-Err.fault c.in-Ok.ensures.ok c.in-Err.ensures.err c.tell-in-Err.ensures.status
 
 pub returns-in-Ok-carry_out-clause-always_outside : goal.returns-in-Ok-carry_out-clause-always_outside
 returns-in-Ok-carry_out-clause-always_outside g c = not_done _ _ _ _ _ _ _ _ c.in-Ok.ensures.ok c.in-Ok-carry_out.ensures.ok
@@ -69,7 +69,7 @@ returns-in-Err-Memory-clause-known g c = has_status Memory _ c.tell-in-Err-Memor
 
 pub returns-in-Err-clause-always_cause : goal.returns-in-Err-clause-always_cause
 returns-in-Err-clause-always_cause g c =
-    stops_malformed _ _ _ _ _ _ _ _ _ _ _ c.in-Err.fault c.in-Ok.ensures.ok c.in-Err.ensures.err c.tell-in-Err.ensures.status
+    stops_malformed _ _ _ _ _ _ _ _ _ _ _ _ c.in-Err.fault c.in-Ok.ensures.ok c.in-Err.ensures.err c.tell-in-Err.ensures.status
 
 pub returns-in-Err-clause-bad_shard : goal.returns-in-Err-clause-bad_shard
 returns-in-Err-clause-bad_shard g c =
@@ -79,7 +79,7 @@ returns-in-Err-clause-bad_shard g c =
 
 pub returns-in-Err-clause-always_outside_left : goal.returns-in-Err-clause-always_outside_left
 returns-in-Err-clause-always_outside_left g c =
-    stops_outside_left _ _ _ _ _ _ _ _ c.in-Ok.ensures.ok _ _ _ c.in-Err.fault c.in-Err.ensures.err c.tell-in-Err.ensures.status
+    stops_outside_left _ _ _ _ _ _ _ _ c.in-Ok.ensures.ok _ _ _ _ c.in-Err.fault c.in-Err.ensures.err c.tell-in-Err.ensures.status
 
 pub returns-in-Ok-carry_out-clause-always_outside_left : goal.returns-in-Ok-carry_out-clause-always_outside_left
 returns-in-Ok-carry_out-clause-always_outside_left g c = done_outside_left _ _ _ _ _ _ _ _ c.in-Ok.ensures.ok c.in-Ok-carry_out.ensures.ok
@@ -89,15 +89,15 @@ returns-in-Err-Usage-clause-always_outside_left g c name at asks = absurd (c.par
 
 pub returns-in-Err-clause-always_bad_shard : goal.returns-in-Err-clause-always_bad_shard
 returns-in-Err-clause-always_bad_shard g c =
-    stops_bad _ _ _ _ _ _ _ _ _ _ _ c.in-Err.fault c.in-Ok.ensures.ok c.in-Err.ensures.err c.tell-in-Err.ensures.status
+    stops_bad _ _ _ _ _ _ _ _ _ _ _ _ c.in-Err.fault c.in-Ok.ensures.ok c.in-Err.ensures.err c.tell-in-Err.ensures.status
 
 pub returns-in-Ok-carry_out-clause-always_bad_shard : goal.returns-in-Ok-carry_out-clause-always_bad_shard
 returns-in-Ok-carry_out-clause-always_bad_shard g c = not_done_bad _ _ _ _ _ _ _ _ c.in-Ok.ensures.ok c.in-Ok-carry_out.ensures.ok
 
 pub returns-in-Err-clause-complete : goal.returns-in-Err-clause-complete
 returns-in-Err-clause-complete g c other asks can store source sink =
-    stops_complete _ _ _ _ _ _ _ _ _ _ _ c.in-Err.fault c.in-Ok.ensures.ok c.in-Err.ensures.err c.tell-in-Err.ensures.status other asks can store source
-    (λ rose. sink (rose_since (g.O.Sink.faults c.args.out.now) (g.O.Sink.faults c.args.out.now) (g.O.Sink.faults c.carry_out.new.out) (g.O.Sink.faults c.tell-in-Err.new.out) (omega arith) c.tell-in-Err.ensures.later rose))
+    stops_complete _ _ _ _ _ _ _ _ _ _ _ _ c.in-Err.fault c.in-Ok.ensures.ok c.in-Err.ensures.err c.tell-in-Err.ensures.status other asks can store source
+    (λ once. sink (rose_by_then (g.O.Sink.faults c.args.out.now) (g.O.Sink.faults c.carry_out.new.out) (g.O.Sink.faults c.tell-in-Err.new.out) once c.tell-in-Err.ensures.later))
 
 pub returns-in-Err-clause-absent : goal.returns-in-Err-clause-absent
 returns-in-Err-clause-absent g c =
@@ -113,11 +113,11 @@ returns-in-Err-clause-bad_trace g c =
 
 pub returns-in-Err-clause-always_bad_line : goal.returns-in-Err-clause-always_bad_line
 returns-in-Err-clause-always_bad_line g c =
-    stops_bad_line _ _ _ _ _ _ _ _ c.in-Ok.ensures.ok _ _ _ c.in-Err.fault c.in-Err.ensures.err c.tell-in-Err.ensures.status
+    stops_bad_line _ _ _ _ _ _ _ _ c.in-Ok.ensures.ok _ _ _ _ c.in-Err.fault c.in-Err.ensures.err c.tell-in-Err.ensures.status
 
 pub returns-in-Err-clause-always_too_long : goal.returns-in-Err-clause-always_too_long
 returns-in-Err-clause-always_too_long g c =
-    stops_too_long _ _ _ _ _ _ _ _ c.in-Ok.ensures.ok _ _ _ c.in-Err.fault c.in-Err.ensures.err c.tell-in-Err.ensures.status
+    stops_too_long _ _ _ _ _ _ _ _ c.in-Ok.ensures.ok _ _ _ _ c.in-Err.fault c.in-Err.ensures.err c.tell-in-Err.ensures.status
 
 pub returns-in-Ok-carry_out-clause-always_bad_line : goal.returns-in-Ok-carry_out-clause-always_bad_line
 returns-in-Ok-carry_out-clause-always_bad_line g c = done_bad_line _ _ _ _ _ _ _ _ c.in-Ok.ensures.ok c.in-Ok-carry_out.ensures.ok
@@ -127,7 +127,7 @@ returns-in-Ok-carry_out-clause-always_too_long g c = done_too_long _ _ _ _ _ _ _
 
 pub returns-in-Err-clause-always_absent : goal.returns-in-Err-clause-always_absent
 returns-in-Err-clause-always_absent g c =
-    stops_absent _ _ _ _ _ _ _ _ _ _ _ c.in-Err.fault c.in-Ok.ensures.ok c.in-Err.ensures.err c.tell-in-Err.ensures.status
+    stops_absent _ _ _ _ _ _ _ _ _ _ _ _ c.in-Err.fault c.in-Ok.ensures.ok c.in-Err.ensures.err c.tell-in-Err.ensures.status
 
 pub returns-in-Ok-carry_out-clause-always_absent : goal.returns-in-Ok-carry_out-clause-always_absent
 returns-in-Ok-carry_out-clause-always_absent g c = not_done_absent _ _ _ _ _ _ _ _ c.in-Ok.ensures.ok c.in-Ok-carry_out.ensures.ok
@@ -159,11 +159,11 @@ returns-in-Err-clause-get_and_put g c =
 
 pub returns-in-Err-clause-always_bad_step : goal.returns-in-Err-clause-always_bad_step
 returns-in-Err-clause-always_bad_step g c =
-    stops_bad_step _ _ _ _ _ _ _ _ c.in-Ok.ensures.ok _ _ _ c.in-Err.fault c.in-Err.ensures.err c.tell-in-Err.ensures.status
+    stops_bad_step _ _ _ _ _ _ _ _ c.in-Ok.ensures.ok _ _ _ _ c.in-Err.fault c.in-Err.ensures.err c.tell-in-Err.ensures.status
 
 pub returns-in-Err-clause-always_schedule_too_long : goal.returns-in-Err-clause-always_schedule_too_long
 returns-in-Err-clause-always_schedule_too_long g c =
-    stops_schedule_too_long _ _ _ _ _ _ _ _ c.in-Ok.ensures.ok _ _ _ c.in-Err.fault c.in-Err.ensures.err c.tell-in-Err.ensures.status
+    stops_schedule_too_long _ _ _ _ _ _ _ _ c.in-Ok.ensures.ok _ _ _ _ c.in-Err.fault c.in-Err.ensures.err c.tell-in-Err.ensures.status
 
 pub returns-in-Ok-carry_out-clause-always_bad_step : goal.returns-in-Ok-carry_out-clause-always_bad_step
 returns-in-Ok-carry_out-clause-always_bad_step g c = done_bad_step _ _ _ _ _ _ _ _ c.in-Ok.ensures.ok c.in-Ok-carry_out.ensures.ok
