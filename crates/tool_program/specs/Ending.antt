@@ -1,6 +1,6 @@
 -- What the program's status says of the words, and of what its store, source and sink tell.
 use Rattle.std.specs.Prelude.{◌≡◌, ◌≢◌, ◌⊎◌, ℕ, ◌+◌, List, Option, IfSome, Contains}
-use Rattle.tool_ports.specs.Causes.{Rose}
+use Rattle.tool_ports.specs.Causes.{Rose, RoseByOne}
 use Rattle.tool_ports.specs.Contents.{Contents}
 use Rattle.tool_ports.specs.Left.{GivesAtMost}
 use Rattle.tool_command.specs.Command.{Command, Asks, IsUsage}
@@ -22,12 +22,12 @@ pub record Seen : Type 0 where
 abbrev pub IsTold : Seen → Seen → List ℕ → Type 0
 IsTold old new line = Tells line old.sink_faults new.sink_faults old.taken new.taken
 
--- a call of the store, or of the source, failed
+-- one call of the store, or of the source, failed
 abbrev pub StoreFailed : Seen → Seen → Type 0
-StoreFailed old new = Rose old.store_faults new.store_faults
+StoreFailed old new = RoseByOne old.store_faults new.store_faults
 
 abbrev pub SourceFailed : Seen → Seen → Type 0
-SourceFailed old new = Rose old.source_faults new.source_faults
+SourceFailed old new = RoseByOne old.source_faults new.source_faults
 
 -- The tool was run on the words, and this is its status: what each status says, how the source was
 -- read, and that nothing but want of memory or a failure keeps it from a result that can be had.

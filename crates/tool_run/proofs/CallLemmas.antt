@@ -1,6 +1,6 @@
 -- From the contracts of the two steps of a command to the command, and to the status of the call.
 use Rattle.std.proofs.Common.{◌≡◌, ℕ, ◌≤◌, List, Option, Some, Result, Ok, Err, OnOk, IfErr, IsErrOf, inl, inr, refl, sym, ap, ◌∙◌, subst, arith}
-use Rattle.tool_ports.specs.Causes.{Rose, RoseByOne}
+use Rattle.tool_ports.specs.Causes.{one_more, Rose, RoseByOne}
 use Rattle.tool_ports.specs.Contents.{Contents}
 use Rattle.tool_ports.specs.Calls.{with_get, with_put}
 use Rattle.tool_ports.specs.declared.store_calls.StoreCalls.{StoreCalls}
@@ -17,10 +17,6 @@ use Rattle.tool_run.proofs.FilterLemmas.{follows_gets, follows_checks}
 -- a count that was one more at a moment has risen since
 pub rose_by_then : (before then later : ℕ) → RoseByOne before then → then ≤ later → Rose before later
 rose_by_then before then later once high = subst (λ n. n ≤ later) once high
-
--- a count that rose after an earlier moment rose since then, and before a later one too
-rose_since : (before mid now later : ℕ) → before ≤ mid → now ≤ later → Rose mid now → Rose before later
-rose_since before mid now later low high rose = omega arith
 
 -- a result that was cut off, with wider words on the cause
 wider_cut : (name : List ℕ) (image : Option (List ℕ)) (text : List ℕ) (old new : Contents) (A A' : Type 0) (faults between : ℕ) (taken taken' : Option (List ℕ)) → (A → A')
@@ -44,21 +40,21 @@ wider_failure name text old new A A' faults between taken taken' image to (BadSt
 wider_failure name text old new A A' faults between taken taken' image to TooLong h = h
 
 pub stops_at_delivery : (command : Command) (name text : List ℕ) (image : Option (List ℕ)) (old mid new : Contents) (left : Option (List ℕ)) (first second third : ℕ) (read_failed : Type 0) (faults between : ℕ) (taken taken' : Option (List ℕ)) (fault : Fault)
-    → Makes command old left image text → name ≡ image_name command → mid ≡ old → first ≤ second
-    → DeliveryFails name image text mid new (Rose second third) faults between taken taken' fault
-    → IsStopped command old new left (Rose first third) read_failed faults between taken taken' fault
-stops_at_delivery command name text image old mid new left first second third read_failed faults between taken taken' fault made named same low why =
-    let here : DeliveryFails (image_name command) image text mid new (Rose second third) faults between taken taken' fault =
-    subst (λ (n : List ℕ). DeliveryFails n image text mid new (Rose second third) faults between taken taken' fault) named why in
-    let there : DeliveryFails (image_name command) image text old new (Rose second third) faults between taken taken' fault =
-    subst (λ (m : Contents). DeliveryFails (image_name command) image text m new (Rose second third) faults between taken taken' fault) same here in
+    → Makes command old left image text → name ≡ image_name command → mid ≡ old → second ≡ first
+    → DeliveryFails name image text mid new (RoseByOne second third) faults between taken taken' fault
+    → IsStopped command old new left (RoseByOne first third) read_failed faults between taken taken' fault
+stops_at_delivery command name text image old mid new left first second third read_failed faults between taken taken' fault made named same stood why =
+    let here : DeliveryFails (image_name command) image text mid new (RoseByOne second third) faults between taken taken' fault =
+    subst (λ (n : List ℕ). DeliveryFails n image text mid new (RoseByOne second third) faults between taken taken' fault) named why in
+    let there : DeliveryFails (image_name command) image text old new (RoseByOne second third) faults between taken taken' fault =
+    subst (λ (m : Contents). DeliveryFails (image_name command) image text m new (RoseByOne second third) faults between taken taken' fault) same here in
     record {
       cause = inr (
         image,
         text,
         made,
-        wider_failure (image_name command) text old new (Rose second third) (Rose first third) faults between taken taken' image
-            (rose_since first second third third low (omega arith)) fault there,
+        wider_failure (image_name command) text old new (RoseByOne second third) (RoseByOne first third) faults between taken taken' image
+            (λ once. once ∙ ap one_more stood) fault there,
       );
     }
 

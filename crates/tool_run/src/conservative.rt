@@ -5,7 +5,7 @@ ghost use Rattle.heap_model.specs.Header.{HasGoodHeader};
 ghost use Rattle.heap_recover.specs.declared.fault.RecoverFault.TheVariants.{Memory};
 ghost use Rattle.image_conservative.specs.Telling.{TellsByWords};
 ghost use Rattle.tool_ports.specs.Calls.{with_get};
-ghost use Rattle.tool_ports.specs.Causes.{Rose};
+ghost use Rattle.tool_ports.specs.Causes.{RoseByOne};
 ghost use Rattle.tool_run.specs.Calls.{get_limit};
 ghost use Rattle.tool_command.specs.Command.{conservative_image};
 ghost use Rattle.tool_run.specs.Inside.{Refuses};
@@ -31,7 +31,7 @@ pub fn tell_by_words<I: ImageStore>(
     ensures ok { IfOk result (λ product. (product.image ≡ None)
         × ShowsByWords (I.contents images.old) name.now with_map product.text) }
     ensures err { IfErr result (λ fault. Refuses (conservative_image name.now with_map)
-        (I.contents images.old) (Rose (I.faults images.old) (I.faults images.new)) fault) }
+        (I.contents images.old) (RoseByOne (I.faults images.old) (I.faults images.new)) fault) }
     ensures unchanged { I.contents images.new ≡ I.contents images.old }
     ensures later { I.faults images.old ≤ I.faults images.new }
     ensures store_steady { ¬ (IsErrOf result Fault.ReadFault)

@@ -7,7 +7,7 @@ ghost use Rattle.dict_model.specs.Links.{kind_count};
 ghost use Rattle.image_count.specs.Telling.{TellsOpened};
 ghost use Rattle.region_header.specs.Migration.{current_words};
 ghost use Rattle.tool_ports.specs.Calls.{with_get};
-ghost use Rattle.tool_ports.specs.Causes.{Rose};
+ghost use Rattle.tool_ports.specs.Causes.{RoseByOne};
 ghost use Rattle.tool_run.specs.Calls.{get_limit};
 ghost use Rattle.tool_command.specs.Command.{count_image};
 ghost use Rattle.tool_run.specs.Inside.{Refuses};
@@ -37,7 +37,7 @@ pub fn count_named<I: ImageStore>(
     ensures ok { IfOk result (λ product. (product.image ≡ None)
         × Counts (I.contents images.old) name.now with_map product.text) }
     ensures err { IfErr result (λ fault. Refuses (count_image name.now with_map)
-        (I.contents images.old) (Rose (I.faults images.old) (I.faults images.new)) fault) }
+        (I.contents images.old) (RoseByOne (I.faults images.old) (I.faults images.new)) fault) }
     ensures unchanged { I.contents images.new ≡ I.contents images.old }
     ensures later { I.faults images.old ≤ I.faults images.new }
     ensures store_steady { ¬ (IsErrOf result Fault.ReadFault)

@@ -1,6 +1,6 @@
 //! Puts and prints what a command has made.
 ghost use Rattle.std.specs.Prelude.{◌≡◌, ◌≤◌, Option, List, ℕ, OnOk, IfErr, IsErrOf};
-ghost use Rattle.tool_ports.specs.Causes.{Rose};
+ghost use Rattle.tool_ports.specs.Causes.{RoseByOne};
 ghost use Rattle.tool_run.specs.Calls.{with_putting};
 ghost use Rattle.tool_run.specs.Inside.{IsDelivered, DeliveryFails, PutFails};
 ghost use Rattle.tool_run.specs.Outcome.{Puts};
@@ -23,7 +23,7 @@ pub fn deliver<I: ImageStore, O: Sink>(
         (I.contents images.old) (I.contents images.new) (O.taken out.old) (O.taken out.new)) }
     ensures err { IfErr result (DeliveryFails name.now product.now.image product.now.text
         (I.contents images.old) (I.contents images.new)
-        (Rose (I.faults images.old) (I.faults images.new))
+        (RoseByOne (I.faults images.old) (I.faults images.new))
         (O.faults out.old) (O.faults out.new) (O.taken out.old) (O.taken out.new)) }
     ensures put { ¬ (IsErrOf result Fault.Memory) →
         I.calls images.new ≡ with_putting product.now.image (I.calls images.old) }
@@ -51,7 +51,7 @@ fn put_image<I: ImageStore>(
         (Puts name.now image.now (I.contents images.old) (I.contents images.new)) }
     ensures err { IfErr result (PutFails name.now image.now
         (I.contents images.old) (I.contents images.new)
-        (Rose (I.faults images.old) (I.faults images.new))) }
+        (RoseByOne (I.faults images.old) (I.faults images.new))) }
     ensures put { ¬ (IsErrOf result Fault.Memory) →
         I.calls images.new ≡ with_putting image.now (I.calls images.old) }
     ensures not_put { IsErrOf result Fault.Memory → I.calls images.new ≡ I.calls images.old }

@@ -1,7 +1,7 @@
 //! What draining a class of an image gives, once the image is recovered.
 ghost use Rattle.std.specs.Prelude.{◌≡◌, ◌≤◌, ℕ, IfOk, IfErr, IsErrOf};
 ghost use Rattle.tool_ports.specs.Calls.{with_get};
-ghost use Rattle.tool_ports.specs.Causes.{Rose};
+ghost use Rattle.tool_ports.specs.Causes.{RoseByOne};
 ghost use Rattle.tool_ports.specs.Chances.{ComesFromSeed};
 ghost use Rattle.tool_run.specs.Calls.{get_limit};
 ghost use Rattle.tool_command.specs.Command.{drain_image};
@@ -32,7 +32,7 @@ pub fn drain_image<I: ImageStore, C: Chances>(
     ensures ok { IfOk result (λ product. (product.image ≡ None)
         × TellsDrained (I.contents images.old) name.now class.number product.text) }
     ensures err { IfErr result (λ fault. Refuses (drain_image name.now class.number)
-        (I.contents images.old) (Rose (I.faults images.old) (I.faults images.new)) fault) }
+        (I.contents images.old) (RoseByOne (I.faults images.old) (I.faults images.new)) fault) }
     ensures unchanged { I.contents images.new ≡ I.contents images.old }
     ensures later { I.faults images.old ≤ I.faults images.new }
     ensures store_steady { ¬ (IsErrOf result Fault.ReadFault)

@@ -1,7 +1,7 @@
 //! What each command makes, all of it before anything is put or printed.
 ghost use Rattle.std.specs.Prelude.{◌≡◌, ◌≤◌, ◌+◌, ℕ, IfOk, IfErr, OnOk, IsErrOf};
 ghost use Rattle.tool_ports.specs.Calls.{with_get};
-ghost use Rattle.tool_ports.specs.Causes.{Rose};
+ghost use Rattle.tool_ports.specs.Causes.{RoseByOne};
 ghost use Rattle.tool_run.specs.Calls.{get_limit, with_making};
 ghost use Rattle.tool_command.specs.Invocations.{command_of};
 ghost use Rattle.tool_run.specs.Inside.{Refuses, RefusesEither, IsBeforeReading, IsBeforeSeeding};
@@ -43,8 +43,8 @@ pub fn make<R: Threads + Sync, I: ImageStore, T: Source, G: Gate + Sync, C: Chan
         (T.left trace.old) product.image product.text) }
     ensures err { IfErr result (RefusesEither (command_of command.entry)
         (I.contents images.old) (T.left trace.old)
-        (Rose (I.faults images.old) (I.faults images.new))
-        (Rose (T.faults trace.old) (T.faults trace.new))) }
+        (RoseByOne (I.faults images.old) (I.faults images.new))
+        (RoseByOne (T.faults trace.old) (T.faults trace.new))) }
     ensures unread { IfErr result (λ fault. IsBeforeReading (command_of command.entry) fault
         → trace.new ≡ trace.old) }
     ensures image_first { (at : ℕ)
@@ -126,7 +126,7 @@ fn report<R: Threads + Sync, I: ImageStore>(
     ensures ok { IfOk result (λ product. (product.image ≡ None)
         × Shows (I.contents images.old) name.now with_map product.text) }
     ensures err { IfErr result (λ fault. Refuses (show_image name.now with_map in_parallel)
-        (I.contents images.old) (Rose (I.faults images.old) (I.faults images.new)) fault) }
+        (I.contents images.old) (RoseByOne (I.faults images.old) (I.faults images.new)) fault) }
     ensures unchanged { I.contents images.new ≡ I.contents images.old }
     ensures later { I.faults images.old ≤ I.faults images.new }
     ensures store_steady { ¬ (IsErrOf result Fault.ReadFault)

@@ -1,7 +1,7 @@
 //! Recovers a named image in place, as far as a budget goes.
 ghost use Rattle.std.specs.Prelude.{◌≡◌, ◌≤◌, ℕ, IfOk, IfErr, IsErrOf};
 ghost use Rattle.tool_ports.specs.Calls.{with_get};
-ghost use Rattle.tool_ports.specs.Causes.{Rose};
+ghost use Rattle.tool_ports.specs.Causes.{RoseByOne};
 ghost use Rattle.tool_ports.specs.Chances.{ComesFromSeed};
 ghost use Rattle.tool_run.specs.Calls.{get_limit};
 ghost use Rattle.tool_command.specs.Command.{Command, rebuild_image, image_name};
@@ -28,7 +28,7 @@ pub fn rebuild_named<I: ImageStore, C: Chances>(
         product.image product.text) }
     ensures err { IfErr result (λ fault. (command : Command) → FollowsLinks command
         → image_name command ≡ name.now → Refuses command (I.contents images.old)
-        (Rose (I.faults images.old) (I.faults images.new)) fault) }
+        (RoseByOne (I.faults images.old) (I.faults images.new)) fault) }
     ensures unchanged { I.contents images.new ≡ I.contents images.old }
     ensures later { I.faults images.old ≤ I.faults images.new }
     ensures store_steady { ¬ (IsErrOf result Fault.ReadFault)

@@ -6,7 +6,7 @@ ghost use Rattle.region_header.specs.Migration.{current_words};
 ghost use Rattle.region_header.specs.Words.{AreWordsOf};
 ghost use Rattle.dict_model.specs.Links.{kind_count};
 ghost use Rattle.tool_ports.specs.Calls.{with_get};
-ghost use Rattle.tool_ports.specs.Causes.{Rose};
+ghost use Rattle.tool_ports.specs.Causes.{RoseByOne};
 ghost use Rattle.tool_run.specs.Calls.{get_limit};
 ghost use Rattle.tool_command.specs.Command.{Command, image_name};
 ghost use Rattle.tool_run.specs.Inside.{Refuses};
@@ -33,7 +33,7 @@ pub fn recover_image<I: ImageStore>(
     ensures ok { IfOk result (IsRecoveredHeapOf (I.contents images.old) name.now) }
     ensures err { IfErr result (λ fault. (command : Command) → FollowsLinks command
         → image_name command ≡ name.now → Refuses command (I.contents images.old)
-        (Rose (I.faults images.old) (I.faults images.new)) fault) }
+        (RoseByOne (I.faults images.old) (I.faults images.new)) fault) }
     ensures unchanged { I.contents images.new ≡ I.contents images.old }
     ensures later { I.faults images.old ≤ I.faults images.new }
     ensures store_steady { ¬ (IsErrOf result Fault.ReadFault)
@@ -56,7 +56,7 @@ pub fn recover_shown<R: Threads + Sync, I: ImageStore>(
     ensures ok { IfOk result (IsRecoveredHeapOf (I.contents images.old) name.now) }
     ensures err { IfErr result (λ fault. (command : Command) → FollowsLinks command
         → image_name command ≡ name.now → Refuses command (I.contents images.old)
-        (Rose (I.faults images.old) (I.faults images.new)) fault) }
+        (RoseByOne (I.faults images.old) (I.faults images.new)) fault) }
     ensures unchanged { I.contents images.new ≡ I.contents images.old }
     ensures later { I.faults images.old ≤ I.faults images.new }
     ensures store_steady { ¬ (IsErrOf result Fault.ReadFault)
@@ -81,7 +81,7 @@ pub fn recover_words<I: ImageStore>(
         IsRecoveredFrom (I.contents images.old) name.now both.0.items both.1) }
     ensures err { IfErr result (λ fault. (command : Command) → FollowsLinks command
         → image_name command ≡ name.now → Refuses command (I.contents images.old)
-        (Rose (I.faults images.old) (I.faults images.new)) fault) }
+        (RoseByOne (I.faults images.old) (I.faults images.new)) fault) }
     ensures unchanged { I.contents images.new ≡ I.contents images.old }
     ensures later { I.faults images.old ≤ I.faults images.new }
     ensures store_steady { ¬ (IsErrOf result Fault.ReadFault)
@@ -108,7 +108,7 @@ pub fn good_image<I: ImageStore>(
     ensures err { IfErr result (λ fault. (command : Command) → GetsImage command
         → kinds_checked command ≡ kinds → image_name command ≡ name.now
         → Refuses command (I.contents images.old)
-        (Rose (I.faults images.old) (I.faults images.new)) fault) }
+        (RoseByOne (I.faults images.old) (I.faults images.new)) fault) }
     ensures unchanged { I.contents images.new ≡ I.contents images.old }
     ensures later { I.faults images.old ≤ I.faults images.new }
     ensures store_steady { ¬ (IsErrOf result Fault.ReadFault)

@@ -1,7 +1,7 @@
 //! Replays the schedule that the source has left over a named image.
 ghost use Rattle.std.specs.Prelude.{◌≡◌, ◌≤◌, ◌+◌, ℕ, List, IfOk, IfErr, OnOk, IsErrOf};
 ghost use Rattle.tool_ports.specs.Calls.{with_get};
-ghost use Rattle.tool_ports.specs.Causes.{Rose};
+ghost use Rattle.tool_ports.specs.Causes.{RoseByOne};
 ghost use Rattle.tool_ports.specs.Chances.{ComesFromSeed};
 ghost use Rattle.tool_ports.specs.Contents.{Contents};
 ghost use Rattle.tool_ports.specs.Left.{IsAtEnd, GivesAtMost};
@@ -38,8 +38,8 @@ pub fn replay_named<I: ImageStore, T: Source, C: Chances>(
         → T.faults source.new ≡ T.faults source.old }
     ensures err { IfErr result (RefusesEither (replay_image name.now seed)
         (I.contents images.old) (T.left source.old)
-        (Rose (I.faults images.old) (I.faults images.new))
-        (Rose (T.faults source.old) (T.faults source.new))) }
+        (RoseByOne (I.faults images.old) (I.faults images.new))
+        (RoseByOne (T.faults source.old) (T.faults source.new))) }
     ensures unread { IfErr result (λ fault. IsBeforeReading (replay_image name.now seed) fault
         → source.new ≡ source.old) }
     ensures image_first { (at : ℕ) → HoldsOutside (I.contents images.old) name.now at
@@ -70,7 +70,7 @@ fn read_schedule<T: Source>(alloc: Global, source: &mut T) -> Result<Schedule, F
         → T.faults source.new ≡ T.faults source.old }
     ensures err { IfErr result (λ fault. (contents : Contents) (name : List ℕ)
         → IsReplayFault contents (T.left source.old) name
-        (Rose (T.faults source.old) (T.faults source.new)) fault) }
+        (RoseByOne (T.faults source.old) (T.faults source.new)) fault) }
 {
     let text = read_all(alloc, source, LONGEST_TRACE)?;
     match parse_schedule(alloc, &text) {

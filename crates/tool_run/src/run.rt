@@ -1,7 +1,7 @@
 //! The top call.
 ghost use Rattle.std.specs.Prelude.{◌≡◌, ◌≢◌, ◌⊎◌, ◌≤◌, ◌+◌, Option, List, ℕ, OnOk, IfErr, IsErrOf, IfSome, Contains};
 ghost use Rattle.tool_ports.specs.Calls.{with_get, with_put};
-ghost use Rattle.tool_ports.specs.Causes.{Rose};
+ghost use Rattle.tool_ports.specs.Causes.{Rose, RoseByOne};
 ghost use Rattle.tool_ports.specs.Contents.{told_of};
 ghost use Rattle.tool_ports.specs.Left.{IsAtEnd, GivesAtMost};
 ghost use Rattle.tool_run.specs.Calls.{get_limit, with_command, with_status};
@@ -56,11 +56,11 @@ pub fn run_tool<R: Threads + Sync, I: ImageStore, T: Source, O: Sink, G: Gate + 
         (O.taken out.old) (O.taken out.new) }
     ensures usage { result ≡ usage → IsUsage (texts words.now) }
     ensures read_fault { result ≡ read_fault → IsReadFault (texts words.now) (I.contents images.old)
-        (Rose (I.faults images.old) (I.faults images.new))
-        (Rose (T.faults trace.old) (T.faults trace.new)) }
+        (RoseByOne (I.faults images.old) (I.faults images.new))
+        (RoseByOne (T.faults trace.old) (T.faults trace.new)) }
     ensures write_fault { result ≡ write_fault → IsWriteFault (texts words.now)
         (I.contents images.old) (I.contents images.new) (T.left trace.old)
-        (Rose (I.faults images.old) (I.faults images.new))
+        (RoseByOne (I.faults images.old) (I.faults images.new))
         (O.faults out.old) (O.faults out.new) (O.taken out.old) (O.taken out.new) }
     ensures absent { result ≡ no_image → IsAbsent (texts words.now) (I.contents images.old)
         (λ line. Tells line (O.faults out.old) (O.faults out.new)
@@ -172,8 +172,8 @@ pub fn run_tool<R: Threads + Sync, I: ImageStore, T: Source, O: Sink, G: Gate + 
         → (result ≡ bad_trace) ⊎ (result ≡ out_of_memory) ⊎ (result ≡ read_fault) }
     ensures complete { (command : Command) → Asks (texts words.now) command
         → CanBeDone command (I.contents images.old) (T.left trace.old)
-        → ¬ (Rose (I.faults images.old) (I.faults images.new))
-        → (ReadsSource command → ¬ (Rose (T.faults trace.old) (T.faults trace.new)))
+        → ¬ (RoseByOne (I.faults images.old) (I.faults images.new))
+        → (ReadsSource command → ¬ (RoseByOne (T.faults trace.old) (T.faults trace.new)))
         → ¬ (Rose (O.faults out.old) (O.faults out.new))
         → (result ≡ done) ⊎ (result ≡ out_of_memory) }
 {
@@ -212,8 +212,8 @@ fn carry_out<R: Threads + Sync, I: ImageStore, T: Source, O: Sink, G: Gate + Syn
         (I.contents images.new) (T.left trace.old) (O.taken out.old) (O.taken out.new)) }
     ensures err { IfErr result (IsStopped (command_of command.entry)
         (I.contents images.old) (I.contents images.new) (T.left trace.old)
-        (Rose (I.faults images.old) (I.faults images.new))
-        (Rose (T.faults trace.old) (T.faults trace.new))
+        (RoseByOne (I.faults images.old) (I.faults images.new))
+        (RoseByOne (T.faults trace.old) (T.faults trace.new))
         (O.faults out.old) (O.faults out.new) (O.taken out.old) (O.taken out.new)) }
     ensures unread { IfErr result (λ fault. IsBeforeReading (command_of command.entry) fault
         → trace.new ≡ trace.old) }

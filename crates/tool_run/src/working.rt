@@ -2,7 +2,7 @@
 ghost use Rattle.std.specs.Prelude.{◌≡◌, ◌≤◌, ◌+◌, ℕ, IfOk, IfErr, OnOk, IsErrOf};
 ghost use Rattle.image_run.specs.Running.{options_of};
 ghost use Rattle.tool_ports.specs.Calls.{with_get};
-ghost use Rattle.tool_ports.specs.Causes.{Rose};
+ghost use Rattle.tool_ports.specs.Causes.{RoseByOne};
 ghost use Rattle.tool_ports.specs.Chances.{ComesFromSeed};
 ghost use Rattle.tool_ports.specs.Left.{IsAtEnd, GivesAtMost};
 ghost use Rattle.tool_run.specs.Calls.{get_limit};
@@ -45,8 +45,8 @@ pub fn work_named<R: Threads + Sync, I: ImageStore, T: Source, G: Gate + Sync, C
         → T.faults trace.new ≡ T.faults trace.old }
     ensures err { IfErr result (RefusesEither (run_image name.now (options_of options))
         (I.contents images.old) (T.left trace.old)
-        (Rose (I.faults images.old) (I.faults images.new))
-        (Rose (T.faults trace.old) (T.faults trace.new))) }
+        (RoseByOne (I.faults images.old) (I.faults images.new))
+        (RoseByOne (T.faults trace.old) (T.faults trace.new))) }
     ensures unread { IfErr result (λ fault.
         IsBeforeReading (run_image name.now (options_of options))
         fault → trace.new ≡ trace.old) }
@@ -79,7 +79,7 @@ fn mapped_heap<I: ImageStore>(
         IsMapped (I.contents images.old) name.now mapped.words mapped.held) }
     ensures err { IfErr result (λ fault. (command : Command) → Reads command
         → image_name command ≡ name.now → Refuses command (I.contents images.old)
-        (Rose (I.faults images.old) (I.faults images.new)) fault) }
+        (RoseByOne (I.faults images.old) (I.faults images.new)) fault) }
     ensures unchanged { I.contents images.new ≡ I.contents images.old }
     ensures later { I.faults images.old ≤ I.faults images.new }
     ensures store_steady { ¬ (IsErrOf result Fault.ReadFault)
@@ -100,7 +100,7 @@ fn read_trace<T: Source>(alloc: Global, trace: &mut T) -> Result<Vec<Request>, F
     ensures steady { ¬ (IsErrOf result Fault.ReadFault)
         → T.faults trace.new ≡ T.faults trace.old }
     ensures err { IfErr result
-        (IsTraceFault (T.left trace.old) (Rose (T.faults trace.old) (T.faults trace.new))) }
+        (IsTraceFault (T.left trace.old) (RoseByOne (T.faults trace.old) (T.faults trace.new))) }
 {
     let text = read_all(alloc, trace, LONGEST_TRACE)?;
     let requests = parse_trace(alloc, &text)?;

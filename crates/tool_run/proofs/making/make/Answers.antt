@@ -3,7 +3,7 @@ use Rattle.std.proofs.lemmas.Result.{IfErr-weaker}
 use Rattle.tool_command.specs.declared.command.Invocation.{Invocation}
 use Rattle.tool_command.specs.Command.{image_name, count_image}
 use Rattle.tool_command.specs.Invocations.{command_of}
-use Rattle.tool_ports.specs.Causes.{Rose}
+use Rattle.tool_ports.specs.Causes.{RoseByOne}
 use Rattle.tool_run.specs.Inside.{RefusesEither}
 use Rattle.tool_run.specs.Outcome.{HoldsOutside}
 use Rattle.tool_run.proofs.CallLemmas.{refused_by_image}
@@ -24,8 +24,8 @@ pub returns-in-Count-clause-err : goal.returns-in-Count-clause-err
 returns-in-Count-clause-err g c =
     let contents = g.I.ImageStore.contents c.args.images.now in
     let left = g.T.Source.left c.args.trace.now in
-    let got = Rose (g.I.ImageStore.faults c.args.images.now) (g.I.ImageStore.faults c.count_named.new.images) in
-    let read = Rose (g.T.Source.faults c.args.trace.now) (g.T.Source.faults c.args.trace.now) in
+    let got = RoseByOne (g.I.ImageStore.faults c.args.images.now) (g.I.ImageStore.faults c.count_named.new.images) in
+    let read = RoseByOne (g.T.Source.faults c.args.trace.now) (g.T.Source.faults c.args.trace.now) in
     subst (λ (i : Invocation). IfErr c.count_named.result (RefusesEither (command_of i) contents left got read)) (sym c.in-Count.is)
     (IfErr-weaker c.count_named.result _ _
     (λ fault why. refused_by_image (count_image c.in-Count.image.now c.in-Count.with_map) contents left got read fault fault refl why)

@@ -17,7 +17,7 @@ returns-in_err-product-clause-seeded_err g c =
 pub returns-clause-err : goal.returns-clause-err
 returns-clause-err g c =
     if_error _ _ c.deliver.result c.deliver.ensures.err
-    (λ fault why. stops_at_delivery _ _ _ _ _ _ _ _ _ _ _ _ _ _ _ _ fault c.in_ok-product.ensures.ok c.image.ensures c.make.ensures.unchanged c.make.ensures.later why)
+    (λ fault why. stops_at_delivery _ _ _ _ _ _ _ _ _ _ _ _ _ _ _ _ fault c.in_ok-product.ensures.ok c.image.ensures c.make.ensures.unchanged (c.in_ok-product.ensures.store_steady (not_err _ _)) why)
 
 pub returns-clause-calls : goal.returns-clause-calls
 returns-clause-calls g c =
