@@ -1,5 +1,5 @@
 -- How the store, the source and the chances were used, by equal words and by an equal status, and where memory ran out before there were words.
-use Rattle.std.proofs.Common.{◌≡◌, ◌⊎◌, ℕ, List, Option, inl, inr, refl, sym, subst, arith, ◌∙◌}
+use Rattle.std.proofs.Common.{◌≡◌, ◌⊎◌, ℕ, List, Option, inl, inr, refl, sym, subst, arith}
 use Rattle.tool_ports.specs.Contents.{Contents}
 use Rattle.tool_ports.specs.declared.store_calls.StoreCalls.{StoreCalls}
 use Rattle.tool_run.specs.Status.{done, out_of_memory, write_fault}

@@ -1,6 +1,6 @@
 use Rattle.tool_run.proofs.SeedLemmas.{by_its_seed, cut_off_by_its_seed, before_seeding}
 use Rattle.tool_run.proofs.StatusLemmas.{has_status, is_read_fault, is_write_fault, is_bad_header, is_outside, is_bad_shard, is_absent, is_bad_trace, is_own_line, for_source, before_reading}
-use Rattle.std.proofs.Common.{arith, rules}
+use Rattle.std.proofs.Common.{rules}
 use Rattle.tool_run.proofs.CallLemmas.{rose_by_then}
 use Rattle.tool_run.proofs.ReadingLemmas.{none_taken, not_err, not_told}
 use Rattle.tool_run.proofs.PutBackLemmas.{put_once, looked_once, got_alone}
