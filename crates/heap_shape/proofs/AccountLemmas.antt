@@ -22,8 +22,14 @@ use Rattle.heap_at_rest.proofs.ListLemmas.{one_following}
 -- what is in the list that the head of list 0 leads along is in the free list
 pub free_follows : (capacity e : ℕ) (image : Image) (free : List ℕ) → Follows (λ k. image (link_word k)) capacity (head_first (image (head_word 0))) free
     → Contains free e → IsInFreeList capacity image e
-free_follows capacity e image free follows p ds leads =
-    subst (λ xs. Contains xs e) (one_following (λ k. image (link_word k)) capacity (head_first (image (head_word 0))) free ds follows leads) p
+free_follows capacity e image free follows p = record { free = free; leads = follows; has = p }
+
+-- in a heap of a shape that is its first list
+pub in_listed : (capacity e : ℕ) (image : Image) (held : List Block) (s : Shape) → IsShape capacity image held s → IsInFreeList capacity image e
+    → Contains (s.listed 0) e
+in_listed capacity e image held s shape in_free = subst (λ xs. Contains xs e)
+    (one_following (λ k. image (link_word k)) capacity (head_first (image (head_word 0))) in_free.free (s.listed 0) in_free.leads (shape.follows 0 (omega arith)))
+    in_free.has
 
 -- a superblock keeps its use where its info stays and the free list loses none
 pub use_kept : (capacity e : ℕ) (image new : Image) (held : List Block) (s t : Shape) (now : List Block) → IsShape capacity image held s → IsShape capacity new now t
@@ -32,7 +38,7 @@ pub use_kept : (capacity e : ℕ) (image new : Image) (held : List Block) (s t :
 use_kept capacity e image new held s t now shape after info listed (for_class is) = for_class (subst IsClass (sym info) is)
 use_kept capacity e image new held s t now shape after info listed (for_held b holds part) = for_held b holds part
 use_kept capacity e image new held s t now shape after info listed (for_later in_free) =
-    for_later (free_follows capacity e new (t.listed 0) (after.follows 0 (omega arith)) (listed (in_free (s.listed 0) (shape.follows 0 (omega arith)))))
+    for_later (free_follows capacity e new (t.listed 0) (after.follows 0 (omega arith)) (listed (in_listed capacity e image held s shape in_free)))
 
 -- so do all where `used` stays too
 pub accounted_kept : (capacity : ℕ) (image new : Image) (held : List Block) (s t : Shape) (now : List Block) → IsShape capacity image held s → IsShape capacity new now t
@@ -114,4 +120,4 @@ lies_in_held capacity d image held s shape accounted taken unlisted not_full = b
   by_use (for_class is) = absurd (no_class (s.place d) refl (shape.places d within) is)
   by_use (for_held b holds part) = (b, holds, part)
   by_use (for_later in_free) =
-      absurd (unlisted 0 (member_place capacity image held s shape 0 d (omega arith) (in_free (s.listed 0) (shape.follows 0 (omega arith)))).0)
+      absurd (unlisted 0 (member_place capacity image held s shape 0 d (omega arith) (in_listed capacity d image held s shape in_free)).0)

@@ -16,13 +16,14 @@ use Rattle.heap_model.proofs.BlockLemmas.{block_step, block_words, same_first}
 use Rattle.heap_model.proofs.CountingLemmas.{one_if_true}
 use Rattle.heap_model.proofs.PartLemmas.{cases_parts}
 use Rattle.heap_at_rest.proofs.PartLemmas.{cases_held, part_taken, class_part}
-use Rattle.heap_at_rest.proofs.ListLemmas.{follows_same, one_following}
+use Rattle.heap_at_rest.proofs.ListLemmas.{follows_same}
 use Rattle.heap_shape.specs.Shape.{Place, in_list, is_full, in_large, is_new, Shape, stands_in}
 use Rattle.heap_shape.specs.Standing.{first_of, HoldsAt, HasOneOwner, a_free, a_held, IsOfClass, HasNoHeld, IsFree, IsAs}
 use Rattle.heap_shape.specs.Whole.{layout_at, IsShape}
 use Rattle.heap_shape.specs.Effects.{IsSet, IsPoppedOf, IsPushedOn, IsCut}
 use Rattle.heap_shape.specs.Moves.{with_cache, AddsTo}
 use Rattle.heap_shape.specs.Draining.{IsInFreeList, HasUse, for_class, for_held, for_later, IsDrainable, IsAccounted, IsToDrain, DrainsSame, DrainsOne}
+use Rattle.heap_shape.proofs.AccountLemmas.{free_follows, in_listed}
 use Rattle.heap_shape.proofs.BasicLemmas.{one_list, first_place, member_place, in_free_list, cached_of_class}
 use Rattle.heap_shape.proofs.CutLemmas.{follows_popped}
 use Rattle.heap_shape.proofs.CacheLemmas.{pop_block}
@@ -74,9 +75,7 @@ module _ (capacity class : ℕ) (image new : Image) (held : List Block) (s : Sha
   } where
     -- in the free list as before
     still_free : (e : ℕ) → (Contains (s.listed 0) e → Contains free e) → IsInFreeList capacity image e → IsInFreeList capacity new e
-    still_free e stays in_free ds leads =
-        subst (λ xs. Contains xs e) (one_following (λ k. new (link_word k)) capacity (head_first (new (head_word 0))) free ds follows leads)
-        (stays (in_free (s.listed 0) (shape.follows 0 (omega arith))))
+    still_free e stays in_free = free_follows capacity e new free follows (stays (in_listed capacity e image held s shape in_free))
 
     still_used : IsAccounted capacity image held → (e : ℕ) → Stays class image new (s.listed 0) free e → HasUse capacity new held e
     still_used before e (inl cut) = for_class (subst IsClass (sym cut) is)
@@ -399,6 +398,6 @@ drained_none capacity class image held s is shape cached listed free past draina
         let begins = part.begins in
         let from : start_word capacity d ≤ a.first_word = omega (arith, of.at) in
         none.empty at.block at.holds (record { begins = omega arith; ends = omega arith })
-    | inr in_free ↦ in_none d (subst (λ xs. Contains xs d) free (in_free (s.listed 0) (shape.follows 0 (omega arith))))
+    | inr in_free ↦ in_none d (subst (λ xs. Contains xs d) free (in_listed capacity d image held s shape in_free))
   ]
   given a (fresh _ d index is_class untaken within of) = omega arith

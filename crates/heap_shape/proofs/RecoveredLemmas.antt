@@ -15,10 +15,10 @@ use Rattle.heap_model.specs.Recovery.{HoldsKept, IsPartial, IsFullyKept, IsInLar
 use Rattle.heap_model.proofs.ReachLemmas.{reached_block}
 use Rattle.heap_model.proofs.PartLemmas.{cases_parts, cases_class}
 use Rattle.heap_at_rest.proofs.PartLemmas.{cases_held, part_taken}
-use Rattle.heap_at_rest.proofs.ListLemmas.{one_following}
 use Rattle.heap_at_rest.proofs.RecoveredLemmas.{same_used}
 use Rattle.heap_shape.specs.Standing.{HasNoHeld}
 use Rattle.heap_shape.specs.Draining.{IsDrainable, IsToDrain}
+use Rattle.heap_shape.proofs.AccountLemmas.{free_follows}
 use Rattle.heap_shape.proofs.OpenLemmas.{head_at_rest}
 
 -- what draining needs of an image that was made from another: the infos of superblocks with a part of a kept block stay, and the others are the free list
@@ -94,8 +94,7 @@ module _ (old new : Image) (kept : Block → Type 0) (held : List Block) (left :
   -- each superblock without a held block is in the free list
   pub left_drainable : capacity_of old ≤ largest_capacity → (class : ℕ) → IsDrainable (capacity_of old) new held class
   left_drainable small class = record {
-    each = λ d taken none. inr (λ ds follows. subst (λ xs. Contains xs d)
-        (one_following (λ e. new (link_word e)) (capacity_of old) (head_first (new (head_word 0))) left.free ds leads follows)
+    each = λ d taken none. inr (free_follows (capacity_of old) d new left.free leads
         (left.listed.complete d (free_of_none d (subst (λ u. d < u) left.used taken) none)));
   } where
     leads : Follows (λ e. new (link_word e)) (capacity_of old) (head_first (new (head_word 0))) left.free

@@ -10,10 +10,11 @@ use Rattle.heap_model.specs.Recovered.{HasPartIn, IsDrained}
 use Rattle.heap_shape.specs.Standing.{HasNoHeld}
 use Rattle.heap_shape.specs.Whole.{layout_at}
 
--- the superblock is in the free list
-abbrev pub IsInFreeList : ℕ → Image → ℕ → Type 0
-IsInFreeList capacity image d =
-    (ds : List ℕ) → Follows (λ e. image (link_word e)) capacity (head_first (image (head_word 0))) ds → Contains ds d
+-- the links lead along the free list to its end, and the superblock is in it
+pub record IsInFreeList (capacity : ℕ) (image : Image) (d : ℕ) : Type 0 where
+  pub free : List ℕ
+  pub leads : Follows (λ e. image (link_word e)) capacity (head_first (image (head_word 0))) free
+  pub has : Contains free d
 
 -- each taken superblock that no held block has a part in is in the free list, or is cut for the class
 pub record IsDrainable (capacity : ℕ) (image : Image) (held : List Block) (class : ℕ) : Type 0 where

@@ -1,15 +1,17 @@
 -- Worked examples by computation: one superblock of class 20, of words 1072 to 9263 and four blocks of 1792 words, in a heap of one.
-use Rattle.std.specs.Prelude.{◌≡◌, ◌+◌, ◌*◌, ◌<◌, List, [], ◌∷◌, map, refl}
+use Rattle.std.specs.Prelude.{◌≡◌, ℕ, ◌+◌, ◌*◌, ◌<◌, List, [], ◌∷◌, Contains, map, refl}
 use Rattle.std.proofs.Common.{arith, inl, inr, subst, sym}
 use Rattle.heap_model.specs.declared.block.Block.{Block}
+use Rattle.heap_model.specs.Geometry.{head_word, link_word}
 use Rattle.heap_model.specs.Image.{Image}
 use Rattle.heap_model.specs.Sizes.{class_sizes, words_of_class, blocks_of}
 use Rattle.heap_model.specs.Examples.{image_with}
+use Rattle.heap_model.specs.Chains.{Follows}
 use Rattle.heap_shape.specs.Shape.{in_list, is_full, in_large, is_new, Shape, stands_in, with_at}
 use Rattle.heap_shape.specs.Standing.{first_of, IsFirstOf, HoldsAt, times_free}
 use Rattle.heap_shape.specs.Effects.{IsInSuperblock, all_firsts}
 use Rattle.heap_shape.specs.Moves.{after_take, after_recycle, after_cut, after_join, after_give_all}
-use Rattle.heap_shape.specs.Draining.{for_class, for_held, for_later, IsDrainable, IsAccounted}
+use Rattle.heap_shape.specs.Draining.{for_class, for_held, for_later, IsInFreeList, IsDrainable, IsAccounted}
 
 -- a place is one list, or none
 places : map (λ place. stands_in place 3) (in_list 3 ∷ in_list 2 ∷ is_full ∷ in_large ∷ is_new ∷ []) ≡ 1 ∷ 0 ∷ 0 ∷ 0 ∷ 0 ∷ []
@@ -88,6 +90,11 @@ give_all_moves = (refl, refl, refl, refl)
 join_moves : map (after_join partial 1 2).place (0 ∷ 1 ∷ 2 ∷ 3 ∷ []) ≡ in_list 20 ∷ in_large ∷ in_large ∷ is_new ∷ []
 join_moves = refl
 
+-- where the first number is 0 nothing is in the list
+none_leads : (link : ℕ → ℕ) (capacity d : ℕ) (ds : List ℕ) → Follows link capacity 0 ds → Contains ds d → ⊥
+none_leads link capacity d [] leads has = let none = has.1 in omega arith
+none_leads link capacity d (e ∷ ds) leads has = let first : 0 ≡ e + 1 = leads.0 in omega arith
+
 -- an empty superblock of class 20 that is in no list: draining may begin with class 20, and with no other
 abbrev unlisted : Image
 unlisted = image_with ((8, 1) ∷ (1064, 20) ∷ [])
@@ -99,7 +106,7 @@ drainable_for_own =
 undrainable_for_other : IsDrainable 1 unlisted [] 19 → ⊥
 undrainable_for_other drainable = elim (drainable.each 0 (omega arith) (λ b holds part. let none = holds.1 in omega arith)) as (λ _. ⊥) [
   | inl info ↦ omega arith
-  | inr in_free ↦ let none = (in_free [] refl).1 in omega arith
+  | inr in_free ↦ none_leads (λ d. unlisted (link_word d)) 1 0 in_free.free in_free.leads in_free.has
 ]
 
 -- a superblock of a large block: none is lost while the block is held, and this one is where nothing is held and the free list is empty
@@ -117,5 +124,19 @@ dropped_lost : IsAccounted 1 large [] → ⊥
 dropped_lost accounted = elim (accounted.each 0 (omega arith)) as (λ _. ⊥) [
   | for_class is ↦ let last = is.last in omega arith
   | for_held b holds part ↦ let none = holds.1 in omega arith
-  | for_later in_free ↦ let none = (in_free [] refl).1 in omega arith
+  | for_later in_free ↦ none_leads (λ d. large (link_word d)) 1 0 in_free.free in_free.leads in_free.has
 ]
+
+-- a free list that leads back to its first superblock never ends, so nothing is in it
+abbrev circular : Image
+circular = image_with ((8, 1) ∷ (head_word 0, 1) ∷ (link_word 0, 1) ∷ [])
+
+never_ends : (ds : List ℕ) → Follows (λ d. circular (link_word d)) 1 1 ds → ⊥
+never_ends [] leads = let none : 1 ≡ 0 = leads in omega arith
+never_ends (d ∷ ds) leads =
+    let first : 1 ≡ d + 1 = leads.0 in
+    let only : d ≡ 0 = omega arith in
+    never_ends ds (subst (λ e. Follows (λ d. circular (link_word d)) 1 (circular (link_word e)) ds) only leads.2)
+
+none_in_circular : IsInFreeList 1 circular 0 → ⊥
+none_in_circular in_free = never_ends in_free.free in_free.leads
