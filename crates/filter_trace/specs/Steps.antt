@@ -23,6 +23,12 @@ IsMarkedAt set word kind = slice_index_or set.marks (word * set.kinds + kind) fa
 abbrev pub Adds : Block → ℕ → PairSet → PairSet → Type 0
 Adds b kind old new = Inserts old.kinds b kind old.pairs.items new.pairs.items old.marks new.marks
 
+-- the same pairs are in the set, with the same marks
+pub record HasSamePairs (old new : PairSet) : Type 0 where
+  pub kinds : new.kinds ≡ old.kinds
+  pub pairs : new.pairs.items ≡ old.pairs.items
+  pub marks : new.marks ≡ old.marks
+
 -- the pairs are of blocks of the image, and the marks tell them
 abbrev pub IsSetOf : List ℕ → PairSet → Type 0
 IsSetOf words set = AreMarked (layout_of (slice_index words)) set.kinds set.pairs.items set.marks

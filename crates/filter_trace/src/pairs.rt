@@ -1,5 +1,5 @@
 //! A growing set of pairs of a block and a kind, each with a mark bit by which it is found again.
-ghost use Rattle.std.specs.Prelude.{◌≡◌, ◌+◌, ◌*◌, ℕ, ◌<◌, ◌≤◌, ◌^◌, [], true, false, IsTrue, length, slice_index_or, IfOk, OnOk};
+ghost use Rattle.std.specs.Prelude.{◌≡◌, ◌+◌, ◌*◌, ℕ, ◌<◌, ◌≤◌, ◌^◌, [], true, false, IsTrue, length, slice_index_or, IfOk, IfErr, OnOk};
 ghost use Rattle.std.specs.List.{All};
 ghost use Rattle.filter_trace.specs.Pairs.{mark_of, HasMarks};
 
@@ -19,7 +19,7 @@ pub struct PairSet {
 }
 
 impl PairSet {
-    ghost use Rattle.filter_trace.specs.Steps.{Adds, IsMarkedAt};
+    ghost use Rattle.filter_trace.specs.Steps.{Adds, HasSamePairs, IsMarkedAt};
 
     /// The empty set, for the blocks of an image of so many words.
     pub fn new(alloc: Global, words: usize, kinds: u32) -> Result<Self, AllocError>
@@ -36,12 +36,13 @@ impl PairSet {
         })
     }
 
-    /// Adds the pair, unless it is there.
+    /// Adds the pair, unless it is there. Where memory runs out the set stays as it was.
     pub fn insert(&mut self, block: Block, kind: u32) -> Result<(), AllocError>
         requires here { mark_of self.old.kinds block kind < length self.old.marks }
         requires short { length self.old.marks < 2 ^ 64 }
         ensures kinds { self.new.kinds ≡ self.old.kinds }
         ensures ok { OnOk result (Adds block kind self.old self.new) }
+        ensures err { IfErr result (λ _. HasSamePairs self.old self.new) }
     {
         let mark = mark_at(self.kinds, block.first_word, kind) as u64;
         if self.marks.get(mark) {

@@ -1,12 +1,12 @@
 //! The steps of a trace: where a word leads, and what the roots and the links of a block add.
-ghost use Rattle.std.specs.Prelude.{◌≡◌, ℕ, ◌+◌, ◌*◌, ◌<◌, ◌≤◌, ◌^◌, List, length, slice_index, OnOk, IfErr};
+ghost use Rattle.std.specs.Prelude.{◌≡◌, ℕ, ◌+◌, ◌*◌, ◌<◌, ◌≤◌, ◌^◌, List, length, slice_index, OnOk, IfErr, IsErr};
 ghost use Rattle.std.specs.List.{All};
 ghost use Rattle.heap_model.specs.declared.block.Block.{Block};
 ghost use Rattle.heap_model.specs.Geometry.{roots};
 ghost use Rattle.heap_model.specs.Blocks.{layout_of, IsBlock};
 ghost use Rattle.heap_model.specs.Reach.{Reach, words_in};
 ghost use Rattle.super_block.specs.Division.{Describes};
-ghost use Rattle.filter_trace.specs.Steps.{IsImage, IsSetOf, FollowsWord, FollowsAllRoots, HasFound, FollowsAllLinks};
+ghost use Rattle.filter_trace.specs.Steps.{IsImage, IsSetOf, HasSamePairs, FollowsWord, FollowsAllRoots, HasFound, FollowsAllLinks};
 ghost use Rattle.filter_trace.specs.Reached.{TellsOutside};
 ghost use Rattle.filter_trace.specs.Trace.{LeadsTo, TellsOfWord, TellsOfRoots};
 
@@ -64,7 +64,8 @@ impl Scan<'_> {
         &self.words[first..first + block.words as usize]
     }
 
-    /// Adds what the word at the index leads to, as one of the kind.
+    /// Adds what the word at the index leads to, as one of the kind. An answer that is an error leaves
+    /// the set as it was.
     pub fn follow(&self, at: usize, kind: u32, found: &mut PairSet) -> Result<(), TraceFault>
         requires at { at < length self.now.words.now }
         requires described { Describes self.now.directory.now
@@ -74,6 +75,7 @@ impl Scan<'_> {
         ensures kinds { found.new.kinds ≡ found.old.kinds }
         ensures ok { OnOk result (FollowsWord self.now.words.now at kind found.old found.new) }
         ensures err { IfErr result (TellsOfWord (slice_index self.now.words.now) at) }
+        ensures unchanged { IsErr result → HasSamePairs found.old found.new }
     {
         let value = self.words[at];
         match self.target_of(value) {
