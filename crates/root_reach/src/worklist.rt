@@ -32,6 +32,7 @@ pub fn trace_origins<F: Filter>(
     requires kinds { All (λ kind. kind < F.KINDS) kinds.now }
     ensures ok { IfOk result (AreOrigins (slice_index scan.now.words.now) (slice_index kinds.now)
         (F.links_of filter.now)) }
+    ensures kinds { IfOk result (λ origins. origins.kinds ≡ F.KINDS) }
 {
     let mut found = Labelling::new(alloc, words_of_taken(scan.words), F::KINDS)?;
     follow_roots(scan, kinds, filter, &mut found)?;

@@ -63,4 +63,5 @@ returns g c =
     record {
       ok = work_ends (slice_index c.args.scan.now.words.now) (slice_index c.args.kinds.now) (g.F.Filter.links_of c.args.filter.now) g.F.Filter.KINDS c.loop-next.next
           c.loop-next.found.list.items c.loop-next.found.origins c.loop-next.invariant.same c.loop-next.invariant.work (omega arith);
+      kinds = c.loop-next.invariant.same;
     }
