@@ -1,3 +1,4 @@
+pub mod Examples
 pub mod FileStore
 pub mod Folders
 pub mod InputSource
