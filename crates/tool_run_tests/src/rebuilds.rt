@@ -124,7 +124,7 @@ $ rebuild h
 ";
 
 /// A stop leaves what is durable, and not what was stored: where nothing is written back early, no
-/// block is linked behind any number of stores.
+/// block is linked behind any number of stores. Where each word is, the first ones are.
 const KEPT: &str = "
 @+ 2: used 1, info:0 4, root:8 @1080
 $ rebuild h --stop 1000
@@ -135,6 +135,13 @@ $ rebuild h --stop 1000
 & 1080 8192 0
 $ rebuild h
 > rebuild done
+> heap 2 dirty
+> held 64 1
+& 1088 1 1096
+@+ 2: used 1, info:0 4, root:8 @1080
+$ rebuild h --stop 1000
+% 1
+> rebuild stopped
 > heap 2 dirty
 > held 64 1
 & 1088 1 1096

@@ -186,6 +186,28 @@ $ run h --workers N
 & 1207 1 @9272
 ";
 
+/// The last word of a value is filled up with zeros, also where another value stood in its block.
+const FILLED_UP: &str = "
+$ format h 2
+> formatted 2 bytes 147904
+$ run h --workers 1
+< put 7 ffffffffffffffffffffffffffffffff
+< del 7
+< put 7 aabbccddeeff112233
+> ok
+> ok
+> ok
+> run closed
+> heap 2 clean
+> key 7 aabbccddeeff112233
+> held 48 1
+> held 1024 1
+& 9273 1 7
+& 9274 1 9
+& 9275 1 2455024673282112426
+& 9276 1 51
+";
+
 /// Long values take blocks of their own.
 const LONG: &str = "
 $ format h 4
@@ -376,7 +398,7 @@ const MADE: [(&str, &str); 2] = [
     ),
 ];
 
-const TABLES: [Table; 25] = [
+const TABLES: [Table; 26] = [
     (ANSWERED, &BY_ONE),
     (ANSWERED, &BY_TWO),
     (ANSWERED, &BY_EIGHT),
@@ -402,6 +424,7 @@ const TABLES: [Table; 25] = [
     (GENERATED, &BY_TWO),
     (GENERATED, &BY_EIGHT),
     (EIGHT, &MADE),
+    (FILLED_UP, &[]),
 ];
 
 #[test]
