@@ -1,5 +1,5 @@
 -- Worked examples of folders.
-use Rattle.std.specs.Prelude.{ℕ, List, [], codes, refl}
+use Rattle.std.specs.Prelude.{[], codes, refl}
 use Rattle.std.proofs.Common.{arith}
 use Rattle.file_ports.specs.Folders.{IsFolderOf, here, root, before}
 
