@@ -54,6 +54,13 @@ looked_once words command before after fault asked calls name asks =
     let once = look_once command before (subst GetsImage same asks.gets) (subst (λ (c : Command). ¬ (PutsBack c)) same asks.puts_none) in
     calls ∙ either (nat_eq (status_of fault) write_fault) _ _ _ once.1 once.0
 
+-- also where it was carried out
+pub carried_once : (words : List (List ℕ)) (command : Command) (before after : StoreCalls)
+    → Asks words command → after ≡ with_command command before → (name : List ℕ) → AsksToLook words name → after ≡ with_get get_limit before
+carried_once words command before after asked calls name asks =
+    let same : asks.command ≡ command = one_command words asks.command command asks.asked asked in
+    calls ∙ (look_once command before (subst GetsImage same asks.gets) (subst (λ (c : Command). ¬ (PutsBack c)) same asks.puts_none)).1
+
 -- one whose image is put back got once alone, where its result was neither put nor cut off
 pub got_alone : (words : List (List ℕ)) (command : Command) (before after : StoreCalls) (status : ℕ) (fault : Fault)
     → Asks words command → after ≡ with_status command (status_of fault) before → status ≡ status_of fault

@@ -11,6 +11,8 @@ use Rattle.heap_recover.proofs.UnchangedLemmas.{kinds_unchanged}
 use Rattle.heap_recover.specs.declared.answer.Recovered.{Recovered}
 use Rattle.dict_model.specs.Links.{dict_links, kind_count}
 use Rattle.tool_ports.specs.Contents.{Contents}
+use Rattle.image_run.specs.Rebuilding.{RebuildAsks}
+use Rattle.tool_run.specs.Asking.{NamedRebuildAsks}
 use Rattle.tool_run.specs.Making.{image_in, IsKept, PointsOutside, Rebuilds, RebuildsNamed}
 use Rattle.tool_run.specs.Recovering.{IsRecoveredFrom}
 
@@ -60,4 +62,17 @@ module _ (contents : Contents) (name words : List ℕ) (recovered : Recovered) (
     put_is = refl;
     rebuilds = subst (λ n. Rebuilds (image_in is.image.bytes) n budget image text) count
         (subst (λ (i : Image). Rebuilds i (length words) budget image text) (sym same) rebuilds);
+  }
+
+  pub rebuild_asks : {C One : Type 0} (seed_gives : C → ℕ → C → Type 0) (chance_gives : C → ℕ → One → C → Type 0) (word_gives : C → ℕ → C → Type 0)
+      (seed : ℕ) (old new : C) (put : Option (List ℕ)) (text : List ℕ)
+      → IsSomeAnd put (λ image. RebuildAsks seed_gives chance_gives word_gives (slice_index words) seed image text old new)
+      → NamedRebuildAsks seed_gives chance_gives word_gives contents name seed old new put text
+  rebuild_asks seed_gives chance_gives word_gives seed old new None text asks = absurd asks
+  rebuild_asks seed_gives chance_gives word_gives seed old new (Some image) text asks = record {
+    bytes = is.image.bytes;
+    is_there = is.image.is_there;
+    image = image;
+    put_is = refl;
+    asks = subst (λ (i : Image). RebuildAsks seed_gives chance_gives word_gives i seed image text old new) (sym same) asks;
   }

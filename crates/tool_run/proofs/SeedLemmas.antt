@@ -7,6 +7,7 @@ use Rattle.tool_command.specs.Command.{Command, replay_image, image_name, Asks}
 use Rattle.tool_command.proofs.OneCommandLemmas.{one_command}
 use Rattle.tool_run.specs.declared.fault.Fault.{Fault}
 use Rattle.tool_run.specs.declared.fault.Fault.TheVariants.{Usage, Memory, ReadFault, WriteFault, Absent, Malformed, Outside, BadShard, BadLine, BadStep, TooLong}
+use Rattle.tool_run.specs.Asking.{AsksOf, IsDoneWith}
 use Rattle.tool_run.specs.Inside.{RefusesEither, IsBeforeSeeding, status_of, fault_of_replay}
 use Rattle.tool_run.specs.Outcome.{AsksForReplay}
 use Rattle.tool_run.specs.Seeding.{seed_of, BeginBy}
@@ -31,6 +32,14 @@ module _ {C One : Type 0} (seed_gives : C → ℕ → C → Type 0) (chance_give
   -- words ask for one command, and so for one seed
   pub by_its_seed : BeginBy seed_gives chance_gives word_gives (seed_of command) old new → BeginBy seed_gives chance_gives word_gives (seed_of other) old new
   by_its_seed begun = subst (λ (c : Command). BeginBy seed_gives chance_gives word_gives (seed_of c) old new) (one_command words command other asked asks) begun
+
+  -- and so for what is asked
+  pub by_its_command : (before after : Contents) (left taken taken' : Option (List ℕ))
+      → IsDoneWith (image_name command) before after taken taken' (AsksOf seed_gives chance_gives word_gives command before left old new)
+      → IsDoneWith (image_name other) before after taken taken' (AsksOf seed_gives chance_gives word_gives other before left old new)
+  by_its_command before after left taken taken' asks_so =
+      subst (λ (c : Command). IsDoneWith (image_name c) before after taken taken' (AsksOf seed_gives chance_gives word_gives c before left old new))
+      (one_command words command other asked asks) asks_so
 
   -- also where the result was cut off
   pub cut_off_by_its_seed : (status : ℕ) (fault : Fault) → status ≡ status_of fault → (status_of fault ≡ write_fault → BeginBy seed_gives chance_gives word_gives (seed_of command) old new)

@@ -1,12 +1,15 @@
 -- What the source had left, and a run of the trace that this was.
-use Rattle.std.proofs.Common.{◌≡◌, ℕ, ◌≤◌, ◌<◌, List, ◌++◌, ◌+◌, length, slice_index, Option, Some, None, IfSome, IsSomeAnd, refl, sym, subst, arith, length-append}
+use Rattle.std.proofs.Common.{◌≡◌, ℕ, ◌≤◌, ◌<◌, List, ◌++◌, ◌+◌, length, slice_index, Option, Some, None, IfSome, IsSomeAnd, inl, inr, refl, sym, subst, arith, length-append}
 use Rattle.std.proofs.lemmas.List.{append-nil}
 use Rattle.heap_model.specs.declared.block.Block.{Block}
+use Rattle.heap_model.specs.Geometry.{capacity_word}
+use Rattle.heap_model.specs.Recovery.{in_header}
 use Rattle.worker_run.specs.Said.{Line, requests_of}
-use Rattle.image_run.specs.Running.{Options, RunsRequests}
+use Rattle.image_run.specs.Running.{Options, RunsRequests, RunAsks}
 use Rattle.image_run.proofs.CarryLemmas.{runs_carried}
 use Rattle.tool_ports.specs.Contents.{Contents}
 use Rattle.tool_ports.specs.Left.{left_before, IsAtEnd, Gives}
+use Rattle.tool_run.specs.Asking.{NamedRunAsks}
 use Rattle.tool_run.specs.Inside.{IsTraceLeft}
 use Rattle.tool_run.specs.Making.{HasLeft, HasTrace, HasTooMuch, RunsTrace, image_in, longest_trace}
 use Rattle.tool_run.specs.Recovering.{IsMapped}
@@ -47,4 +50,26 @@ runs_trace contents left name words held heap lines trace options (Some image) t
   image = image;
   put_is = refl;
   runs = runs_carried (image_in heap.image.bytes) (slice_index words) heap.to heap.maps heap.are (requests_of lines) options image text runs;
+}
+
+-- a run over that heap asks its chances what one over the image asks
+pub run_asks : {C One : Type 0} (seed_gives : C → ℕ → C → Type 0) (chance_gives : C → ℕ → One → C → Type 0) (word_gives : C → ℕ → C → Type 0)
+    (contents : Contents) (name words : List ℕ) (held : List Block) → IsMapped contents name words held → (options : Options) (old new : C) (put : Option (List ℕ))
+    → IsSomeAnd put (λ image. RunAsks seed_gives chance_gives word_gives (slice_index words) options image old new)
+    → NamedRunAsks seed_gives chance_gives word_gives contents name options old new put
+run_asks seed_gives chance_gives word_gives contents name words held is options old new None asks = absurd asks
+run_asks seed_gives chance_gives word_gives contents name words held is options old new (Some image) asks = record {
+  bytes = is.image.bytes;
+  is_there = is.image.is_there;
+  image = image;
+  put_is = refl;
+  asks = record {
+    begun = asks.begun;
+    anew = asks.anew;
+    stopped = asks.stopped;
+    left = asks.left;
+    put_is = asks.put_is;
+    state = asks.state;
+    asked = rw (sym (is.to.recovered.same capacity_word (in_header capacity_word (inr (inr (inl refl)))))) asks.asked;
+  };
 }

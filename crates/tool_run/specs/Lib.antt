@@ -7,4 +7,5 @@ pub mod Making
 pub mod Recovering
 pub mod Outcome
 pub mod Inside
+pub mod Asking
 pub mod Examples

@@ -3,6 +3,7 @@ ghost use Rattle.std.specs.Prelude.{◌≡◌, ◌≤◌, ℕ, IfOk, IfErr, IsEr
 ghost use Rattle.tool_ports.specs.Calls.{with_get};
 ghost use Rattle.tool_ports.specs.Causes.{RoseByOne};
 ghost use Rattle.tool_ports.specs.Chances.{ComesFromSeed};
+ghost use Rattle.tool_run.specs.Asking.{DrainAsks};
 ghost use Rattle.tool_run.specs.Calls.{get_limit};
 ghost use Rattle.tool_command.specs.Command.{drain_image};
 ghost use Rattle.tool_run.specs.Inside.{Refuses, IsBeforeSeeding};
@@ -40,6 +41,8 @@ pub fn drain_image<I: ImageStore, C: Chances>(
     ensures calls { I.calls images.new ≡ with_get get_limit (I.calls images.old) }
     ensures seeded { IfOk result (λ _. ComesFromSeed C.seed_gives C.chance_gives C.word_gives
         chances.old 0 chances.new) }
+    ensures asked { IfOk result (λ _. DrainAsks C.seed_gives C.chance_gives
+        chances.old chances.new) }
     ensures no_chance { IfErr result (λ fault. IsBeforeSeeding (drain_image name.now class.number)
         fault → chances.new ≡ chances.old) }
 {

@@ -2,6 +2,7 @@
 ghost use Rattle.std.specs.Prelude.{◌≡◌, ◌≤◌, ◌+◌, ℕ, IfOk, IfErr, OnOk, IsErrOf};
 ghost use Rattle.tool_ports.specs.Calls.{with_get};
 ghost use Rattle.tool_ports.specs.Causes.{RoseByOne};
+ghost use Rattle.tool_run.specs.Asking.{AsksOf};
 ghost use Rattle.tool_run.specs.Calls.{get_limit, with_making};
 ghost use Rattle.tool_command.specs.Invocations.{command_of};
 ghost use Rattle.tool_run.specs.Inside.{Refuses, RefusesEither, IsBeforeReading, IsBeforeSeeding};
@@ -66,6 +67,9 @@ pub fn make<R: Threads + Sync, I: ImageStore, T: Source, G: Gate + Sync, C: Chan
         ≡ with_making (command_of command.entry) (I.calls images.old) }
     ensures seeded { OnOk result (BeginBy C.seed_gives C.chance_gives C.word_gives
         (seed_of (command_of command.entry)) chances.old chances.new) }
+    ensures asked { IfOk result (λ product. AsksOf C.seed_gives C.chance_gives C.word_gives
+        (command_of command.entry) (I.contents images.old) (T.left trace.old)
+        chances.old chances.new product.image product.text) }
     ensures no_chance { IfErr result (λ fault. IsBeforeSeeding (command_of command.entry) fault
         → chances.new ≡ chances.old) }
     ensures never_asked { seed_of (command_of command.entry) ≡ None → chances.new ≡ chances.old }

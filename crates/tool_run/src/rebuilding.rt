@@ -3,6 +3,7 @@ ghost use Rattle.std.specs.Prelude.{◌≡◌, ◌≤◌, ℕ, IfOk, IfErr, IsEr
 ghost use Rattle.tool_ports.specs.Calls.{with_get};
 ghost use Rattle.tool_ports.specs.Causes.{RoseByOne};
 ghost use Rattle.tool_ports.specs.Chances.{ComesFromSeed};
+ghost use Rattle.tool_run.specs.Asking.{NamedRebuildAsks};
 ghost use Rattle.tool_run.specs.Calls.{get_limit};
 ghost use Rattle.tool_command.specs.Command.{Command, rebuild_image, image_name};
 ghost use Rattle.tool_run.specs.Inside.{Refuses, IsBeforeSeeding};
@@ -36,6 +37,9 @@ pub fn rebuild_named<I: ImageStore, C: Chances>(
     ensures calls { I.calls images.new ≡ with_get get_limit (I.calls images.old) }
     ensures seeded { IfOk result (λ _. ComesFromSeed C.seed_gives C.chance_gives C.word_gives
         chances.old seed chances.new) }
+    ensures asked { IfOk result (λ product. NamedRebuildAsks C.seed_gives C.chance_gives
+        C.word_gives (I.contents images.old) name.now seed chances.old chances.new
+        product.image product.text) }
     ensures no_chance { IfErr result (λ fault. IsBeforeSeeding (rebuild_image name.now budget seed)
         fault → chances.new ≡ chances.old) }
 {

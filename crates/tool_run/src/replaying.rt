@@ -5,6 +5,7 @@ ghost use Rattle.tool_ports.specs.Causes.{RoseByOne};
 ghost use Rattle.tool_ports.specs.Chances.{ComesFromSeed};
 ghost use Rattle.tool_ports.specs.Contents.{Contents};
 ghost use Rattle.tool_ports.specs.Left.{IsAtEnd, GivesAtMost};
+ghost use Rattle.tool_run.specs.Asking.{NamedReplayAsks};
 ghost use Rattle.tool_run.specs.Calls.{get_limit};
 ghost use Rattle.tool_command.specs.Command.{replay_image};
 ghost use Rattle.tool_run.specs.Inside.{RefusesEither, IsReplayFault, IsBeforeReading, IsBeforeSeeding};
@@ -51,6 +52,9 @@ pub fn replay_named<I: ImageStore, T: Source, C: Chances>(
     ensures calls { I.calls images.new ≡ with_get get_limit (I.calls images.old) }
     ensures seeded { IfOk result (λ _. ComesFromSeed C.seed_gives C.chance_gives C.word_gives
         chances.old seed chances.new) }
+    ensures asked { IfOk result (λ product. NamedReplayAsks C.seed_gives C.word_gives
+        (I.contents images.old) (T.left source.old) name.now seed chances.old chances.new
+        product.text) }
     ensures no_chance { IfErr result (λ fault. IsBeforeSeeding (replay_image name.now seed) fault
         → chances.new ≡ chances.old) }
 {

@@ -4,6 +4,7 @@ ghost use Rattle.tool_ports.specs.Calls.{with_get, with_put};
 ghost use Rattle.tool_ports.specs.Causes.{Rose, RoseByOne};
 ghost use Rattle.tool_ports.specs.Contents.{told_of};
 ghost use Rattle.tool_ports.specs.Left.{IsAtEnd, GivesAtMost};
+ghost use Rattle.tool_run.specs.Asking.{AsksOf, IsDoneWith};
 ghost use Rattle.tool_run.specs.Calls.{get_limit, with_command, with_status};
 ghost use Rattle.tool_command.specs.Command.{Command, Asks, AsksToFormat, AsksToGen, IsUsage, texts, image_name};
 ghost use Rattle.tool_command.specs.Invocations.{command_of};
@@ -127,12 +128,19 @@ pub fn run_tool<R: Threads + Sync, I: ImageStore, T: Source, O: Sink, G: Gate + 
     ensures no_put { (image : List ℕ) (capacity : ℕ) → AsksToFormat (texts words.now) image capacity
         → result ≡ out_of_memory → I.calls images.new ≡ I.calls images.old }
 
-    // By which seed the chances begin, where a result was made. They are as they were where there is
-    // no seed; so they are where there is no result, but for want of memory and what a replay left.
+    // By which seed the chances begin, where a result was made, and for what they are then asked:
+    // the image that is put and the text that is printed come of their answers. They are as they
+    // were where there is no seed; so they are where there is no result, but for want of memory and
+    // what a replay left.
     ensures seeded { (command : Command) → Asks (texts words.now) command
         → (result ≡ done) ⊎ (result ≡ write_fault)
         → BeginBy C.seed_gives C.chance_gives C.word_gives (seed_of command)
         chances.old chances.new }
+    ensures asked { (command : Command) → Asks (texts words.now) command → result ≡ done
+        → IsDoneWith (image_name command) (I.contents images.old) (I.contents images.new)
+        (O.taken out.old) (O.taken out.new)
+        (AsksOf C.seed_gives C.chance_gives C.word_gives command (I.contents images.old)
+        (T.left trace.old) chances.old chances.new) }
     ensures no_chance { LeavesChances result
         → (result ≡ outside → (name : List ℕ) → ¬ (AsksForReplay (texts words.now) name))
         → chances.new ≡ chances.old }
@@ -243,6 +251,10 @@ fn carry_out<R: Threads + Sync, I: ImageStore, T: Source, O: Sink, G: Gate + Syn
     ensures seeded_err { IfErr result (λ fault. status_of fault ≡ write_fault
         → BeginBy C.seed_gives C.chance_gives C.word_gives
         (seed_of (command_of command.entry)) chances.old chances.new) }
+    ensures asked { OnOk result (IsDoneWith (image_name (command_of command.entry))
+        (I.contents images.old) (I.contents images.new) (O.taken out.old) (O.taken out.new)
+        (AsksOf C.seed_gives C.chance_gives C.word_gives (command_of command.entry)
+        (I.contents images.old) (T.left trace.old) chances.old chances.new)) }
     ensures no_chance { IfErr result (λ fault. IsBeforeSeeding (command_of command.entry) fault
         → chances.new ≡ chances.old) }
     ensures never_asked { seed_of (command_of command.entry) ≡ None → chances.new ≡ chances.old }

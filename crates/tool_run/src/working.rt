@@ -5,6 +5,7 @@ ghost use Rattle.tool_ports.specs.Calls.{with_get};
 ghost use Rattle.tool_ports.specs.Causes.{RoseByOne};
 ghost use Rattle.tool_ports.specs.Chances.{ComesFromSeed};
 ghost use Rattle.tool_ports.specs.Left.{IsAtEnd, GivesAtMost};
+ghost use Rattle.tool_run.specs.Asking.{NamedRunAsks};
 ghost use Rattle.tool_run.specs.Calls.{get_limit};
 ghost use Rattle.tool_command.specs.Command.{Command, run_image, image_name};
 ghost use Rattle.tool_run.specs.Inside.{Refuses, RefusesEither, IsTraceFault, IsTraceLeft, IsBeforeReading, IsBeforeSeeding};
@@ -59,6 +60,9 @@ pub fn work_named<R: Threads + Sync, I: ImageStore, T: Source, G: Gate + Sync, C
     ensures calls { I.calls images.new ≡ with_get get_limit (I.calls images.old) }
     ensures seeded { IfOk result (λ _. ComesFromSeed C.seed_gives C.chance_gives C.word_gives
         chances.old options.seed chances.new) }
+    ensures asked { IfOk result (λ product. NamedRunAsks C.seed_gives C.chance_gives C.word_gives
+        (I.contents images.old) name.now (options_of options) chances.old chances.new
+        product.image) }
     ensures no_chance { IfErr result (λ fault.
         IsBeforeSeeding (run_image name.now (options_of options)) fault
         → chances.new ≡ chances.old) }

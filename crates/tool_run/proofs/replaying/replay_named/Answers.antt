@@ -59,6 +59,16 @@ returns-clause-ok g c = (
   },
 )
 
+pub returns-clause-asked : goal.returns-clause-asked
+returns-clause-asked g c = record {
+  words = c.in_ok-recovered.recovered.heap.words;
+  held = c.in_ok-recovered.recovered.heap.held;
+  heap = heap_of (g.I.ImageStore.contents c.args.images.now) c.args.name.now c.in_ok-recovered.recovered c.in_ok-recovered.ensures.ok;
+  schedule = c.in_ok-schedule.schedule;
+  has_schedule = c.in_ok-schedule.ensures.ok;
+  asks = c.in_ok-product.ensures.asked;
+}
+
 pub returns-in_err-schedule-clause-image_first : goal.returns-in_err-schedule-clause-image_first
 returns-in_err-schedule-clause-image_first g c at has =
     let heap = heap_of (g.I.ImageStore.contents c.args.images.now) c.args.name.now c.in_ok-recovered.recovered c.in_ok-recovered.ensures.ok in

@@ -1,9 +1,9 @@
-use Rattle.tool_run.proofs.SeedLemmas.{by_its_seed, cut_off_by_its_seed, before_seeding}
+use Rattle.tool_run.proofs.SeedLemmas.{by_its_command, by_its_seed, cut_off_by_its_seed, before_seeding}
 use Rattle.tool_run.proofs.StatusLemmas.{has_status, is_read_fault, is_write_fault, is_bad_header, is_outside, is_bad_shard, is_absent, is_bad_trace, is_own_line, for_source, before_reading}
-use Rattle.std.proofs.Common.{rules}
+use Rattle.std.proofs.Common.{rules, sym, ◌∙◌}
 use Rattle.tool_run.proofs.CallLemmas.{rose_by_then}
 use Rattle.tool_run.proofs.ReadingLemmas.{none_taken, not_err, not_told}
-use Rattle.tool_run.proofs.PutBackLemmas.{put_once, looked_once, got_alone}
+use Rattle.tool_run.proofs.PutBackLemmas.{not_done as never_done, carried_once, put_once, looked_once, got_alone}
 use Rattle.tool_run.proofs.AbsentLemmas.{stops_absent, not_done_absent}
 use Rattle.tool_run.proofs.BadTraceLemmas.{stops_bad_line, stops_too_long, done_bad_line, done_too_long}
 use Rattle.tool_run.proofs.BadScheduleLemmas.{stops_bad_step, stops_schedule_too_long, done_bad_step, done_schedule_too_long}
@@ -26,6 +26,17 @@ returns-in-Err-clause-seeded g c other asks =
 
 pub returns-in-Err-Usage-clause-seeded : goal.returns-in-Err-Usage-clause-seeded
 returns-in-Err-Usage-clause-seeded g c command asks = absurd (c.parse.ensures.err (search rules) command asks)
+
+pub returns-in-Ok-carry_out-clause-asked : goal.returns-in-Ok-carry_out-clause-asked
+returns-in-Ok-carry_out-clause-asked g c other asks ended =
+    by_its_command g.C.Chances.seed_gives g.C.Chances.chance_gives g.C.Chances.word_gives _ _ other c.args.chances.now c.carry_out.new.chances c.in-Ok.ensures.ok asks
+    _ _ _ _ _ c.in-Ok-carry_out.ensures.asked
+
+pub returns-in-Err-clause-asked : goal.returns-in-Err-clause-asked
+returns-in-Err-clause-asked g c other asks ended = absurd (never_done c.in-Err.fault (sym c.tell-in-Err.ensures.status ∙ ended))
+
+pub returns-in-Err-Usage-clause-asked : goal.returns-in-Err-Usage-clause-asked
+returns-in-Err-Usage-clause-asked g c command asks = absurd (c.parse.ensures.err (search rules) command asks)
 
 pub returns-in-Err-clause-known : goal.returns-in-Err-clause-known
 returns-in-Err-clause-known g c = has_status c.in-Err.fault _ c.tell-in-Err.ensures.status
@@ -186,6 +197,9 @@ returns-in-Err-clause-not_yet_read g c before no_replay =
 
 pub returns-in-Err-clause-one_get : goal.returns-in-Err-clause-one_get
 returns-in-Err-clause-one_get g c name asks memory = looked_once _ _ _ _ c.in-Err.fault c.in-Ok.ensures.ok c.in-Err.ensures.calls_err name asks
+
+pub returns-in-Ok-carry_out-clause-one_get : goal.returns-in-Ok-carry_out-clause-one_get
+returns-in-Ok-carry_out-clause-one_get g c name asks memory = carried_once _ _ _ _ c.in-Ok.ensures.ok c.in-Ok-carry_out.ensures.calls name asks
 
 pub returns-in-Err-clause-get_alone : goal.returns-in-Err-clause-get_alone
 returns-in-Err-clause-get_alone g c name asks done whole memory =

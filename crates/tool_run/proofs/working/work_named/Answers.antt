@@ -7,7 +7,7 @@ use Rattle.tool_run.proofs.CallLemmas.{refused_by_image}
 use Rattle.tool_run.proofs.DeliveryLemmas.{at_cause}
 use Rattle.tool_run.proofs.OutsideLemmas.{mapped_inside}
 use Rattle.tool_run.proofs.ReadingLemmas.{none_taken, not_err, stands}
-use Rattle.tool_run.proofs.TraceLemmas.{runs_trace}
+use Rattle.tool_run.proofs.TraceLemmas.{run_asks, runs_trace}
 use Rattle.worker_run.proofs.SaidLemmas.{lines_short}
 use Rattle.tool_run.proofs.working.work_named.Goals as goal
 
@@ -28,6 +28,11 @@ returns-clause-ok g c =
     runs_trace _ _ _ _ _ c.in_ok-mapped.ensures.ok c.in_ok-requests.requests.items c.in_ok-requests.ensures.ok (options_of c.args.options) product.image product.text
     (subst (λ (l : List Line). IsSomeAnd product.image (λ image. RunsRequests (slice_index c.in_ok-mapped.mapped.words) (requests_of l) (options_of c.args.options) image product.text))
     c.deref.ensures.value c.in_ok-product.ensures.ok)
+
+pub returns-clause-asked : goal.returns-clause-asked
+returns-clause-asked g c =
+    run_asks g.C.Chances.seed_gives g.C.Chances.chance_gives g.C.Chances.word_gives _ _ _ _ c.in_ok-mapped.ensures.ok (options_of c.args.options) _ _ c.in_ok-product.product.image
+    c.in_ok-product.ensures.asked
 
 pub returns-in_err-requests-clause-image_first : goal.returns-in_err-requests-clause-image_first
 returns-in_err-requests-clause-image_first g c at has = absurd (mapped_inside (g.I.ImageStore.contents c.args.images.now) c.args.name.now c.args.name.now at refl c.in_ok-mapped.ensures.ok.image has)
