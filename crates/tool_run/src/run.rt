@@ -128,10 +128,10 @@ pub fn run_tool<R: Threads + Sync, I: ImageStore, T: Source, O: Sink, G: Gate + 
     ensures no_put { (image : List ℕ) (capacity : ℕ) → AsksToFormat (texts words.now) image capacity
         → result ≡ out_of_memory → I.calls images.new ≡ I.calls images.old }
 
-    // By which seed the chances begin, where a result was made, and for what they are then asked:
-    // the image that is put and the text that is printed come of their answers. They are as they
-    // were where there is no seed; so they are where there is no result, but for want of memory and
-    // what a replay left.
+    // By which seed the chances begin, where a result was made, and for what they are asked behind
+    // that, at 0: where a run or rebuild was stopped, the image that is put has the words that they
+    // gave for what a crash leaves at random. They are as they were where there is no seed; so they
+    // are where there is no result, but for want of memory and what a replay left.
     ensures seeded { (command : Command) → Asks (texts words.now) command
         → (result ≡ done) ⊎ (result ≡ write_fault)
         → BeginBy C.seed_gives C.chance_gives C.word_gives (seed_of command)
