@@ -1,6 +1,6 @@
 //! A recovery made in place, over the dictionary's filter.
 use dictionary::{DictFilter, root_kinds};
-use heap_recover_tests::{InPlace, recover_in_place};
+use recovery_tests::{InPlace, recover_in_place};
 use line_memory::ConstantChance;
 use std::alloc::Global;
 use std::test::Fail;

@@ -2,7 +2,7 @@
 //! each of its steps: what each stop left is recovered to the same.
 use crate::calls::must_hold;
 use crate::in_place::in_place;
-use heap_recover_tests::{holds, torn, write};
+use recovery_tests::{holds, torn, write};
 use line_memory::ConstantChance;
 use std::alloc::Global;
 use std::process::Abort;

@@ -3,7 +3,7 @@
 //! and the recovery of what that left.
 use crate::calls::must_hold;
 use crate::in_place::in_place;
-use heap_recover_tests::{HELD, WORDS, holds, image, torn};
+use recovery_tests::{HELD, WORDS, holds, image, torn};
 use line_memory::ConstantChance;
 use std::process::Abort;
 use std::test::Fail;
