@@ -44,8 +44,8 @@ pub fn what_a_run_puts_can_be_run_again()
         → HasMaps (image_in put) }
 {}
 
-/// A run that isn't stopped leaves each superblock that it never took as it was: the image that it
-/// puts has each word behind its taken superblocks as the image before.
+/// A run that isn't stopped leaves the superblocks that are not taken in the image that it puts as
+/// they were: each word behind the taken ones is that of the image before.
 pub fn a_superblock_that_a_run_never_took_stays_as_it_was()
     ensures { (image : Image) (requests : List Request) (options : Options) (put text : List ℕ)
         → (run : RunsRequests image requests options put text) → run.stopped ≡ false

@@ -24,7 +24,7 @@ pub record CallsStore (words : List (List ℕ)) (status : ℕ) (old new : StoreC
   pub one_put : (image : List ℕ) (capacity : ℕ) → AsksToFormat words image capacity → status ≢ out_of_memory → new ≡ with_put old
   pub no_put : (image : List ℕ) (capacity : ℕ) → AsksToFormat words image capacity → status ≡ out_of_memory → new ≡ old
 
--- The source is read for a run or a replay alone, once its image is good, and then to its end. `contents` is
+-- The source is read for a run or a replay alone, once its image is good, and to its end where the status is 0. `contents` is
 -- what the store held, and `left` what the source has left.
 pub record ReadsSourceInTurn {T : Type 0} (words : List (List ℕ)) (status : ℕ) (contents : Contents) (left : Option (List ℕ)) (old new : T) : Type 0 where
   pub unread : ((name : List ℕ) → ¬ (AsksForSource words name)) → new ≡ old
@@ -34,7 +34,7 @@ pub record ReadsSourceInTurn {T : Type 0} (words : List (List ℕ)) (status : �
   pub read_to_the_end : (name : List ℕ) → AsksForSource words name → status ≡ done → IsAtEnd left
 
 -- The chances begin by the seed that is asked for, where a result was made. They are as they were where there is no seed, and where
--- there is no result, but for want of memory and what a replay left.
+-- there is no result, but for want of memory and a replay at 8.
 pub record AsksChances {C One : Type 0} (seed_gives : C → ℕ → C → Type 0) (chance_gives : C → ℕ → One → C → Type 0) (word_gives : C → ℕ → C → Type 0)
     (words : List (List ℕ)) (status : ℕ) (old new : C) : Type 0 where
   pub seeded : (command : Command) → Asks words command → (status ≡ done) ⊎ (status ≡ write_fault)

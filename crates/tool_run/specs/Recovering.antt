@@ -55,7 +55,7 @@ IsRecoveryFault image (Header cause) = ⊥
 IsRecoveryFault image (Outside at value) = PointsOutside image at × (value ≡ image at)
 IsRecoveryFault image Memory = Unit {0}
 
--- each superblock of a heap at rest that holds no part of a held block is in its free list, or is cut for the class
+-- each taken superblock of a heap at rest that holds no part of a held block is in its free list, or is cut for the class
 abbrev pub IsDrainableAtRest : List ℕ → List Block → ℕ → Type 0
 IsDrainableAtRest words held class = IsDrainable (capacity_of (slice_index words)) (slice_index words) held class
 

@@ -50,13 +50,13 @@ pub record LeavesStore (status : ℕ) : Type 0 where
   pub refused : status ≢ done
   pub not_put : status ≢ write_fault
 
--- a status after which the chances are as they were, whatever the command, but for a replay that points outside itself
+-- a status after which the chances are as they were, whatever the command, but for a replay
 pub record LeavesChances (status : ℕ) : Type 0 where
   pub refused : status ≢ done
   pub not_put : status ≢ write_fault
   pub had_memory : status ≢ out_of_memory
 
--- a status by which the words or the image are refused, so that nothing is read from the source
+-- a status by which the words or the image are refused: nothing is read from the source then, but for a replay whose crash leaves a word outside
 pub record IsBeforeTrace (status : ℕ) : Type 0 where
   pub among : Contains (usage ∷ no_image ∷ bad_header ∷ outside ∷ bad_shard ∷ []) status
 

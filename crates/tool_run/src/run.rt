@@ -85,7 +85,7 @@ pub fn run_tool<R: Threads + Sync, I: ImageStore, T: Source, O: Sink, G: Gate + 
         (O.taken out.old) (O.taken out.new)) }
     ensures unchanged { LeavesStore result → I.contents images.new ≡ I.contents images.old }
 
-    // The source is read for a run or a replay alone, once its image is good, and then to its end;
+    // The source is read for a run or a replay alone, once its image is good, and at 0 to its end;
     // at most one byte more is taken than a trace may have, and no failed read is passed over.
     ensures unread { ((name : List ℕ) → ¬ (AsksForSource (texts words.now) name))
         → trace.new ≡ trace.old }
@@ -131,7 +131,7 @@ pub fn run_tool<R: Threads + Sync, I: ImageStore, T: Source, O: Sink, G: Gate + 
     // By which seed the chances begin, where a result was made, and for what they are asked behind
     // that, at 0: where a run or rebuild was stopped, the image that is put has the words that they
     // gave for what a crash leaves at random. They are as they were where there is no seed; so they
-    // are where there is no result, but for want of memory and what a replay left.
+    // are where there is no result, but for want of memory and a replay at 8.
     ensures seeded { (command : Command) → Asks (texts words.now) command
         → (result ≡ done) ⊎ (result ≡ write_fault)
         → BeginBy C.seed_gives C.chance_gives C.word_gives (seed_of command)
