@@ -105,7 +105,7 @@ impl Core {
     }
 
     /// An image that a crash may leave of the state. Each head, anchor and link is a number of
-    /// `scramble`, in the order of word index.
+    /// `scramble`, in the order of word index. Where memory runs out, `scramble` was not asked.
     pub fn image<C: Chance>(&self, alloc: Global, scramble: &mut C) -> Result<Vec<u64>, AllocError>
         ensures ok { IfOk result (λ image. (k : Setup) (s : TableState)
             → StandsFor self.now.state k s
@@ -115,6 +115,7 @@ impl Core {
         ensures drawn { IfOk result (λ image. (k : Setup) (s : TableState)
             → StandsFor self.now.state k s → GivesAll C.draw_gives scramble.old
             (map (slice_index image.items) (transient_words k.capacity)) scramble.new) }
+        ensures refused { IfErr result (λ _. scramble.new ≡ scramble.old) }
         ensures asked { (numbers : List ℕ)
             × GivesAll C.draw_gives scramble.old numbers scramble.new }
     {
