@@ -1,7 +1,7 @@
 //! A recovery made in place, over the dictionary's filter.
 use dictionary::{DictFilter, root_kinds};
-use recovery_tests::{InPlace, recover_in_place};
 use line_memory::ConstantChance;
+use recovery_tests::{InPlace, recover_in_place};
 use std::alloc::Global;
 use std::test::Fail;
 

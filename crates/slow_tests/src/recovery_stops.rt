@@ -2,8 +2,8 @@
 //! each of its steps: what each stop left is recovered to the same.
 use crate::calls::must_hold;
 use crate::in_place::in_place;
-use recovery_tests::{holds, torn, write};
 use line_memory::ConstantChance;
+use recovery_tests::{holds, torn, write};
 use std::alloc::Global;
 use std::process::Abort;
 use std::test::Fail;

@@ -3,8 +3,8 @@
 //! and the recovery of what that left.
 use crate::calls::must_hold;
 use crate::in_place::in_place;
-use recovery_tests::{HELD, WORDS, holds, image, torn};
 use line_memory::ConstantChance;
+use recovery_tests::{HELD, WORDS, holds, image, torn};
 use std::process::Abort;
 use std::test::Fail;
 
