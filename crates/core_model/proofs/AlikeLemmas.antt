@@ -1,5 +1,5 @@
 -- Whatever a crash leaves of the same durable words reaches the same: no trace looks at what it leaves at random.
-use Rattle.std.proofs.Common.{◌≡◌, ◌≢◌, ℕ, ◌+◌, ◌<◌, ◌≤◌, ◌⊎◌, inl, inr, refl, ap, sym, subst, ◌∙◌, arith}
+use Rattle.std.proofs.Common.{◌≡◌, ◌≢◌, ℕ, ◌+◌, ◌<◌, ◌≤◌, ◌⊎◌, inl, inr, ap, sym, subst, ◌∙◌, arith}
 use Rattle.heap_model.specs.declared.block.Block.{Block}
 use Rattle.heap_model.specs.Geometry.{capacity_word, used_word, state_word, info_word, root_word, start_word, kind_word, roots, lists, head_word}
 use Rattle.heap_model.specs.Image.{Image}

@@ -39,3 +39,5 @@ pub mod OpenedHeldLemmas
 pub mod SplittingLemmas
 pub mod OrderLemmas
 mod ExampleLemmas
+pub mod RoleLemmas
+pub mod CarrierLemmas

@@ -91,11 +91,11 @@ spans_in test (span ∷ spans) x p = by_test (test span.first) p (spans_in test 
   by_test true q rest = elim (head_or_rest span x (chosen_spans test spans) q) [ inl same ↦ subst (Contains (span ∷ spans)) same (in_head span spans) | inr later ↦ in_rest span x spans (rest later) ]
   by_test false q rest = in_rest span x spans (rest q)
 
-total_behind : (f : View → ℕ) (views : List View) (b : View) → total f (views ++ b ∷ []) ≡ total f views + f b
+pub total_behind : (f : View → ℕ) (views : List View) (b : View) → total f (views ++ b ∷ []) ≡ total f views + f b
 total_behind f [] b = omega arith
 total_behind f (v ∷ views) b = let rest = total_behind f views b in omega arith
 
-each_behind : (views : List View) (b : View) (P : View → Type 0) → Each views P → P b → Each (views ++ b ∷ []) P
+pub each_behind : (views : List View) (b : View) (P : View → Type 0) → Each views P → P b → Each (views ++ b ∷ []) P
 each_behind views b P all own = λ j u below at. elim (cases_lt j (length views)) [
   | inl inside ↦ all j u inside (sym (get_or_append_left views (b ∷ []) u j inside) ∙ at)
   | inr past ↦ subst P (sym (last views j u (let l = length-append views (b ∷ []) in omega arith)) ∙ at) own

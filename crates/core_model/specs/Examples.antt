@@ -74,6 +74,9 @@ idle = record {
   losses = 0;
   gives = 0;
   moves = 0;
+  carries = 0;
+  offers = 0;
+  accepts = 0;
 }
 
 -- one superblock was taken; the free list has it, and was popped once
@@ -343,7 +346,7 @@ split_forgets = refl
 
 -- a seat that is split off knows the same durable mark
 abbrev everything : Choice
-everything = record { blocks = λ b. true; spans = λ d. true; roots = λ i. true }
+everything = record { blocks = λ b. true; spans = λ d. true; roots = λ i. true; carries = 0 }
 
 pub new_seat_knows : (given_off everything idle).floor ≡ 1
 new_seat_knows = refl
@@ -462,7 +465,7 @@ counts_cut = refl
 
 -- a seat that is split off has the roots that go, and knows its own words; the others stay
 abbrev nothing : Choice
-nothing = record { blocks = λ b. false; spans = λ d. false; roots = λ i. false }
+nothing = record { blocks = λ b. false; spans = λ d. false; roots = λ i. false; carries = 0 }
 
 pub new_seat_has : (given_off everything with_root).roots ≡ 1 ∷ []
 new_seat_has = refl

@@ -10,3 +10,4 @@ pub mod Held
 pub mod Opening
 pub mod Orders
 pub mod Splitting
+pub mod Carriers

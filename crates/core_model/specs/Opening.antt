@@ -86,6 +86,9 @@ plain_view k held owned_roots = record {
   losses = 0;
   gives = 0;
   moves = 0;
+  carries = 0;
+  offers = 0;
+  accepts = 0;
 }
 
 -- the seat knows its own words, which are as in the opened image

@@ -10,9 +10,11 @@ pub record Choice : Type 0 where
   pub blocks : ℕ → Bool
   pub spans : ℕ → Bool
   pub roots : ℕ → Bool
+  -- 1 where the new seat is a carrier, else 0
+  pub carries : ℕ
 
 abbrev pub others : Choice → Choice
-others c = record { blocks = λ b. not (c.blocks b); spans = λ d. not (c.spans d); roots = λ i. not (c.roots i) }
+others c = record { blocks = λ b. not (c.blocks b); spans = λ d. not (c.spans d); roots = λ i. not (c.roots i); carries = c.carries }
 
 abbrev pub chosen : (ℕ → Bool) → List ℕ → List ℕ
 chosen test [] = []
@@ -67,6 +69,9 @@ new_seat c v = record {
   losses = 0;
   gives = 0;
   moves = 0;
+  carries = c.carries;
+  offers = 0;
+  accepts = 0;
 }
 
 abbrev pub given_off : Choice → View → View

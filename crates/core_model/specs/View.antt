@@ -83,6 +83,19 @@ pub record View : Type 0 where
   pub losses : ℕ
   pub gives : ℕ
   pub moves : ℕ
+  -- 1 of a carrier, which holds blocks between two seats and takes no step, else 0; and how many carriers a seat made, and took in
+  pub carries : ℕ
+  pub offers : ℕ
+  pub accepts : ℕ
+
+-- whether it is a carrier, and how many blocks it offered and accepted
+pub record Role : Type 0 where
+  pub carries : ℕ
+  pub offers : ℕ
+  pub accepts : ℕ
+
+abbrev pub role : View → Role
+role v = record { carries = v.carries; offers = v.offers; accepts = v.accepts }
 
 -- the parts of the heap that are the seat's
 pub record Parts : Type 0 where

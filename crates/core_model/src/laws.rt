@@ -1,7 +1,7 @@
 //! What follows from the definitions, as functions with nothing to run: a caller cites their
 //! clauses.
 
-ghost use Rattle.std.specs.Prelude.{◌≡◌, ◌≢◌, ◌<◌, ◌≤◌, ◌*◌, ◌++◌, ◌∷◌, [], ℕ, List, get_or, set, length, slice_index, ◌↔◌, ◌+◌, Option, None};
+ghost use Rattle.std.specs.Prelude.{◌≡◌, ◌≢◌, ◌<◌, ◌≤◌, ◌*◌, ◌++◌, ◌∷◌, [], ℕ, List, get_or, set, length, slice_index, ◌↔◌, ◌+◌, Contains, Option, None};
 ghost use Rattle.heap_model.specs.declared.block.Block.{Block};
 ghost use Rattle.heap_model.specs.Geometry.{capacity_word, image_words, roots};
 ghost use Rattle.heap_model.specs.Counting.{times};
@@ -14,6 +14,7 @@ ghost use Rattle.core_model.specs.View.{Setup, View, times_free, times_held, tim
 ghost use Rattle.core_model.specs.Guards.{IsOwn, MayStep};
 ghost use Rattle.core_model.specs.Sound.{Each, Good, Sound};
 ghost use Rattle.core_model.specs.Steps.{Keeps, TableState, IsSoundState, Runs, words_after, seat_after};
+ghost use Rattle.core_model.specs.Carriers.{accepted, AreOneLess, AreSeatsAndCarriers, carrier_of, IsCarrier, offered};
 ghost use Rattle.core_model.specs.Splitting.{Choice, remaining, given_off};
 ghost use Rattle.core_model.specs.Opening.{AreOwners, HasDoneNothing, IsOwnerOf, setup_of, opened_view, opened_state};
 ghost use Rattle.core_model.specs.Held.{AreHeldOnce, IsHeld, IsHeldBy, IsFirm, volatile_image, durable_image};
@@ -190,4 +191,26 @@ pub fn a_word_is_own_at_most_once()
     ensures not_held { (k : Setup) (m : Memory) (views : List View) → Good k m views
         → Each views (λ v. (word : ℕ) → 0 < times_free v word
         → times_held v (data_cell word) ≡ 0) }
+{}
+
+/// A seat may offer a held block to a carrier, and take in what a carrier has, whatever order the
+/// views then stand in: no word changes, and the state stays sound, with as many seats, and with the
+/// carriers that were made and not taken in.
+pub fn a_block_may_go_between_seats()
+    ensures offered { (k : Setup) (words : List ℕ) (views : List View) (i : ℕ) (v : View) (block : ℕ)
+        → i < length views → get_or views i v ≡ v → Sound k words views
+        → Sound k words (set views i (offered v block) ++ carrier_of v block ∷ []) }
+    ensures carried { (v : View) (block : ℕ) → IsCarrier (carrier_of v block) }
+    ensures accepted { (k : Setup) (words : List ℕ) (old new : List View) (v u : View)
+        → Contains old v → Contains old u → IsCarrier u → AreOneLess old new v u (accepted v u)
+        → Sound k words old → Sound k words new }
+    ensures offers_one { (k : Setup) (views : List View) (i : ℕ) (v : View) (block : ℕ)
+        → i < length views → get_or views i v ≡ v → v.carries ≡ 0 → AreSeatsAndCarriers k views
+        → AreSeatsAndCarriers k (set views i (offered v block) ++ carrier_of v block ∷ []) }
+    ensures accepts_one { (k : Setup) (old new : List View) (v u : View) → v.carries ≡ 0
+        → IsCarrier u → AreOneLess old new v u (accepted v u) → AreSeatsAndCarriers k old
+        → AreSeatsAndCarriers k new }
+    ensures stepped { (k : Setup) (m : Memory) (views : List View) (i : ℕ) (v : View) (event : Event)
+        → i < length views → get_or views i v ≡ v → v.carries ≡ 0 → AreSeatsAndCarriers k views
+        → AreSeatsAndCarriers k (set views i (seat_after m v event)) }
 {}

@@ -15,7 +15,7 @@ use Rattle.dict_model.proofs.ChainLemmas.{in_path}
 use Rattle.dict_model.proofs.SpliceLemmas.{held_once, one_holder, first_in}
 use Rattle.dict_seat.specs.declared.walk.Place.{Place}
 use Rattle.dict_seat.specs.Maps.{GivesMap}
-use Rattle.dict_seat.specs.Reached.{MayReach, Reaches, ReachesOnlyHeld, ReachesAllHeld}
+use Rattle.dict_seat.specs.Reached.{MayReach, Reaches, ReachesOnlyHeld, ReachesAllHeld, ReachesAllHeldBut}
 use Rattle.dict_seat.specs.Trails.{pointer_to, IsDurableAt, HasCome}
 use Rattle.dict_seat.specs.Changes.{IsReadPlace}
 use Rattle.dict_seat.proofs.GrownLemmas.{are_placed, stays_held, kind_kept, grown_keeps, only_grown}
@@ -83,6 +83,24 @@ module _ (u w : View) (seat : IsSeat u) (seat_w : IsSeat w) (key : ℕ) (place :
 
   pub not_root : (root : ℕ) → Contains u.roots root → root_word root ≢ word_of place.link
   not_root root owned e = link_behind_roots u key taken.table taken.before root seat owned (come_to u seat key place next taken map gives root_is) (e ∙ taken.at_is)
+
+  -- a node that is taken out
+  pub all_unlinked : (may : MayHaveStored (word_of place.link) next u w) → IsDurableAt w (word_of place.link) next → ReachesOnlyHeld w → ReachesAllHeld u → ReachesAllHeldBut place.node w
+  all_unlinked may settled only_w all = record {
+    only = only_w;
+    all = λ c h other.
+        let r = all.all c (subst (λ (bs : List Block). Contains bs c) may.held h) in
+        elim (sees_after u w seat (shard_of key) (word_of place.link) next (pointer_to place.node) (shard_below key) may kinds only (link_kind u seat key place next taken map gives root_is)
+        (may_link u seat key place next taken map gives root_is only) (link_holds u seat key place next taken map gives root_is) not_root (λ d. d ≡ place.node)
+        (λ d leads. inl (leads_to_node d leads))
+        (λ a d value same seen leads.
+        inr (target_sees w (shard_of key) (word_of place.link) next d link_there settled.seen
+        (subst (λ q. LeadsTo (Contains w.held) q d) (next_value a value same seen) (subst (λ (bs : List Block). Contains bs d) (sym may.held) leads.0, leads.1))))
+        one_kind r.0 c r.1 r.2) as (λ _. (root : ℕ) × (kind : ℕ) × Reaches w root c kind) [ inl reached ↦ (r.0, r.1, reached) | inr same ↦ absurd (other same) ];
+  } where
+    link_there : SeesLink w (shard_of key) (word_of place.link)
+    link_there = subst (λ q. SeesLink w (shard_of key) q) (sym taken.at_is)
+        (come_sees w key taken.table taken.before seat_w (come_kept u w key (word_of place.link) next taken.table taken.before map seat gives (come_to u seat key place next taken map gives root_is) taken.at_is may) (kind_kept u w (shard_of key) kinds ∙ root_is))
 
   -- a node that is taken out and freed
   pub all_removed : (may : MayHaveStored (word_of place.link) next u w) → IsDurableAt w (word_of place.link) next → (x : View) → MayHaveFreed place.node w x → x.kinds ≡ w.kinds → (Contains x.held place.node → ⊥) → ReachesOnlyHeld x

@@ -19,7 +19,7 @@ use Rattle.dict_seat.specs.Trails.{IsDurableAt, IsSettling}
 use Rattle.dict_seat.specs.Quiet.{GoesPending, FollowsLink}
 use Rattle.dict_seat.specs.Walks.{IsFoundPlace}
 use Rattle.dict_seat.specs.Changes.{MayChange, Changes, IsReadPlace}
-use Rattle.dict_seat.specs.Removal.{IsShard, Takes}
+use Rattle.dict_seat.specs.Removal.{IsLoose, IsShard, Takes}
 use Rattle.dict_seat.proofs.GrownLemmas.{Grown, stays_held, kind_kept, grown_keeps, shard_grown}
 use Rattle.dict_seat.proofs.TrailLemmas.{come_stays, settles}
 use Rattle.dict_seat.proofs.MapPublishLemmas.{trail_held}
@@ -113,3 +113,10 @@ module _ (v u : View) (key : ℕ) (place : Place) (next : ℕ) (seat : IsSeat u)
           changes_after (shard_of key) (λ map. without_key map key) v u x grown both.0,
           change_after (shard_of key) (λ map. without_key map key) v u x grown kinds seat shard.only both.1,
         )
+
+    -- where the link is durable, the node is out, and loose
+    pub left_unlinked : IsDurableAt w (word_of place.link) next → Changes (shard_of key) (λ map. without_key map key) v w
+    left_unlinked settled = changes_after (shard_of key) (λ map. without_key map key) v u w grown (record { gives = unlinked u seat key place next taken still.map still.gives still.kind_is w may kinds_w settled })
+
+    pub left_loose : IsSeat w → IsDurableAt w (word_of place.link) next → IsLoose place.node w
+    left_loose seat_w settled = record { held = node_still; unreached = unreached u seat key place next taken still.map still.gives still.kind_is w may kinds_w seat_w still.only settled }

@@ -59,3 +59,8 @@ pub record ReachesOnlyHeld (v : View) : Type 0 where
 pub record ReachesAllHeld (v : View) : Type 0 where
   pub only : ReachesOnlyHeld v
   pub all : (b : Block) → Contains v.held b → (root : ℕ) × (kind : ℕ) × Reaches v root b kind
+
+-- and each held block but one is
+pub record ReachesAllHeldBut (loose : Block) (v : View) : Type 0 where
+  pub only : ReachesOnlyHeld v
+  pub all : (b : Block) → Contains v.held b → b ≢ loose → (root : ℕ) × (kind : ℕ) × Reaches v root b kind

@@ -1,11 +1,12 @@
 -- What a request for a key's node relies on, and what its parts leave.
 use Rattle.std.specs.Prelude.{◌≡◌, ℕ, Contains}
+use Rattle.heap_model.specs.declared.block.Block.{Block}
 use Rattle.heap_seat.specs.View.{View, kind_of}
 use Rattle.dict_model.specs.Links.{table_kind}
 use Rattle.dict_model.specs.Shards.{Map}
 use Rattle.dict_seat.specs.declared.walk.Place.{Place}
 use Rattle.dict_seat.specs.Maps.{GivesMap}
-use Rattle.dict_seat.specs.Reached.{ReachesOnlyHeld}
+use Rattle.dict_seat.specs.Reached.{MayReach, ReachesOnlyHeld}
 use Rattle.dict_seat.specs.Trails.{IsSettling}
 use Rattle.dict_seat.specs.Quiet.{GoesPending}
 use Rattle.dict_seat.specs.Changes.{IsReadPlace}
@@ -22,3 +23,8 @@ pub record IsShard (v : View) (shard : ℕ) : Type 0 where
 pub record Takes (key : ℕ) (place : Place) (next : ℕ) (v w : View) : Type 0 where
   pub goes : GoesPending v w
   pub taken : IsReadPlace IsSettling w key place next
+
+-- a held block that no root of the seat reaches, whatever of its two values each word has
+pub record IsLoose (b : Block) (v : View) : Type 0 where
+  pub held : Contains v.held b
+  pub unreached : (root kind : ℕ) → MayReach v root b kind → ⊥

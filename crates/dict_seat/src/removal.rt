@@ -10,8 +10,8 @@ ghost use Rattle.dict_model.specs.Shards.{Map};
 ghost use Rattle.dict_seat.specs.Quiet.{IsQuiet};
 ghost use Rattle.dict_seat.specs.Walks.{IsFoundPlace};
 ghost use Rattle.dict_seat.specs.Changes.{MayChange, Changes};
-ghost use Rattle.dict_seat.specs.Reached.{ReachesAllHeld};
-ghost use Rattle.dict_seat.specs.Removal.{IsShard, Takes};
+ghost use Rattle.dict_seat.specs.Reached.{ReachesAllHeld, ReachesAllHeldBut};
+ghost use Rattle.dict_seat.specs.Removal.{IsLoose, IsShard, Takes};
 
 use crate::walk::{Place, follow};
 use dict_model::{KEY_INDEX, NEXT_INDEX};
@@ -54,4 +54,29 @@ pub(crate) fn remove<H: HeapSeat>(seat: &mut H, key: u64, place: Place) -> Resul
     persist(seat, place.link, next)?;
     // Now no crash leaves a link to it.
     seat.free(place.node)
+}
+
+/// Takes a key's node out of its chain. It stays held, and no root meets it any more.
+pub(crate) fn unlink<H: HeapSeat>(seat: &mut H, key: u64, place: Place) -> Result<(), Stopped>
+    requires shard { IsShard (H.view seat.old) (shard_of key) }
+    requires found { IsFoundPlace (H.view seat.old) key place }
+    ensures ok { OnOk result (Changes (shard_of key) (λ map. without_key map key)
+        (H.view seat.old) (H.view seat.new)) }
+    ensures loose { OnOk result (IsLoose place.node (H.view seat.new)) }
+    ensures exact { OnOk result (ReachesAllHeld (H.view seat.old)
+        → ReachesAllHeldBut place.node (H.view seat.new)) }
+    ensures runs { OnOk result (Runs (H.view seat.old) (H.view seat.new)) }
+    ensures cause { IfErr result (λ e. Stops e.step (H.view seat.old) (H.view seat.new)) }
+    ensures crash { MayChange (shard_of key) (λ map. without_key map key)
+        (H.view seat.old) (H.view seat.new) }
+    ensures calls { IsRow 7 0 0 (H.view seat.old) (H.view seat.new) }
+    ensures refusals { SameRefusals (H.view seat.old) (H.view seat.new) }
+    ensures kept { H.keeps seat.old seat.new }
+{
+    let link = place.link;
+    let next = take(seat, key, place)?;
+    // The links on the way are durable before one of them changes.
+    seat.fence()?;
+    persist(seat, link, next)?;
+    Ok(())
 }

@@ -5,6 +5,7 @@ use Rattle.heap_model.specs.Counting.{total}
 use Rattle.heap_model.specs.Durability.{IsClosedImage, IsCrashImage, Mixes}
 use Rattle.heap_model.specs.Geometry.{image_words, used_word}
 use Rattle.heap_model.specs.Image.{Image}
+use Rattle.core_model.specs.Carriers.{AreSeatsAndCarriers}
 use Rattle.core_model.specs.Held.{volatile_image, durable_image}
 use Rattle.core_model.specs.Sound.{Each, Sound}
 use Rattle.core_model.specs.View.{Setup, View, one_if_some}
@@ -33,13 +34,14 @@ module _ (k : Setup) (now kept : List ℕ) (views : List View) (closed : IsClose
       ∙ behind_now (image_words k.capacity + 0) ∙ ap (λ n. get_or (kept ++ (closed.drawn ∷ [])) (n + 0) 0) (sym closed.kept_long) ∙ get_or-append-add kept (closed.drawn ∷ []) 0 0
 
   -- the sound state that it is, in which each seat has its last view
-  abbrev pub last_state : (i : ℕ) (v : View) → i < length views → get_or views i v ≡ v → HasSoundState v
-  last_state i v below at = record {
+  abbrev pub last_state : (i : ℕ) (v : View) → i < length views → get_or views i v ≡ v → v.carries ≡ 0 → HasSoundState v
+  last_state i v below at seat = record {
     words = words;
     views = views;
     seat = i;
     sound = subst (λ s. Sound s words views) (sym (closed.sound.good.set_up i v below at).setup) closed.sound;
-    count = closed.count ∙ sym (ap (λ (s : Setup). s.seats) (closed.sound.good.set_up i v below at).setup);
+    counted = subst (λ s. AreSeatsAndCarriers s views) (sym (closed.sound.good.set_up i v below at).setup) closed.counted;
+    is_seat = seat;
     below = below;
     at = at;
   }
@@ -49,29 +51,29 @@ module _ (k : Setup) (now kept : List ℕ) (views : List View) (closed : IsClose
       subst (λ (i : Image). Mixes i (durable_image k.capacity words) image) (sym (volatile_is k.capacity now kept closed.drawn closed.now_long closed.kept_long))
       (subst (λ (i : Image). Mixes (slice_index now) i image) (sym (durable_is k.capacity now kept closed.drawn closed.now_long closed.kept_long)) mixed)
 
-  pub recorded : Each views (HasRecorded (slice_index now) (slice_index kept))
-  recorded i v below at =
+  pub recorded : Each views (λ v. v.carries ≡ 0 → HasRecorded (slice_index now) (slice_index kept) v)
+  recorded i v below at seat =
       let capacity = ap (λ (s : Setup). s.capacity) (closed.sound.good.set_up i v below at).setup in
       subst (λ (image : Image). HasRecorded image (slice_index kept) v) (ap (λ c. volatile_image c words) capacity ∙ volatile_is k.capacity now kept closed.drawn closed.now_long closed.kept_long)
       (subst (λ (image : Image). HasRecorded (volatile_image v.setup.capacity words) image v) (ap (λ c. durable_image c words) capacity ∙ durable_is k.capacity now kept closed.drawn closed.now_long closed.kept_long)
-      (state_recorded v (last_state i v below at)))
+      (state_recorded v (last_state i v below at seat)))
 
-  pub images : (image : Image) → Mixes (slice_index now) (slice_index kept) image → Each views (λ v. IsImageOf v image)
-  images image mixed i v below at = record {
-    has = last_state i v below at;
+  pub images : (image : Image) → Mixes (slice_index now) (slice_index kept) image → Each views (λ v. v.carries ≡ 0 → IsImageOf v image)
+  images image mixed i v below at seat = record {
+    has = last_state i v below at seat;
     mixed = subst (λ c. Mixes (volatile_image c words) (durable_image c words) image) (sym (ap (λ (s : Setup). s.capacity) (closed.sound.good.set_up i v below at).setup)) (mixed_is image mixed);
   }
 
-  pub crashes : (image : Image) → IsCrashImage (slice_index kept) image → Each views (λ v. IsCrashOf v image)
-  crashes image crash i v below at = record {
-    has = last_state i v below at;
+  pub crashes : (image : Image) → IsCrashImage (slice_index kept) image → Each views (λ v. v.carries ≡ 0 → IsCrashOf v image)
+  crashes image crash i v below at seat = record {
+    has = last_state i v below at seat;
     crash = subst (λ (kept : Image). IsCrashImage kept image) (sym (ap (λ (s : Setup). durable_image s.capacity words) (closed.sound.good.set_up i v below at).setup
         ∙ durable_is k.capacity now kept closed.drawn closed.now_long closed.kept_long)) crash;
   }
 
-  pub closes : (image : Image) → IsClosedImage (slice_index now) image → Each views (λ v. IsCloseOf v image)
-  closes image close i v below at = record {
-    has = last_state i v below at;
+  pub closes : (image : Image) → IsClosedImage (slice_index now) image → Each views (λ v. v.carries ≡ 0 → IsCloseOf v image)
+  closes image close i v below at seat = record {
+    has = last_state i v below at seat;
     close = subst (λ (now : Image). IsClosedImage now image) (sym (ap (λ (s : Setup). volatile_image s.capacity words) (closed.sound.good.set_up i v below at).setup
         ∙ volatile_is k.capacity now kept closed.drawn closed.now_long closed.kept_long)) close;
   }

@@ -1,25 +1,46 @@
--- The seats of a heap that is closed.
-use Rattle.std.proofs.Common.{◌≡◌, ℕ, suc, List, [], ◌∷◌, ◌++◌, length, append_assoc, refl, ap, sym, ◌∙◌}
+-- The seats and the carriers of a heap that is closed.
+use Rattle.std.proofs.Common.{◌≡◌, ℕ, ◌+◌, List, [], ◌∷◌, ◌++◌, length, map, append_assoc, refl, ap, sym, subst, ◌∙◌, arith}
+use Rattle.heap_model.specs.Counting.{total}
+use Rattle.core_model.specs.Carriers.{IsCarrier}
+use Rattle.core_model.specs.View.{View}
+use Rattle.heap_table.specs.AtTable.{AreAll, SharedView}
 use Rattle.heap_table.specs.SeatViews.{SeatViews}
+use Rattle.heap_table.proofs.DealLemmas.{total_append}
+use Rattle.heap_rule.specs.Carried.{AreAllOf, AreCarriers, CarrierView, HasSeatsBefore}
 use Rattle.heap_rule.specs.Seated.{SeatView}
 use Rattle.heap_rule.specs.Seats.{views_of}
 
-views_last : (seats : List SeatView) (seat : SeatView) → views_of (seats ++ seat ∷ []) ≡ views_of seats ++ seat.view ∷ []
-views_last [] seat = refl
-views_last (s ∷ seats) seat = ap (λ vs. s.view ∷ vs) (views_last seats seat)
+map_last : {A : Type 0} (f : A → View) (xs : List A) (x : A) → map f (xs ++ x ∷ []) ≡ map f xs ++ f x ∷ []
+map_last f [] x = refl
+map_last f (y ∷ xs) x = ap (λ vs. f y ∷ vs) (map_last f xs x)
 
--- the views of the last seat come before those that are joined already
-pub one_joined : (all seats : List SeatView) (seat : SeatView) (theirs mine both whole : SeatViews) → all ≡ seats ++ seat ∷ [] → theirs ≡ seat.view ∷ [] → both ≡ theirs ++ mine
-    → views_of all ++ mine ≡ whole → views_of seats ++ both ≡ whole
-one_joined all seats seat theirs mine both whole split single joined so_far =
-    ap (λ vs. views_of seats ++ vs) (joined ∙ ap (λ vs. vs ++ mine) single)
-    ∙ sym (append_assoc (views_of seats) (seat.view ∷ []) mine)
-    ∙ ap (λ vs. vs ++ mine) (sym (views_last seats seat) ∙ ap views_of (sym split))
+-- the views of the last one come before those that are joined already
+pub one_joined : {A : Type 0} (f : A → View) (all rest : List A) (x : A) (theirs mine both whole : SeatViews) → all ≡ rest ++ x ∷ [] → theirs ≡ f x ∷ [] → both ≡ theirs ++ mine
+    → map f all ++ mine ≡ whole → map f rest ++ both ≡ whole
+one_joined f all rest x theirs mine both whole split single joined so_far =
+    ap (λ vs. map f rest ++ vs) (joined ∙ ap (λ vs. vs ++ mine) single)
+    ∙ sym (append_assoc (map f rest) (f x ∷ []) mine)
+    ∙ ap (λ vs. vs ++ mine) (sym (map_last f rest x) ∙ ap (map f) (sym split))
     ∙ so_far
 
-views_count : (seats : List SeatView) → length (views_of seats) ≡ length seats
-views_count [] = refl
-views_count (s ∷ seats) = ap suc (views_count seats)
+-- one seat more
+pub one_seat : (n : ℕ) (before mine both : SeatViews) (v : View) → v.carries ≡ 0 → both ≡ (v ∷ []) ++ mine → HasSeatsBefore n before mine → HasSeatsBefore (n + 1) before both
+one_seat n before mine both v seat joined so_far = subst (HasSeatsBefore (n + 1) before) (sym joined) (record { seats = (let s = so_far.seats in omega arith); carry = (let c = so_far.carry in omega arith) })
 
-pub joined_count : (seats : List SeatView) (joined : SeatViews) (count : ℕ) → joined ≡ views_of seats → length seats ≡ count → length joined ≡ count
-joined_count seats joined count are all = ap length are ∙ views_count seats ∙ all
+-- one carrier more
+pub one_carrier : (n : ℕ) (mine both : SeatViews) (u : View) → IsCarrier u → both ≡ (u ∷ []) ++ mine → AreCarriers n mine → AreCarriers (n + 1) both
+one_carrier n mine both u carrier joined so_far = subst (AreCarriers (n + 1)) (sym joined) (let one = carrier.is_one in let h = carrier.handed in let p = h.0 in let q = h.1 in record {
+  carry = (let c = so_far.carry in omega arith);
+  no_seats = (let s = so_far.no_seats in omega arith);
+  no_offers = (let o = so_far.no_offers in omega arith);
+  no_accepts = (let a = so_far.no_accepts in omega arith);
+})
+
+-- all are there
+pub all_there : (shared : SharedView) (seats : List SeatView) (carriers : List CarrierView) (carried joined : SeatViews) → AreAllOf shared seats carriers → AreCarriers (length carriers) carried
+    → HasSeatsBefore (length seats) carried joined → joined ≡ views_of seats ++ carried → AreAll shared.opening.seats joined
+all_there shared seats carriers carried joined all are before is =
+    let n = all.none_lost in let count = all.seats_are.count in let a = total_append (λ (v : View). v.accepts) (views_of seats) carried in let o = total_append (λ (v : View). v.offers) (views_of seats) carried in
+    let a' = ap (total (λ (v : View). v.accepts)) is in let o' = ap (total (λ (v : View). v.offers)) is in
+    let s = before.seats in let c = before.carry in let p = are.carry in let q = are.no_seats in let r = are.no_offers in let t = are.no_accepts in
+    record { seats_are = omega arith; carriers_are = omega arith }

@@ -38,3 +38,4 @@ pub mod CrashLemmas
 pub mod TicketLemmas
 pub mod RecordLemmas
 pub mod StackLemmas
+pub mod OwnedCarriers

@@ -10,6 +10,7 @@ use Rattle.line_memory.specs.Marks.{mark_at}
 use Rattle.core_model.specs.Sound.{Sound}
 use Rattle.core_model.proofs.OpenLemmas.{length_tabulate, tabulate_at}
 use Rattle.seat_notes.proofs.NewSeat.{new_seat, no_caches}
+use Rattle.heap_table.proofs.ReachedLemmas.{opened_counted}
 use Rattle.heap_table.specs.SeatViews.{SeatViews, first_view, other_views}
 use Rattle.heap_table.specs.Rule.{Opening, IsOpened, setup_for, state_of, opened_views, opened_view_of}
 use Rattle.heap_table.specs.AtTable.{SharedView}
@@ -51,7 +52,8 @@ is_seat o i capacity budget me is less me_is capacity_is budget_is = subst (λ m
       views = opened_views o;
       seat = i;
       sound = subst (Sound (setup_for o) (state_of o).words) (append-nil (opened_views o)) is.sound;
-      count = length_tabulate (opened_view_of o) 0 o.seats;
+      counted = opened_counted o;
+      is_seat = refl;
       below = (let l = length_tabulate (opened_view_of o) 0 o.seats in omega arith);
       at = tabulate_at (opened_view_of o) 0 o.seats i (opened_view_of o i) less ∙ ap (opened_view_of o) (let e : 0 + i ≡ i = omega arith in e);
     };

@@ -28,6 +28,7 @@ use Rattle.heap_rule.specs.declared.owned.Owned.{Owned}
 use Rattle.heap_rule.specs.Owned.{most_blocks, ownership_for, opened_parts, parts_of, OwnedParts, IsOwnership, HasOwned, times_had}
 use Rattle.heap_table.specs.Rule.{opening_of, opened_view_of}
 use Rattle.heap_table.specs.Plays.{HasSoundState}
+use Rattle.heap_table.proofs.ReachedLemmas.{opened_counted}
 use Rattle.heap_rule.specs.Stacks.{AreStacks}
 use Rattle.heap_rule.proofs.ViewLemmas.{block_below}
 
@@ -39,7 +40,8 @@ opened_has heap owners seats seat ready are less = record {
   views = tabulate V 0 seats;
   seat = seat;
   sound = opened heap.words heap.held 0 seats owners.held owners.roots ready are;
-  count = length_tabulate V 0 seats;
+  counted = opened_counted (opening_of heap owners seats 0);
+  is_seat = refl;
   below = (let l = length_tabulate V 0 seats in omega arith);
   at = tabulate_at V 0 seats seat (V seat) less ∙ ap V (let e : 0 + seat ≡ seat = omega arith in e);
 } where

@@ -15,3 +15,4 @@ pub mod Examples
 pub mod LeftExamples
 pub mod SeatExamples
 pub mod Stacks
+pub mod Carried

@@ -16,7 +16,7 @@ ghost use Rattle.heap_table.specs.AtTable.{IsClosedSound};
 /// Of each own word a seat has recorded what a close left: the volatile value and the durable one.
 pub fn a_closed_heap_has_the_recorded_words()
     ensures { (k : Setup) (now kept : List ℕ) (views : List View) → IsClosedSound k now kept views
-        → Each views (HasRecorded (slice_index now) (slice_index kept)) }
+        → Each views (λ v. v.carries ≡ 0 → HasRecorded (slice_index now) (slice_index kept) v) }
 {}
 
 /// The words that no step changes are as they were opened, in every mixture of volatile and durable
@@ -55,7 +55,7 @@ pub fn a_closed_heap_counts_what_its_seats_did()
 pub fn a_closed_heap_has_images_of_its_seats()
     ensures { (k : Setup) (now kept : List ℕ) (views : List View) → IsClosedSound k now kept views
         → (image : Image) → Mixes (slice_index now) (slice_index kept) image
-        → Each views (λ v. IsImageOf v image) }
+        → Each views (λ v. v.carries ≡ 0 → IsImageOf v image) }
 {}
 
 /// What a crash leaves of a closed heap is what a crash may leave of each of its seats, with the
@@ -64,11 +64,11 @@ pub fn a_crash_or_a_close_of_a_closed_heap_is_one_of_each_seat()
     ensures crash { (k : Setup) (now kept : List ℕ) (views : List View)
         → IsClosedSound k now kept views
         → (image : Image) → IsCrashImage (slice_index kept) image
-        → Each views (λ v. IsCrashOf v image) }
+        → Each views (λ v. v.carries ≡ 0 → IsCrashOf v image) }
     ensures close { (k : Setup) (now kept : List ℕ) (views : List View)
         → IsClosedSound k now kept views
         → (image : Image) → IsClosedImage (slice_index now) image
-        → Each views (λ v. IsCloseOf v image) }
+        → Each views (λ v. v.carries ≡ 0 → IsCloseOf v image) }
 {}
 
 /// The bounds on what the seats of a closed heap did. Each lost at most as many exchanges as the

@@ -2,6 +2,7 @@
 //! atomic steps; each of them is one event of the core.
 #![tactic(auto)]
 
+mod carrier;
 mod chains;
 mod closed_laws;
 mod closing;
@@ -9,6 +10,7 @@ mod draws;
 mod exchanges;
 mod fences;
 mod fresh;
+mod handing;
 mod image_laws;
 mod laws;
 mod lists;
@@ -29,6 +31,7 @@ mod told;
 mod view_laws;
 mod words;
 
+pub use carrier::Carrier;
 pub use closed_laws::{
     a_closed_heap_bounds_what_its_seats_did, a_closed_heap_counts_what_its_seats_did,
     a_closed_heap_has_images_of_its_seats, a_closed_heap_has_the_opened_header,

@@ -18,7 +18,7 @@ use Rattle.core_model.proofs.OpenedLemmas.{opened}
 use Rattle.core_model.proofs.PlaceLemmas.{index_within, pick}
 use Rattle.core_model.proofs.SoundLemmas.{own_cell}
 use Rattle.heap_table.specs.AtTable.{IsClosedReached}
-use Rattle.heap_table.specs.Reached.{IsReached, at_opening, by_event, by_record, in_another_order}
+use Rattle.heap_table.specs.Reached.{IsReached, at_opening, by_event, by_record, by_offer, by_accept, in_another_order}
 use Rattle.heap_table.specs.Rule.{Opening, setup_for, state_of}
 use Rattle.heap_table.proofs.ReachedLemmas.{reached_sound}
 
@@ -69,9 +69,11 @@ module _ (k : Setup) (none : k.budget ≡ 0) (start : List ℕ) (settled : (n : 
 stays : (k : Setup) (start : TableState) → k.budget ≡ 0 → ((n : ℕ) → n < image_words k.capacity → get_or start.words (image_words k.capacity + n) 0 ≡ get_or start.words n 0)
     → Sound k start.words start.views → (words : List ℕ) (views : List View) → IsReached k start words views → IsAsOpened k.capacity start.words words
 stays k start none settled first _ _ at_opening = record { long = refl; same = λ n other. refl }
-stays k start none settled first _ _ (by_event words views i v event before below at may) =
+stays k start none settled first _ _ (by_event words views i v event before below at seat may) =
     step k none start.words settled words views i v event (reached_sound k start first words views before) below at may (stays k start none settled first words views before)
 stays k start none settled first _ _ (by_record words views i v word before below at own) = stays k start none settled first words views before
+stays k start none settled first _ _ (by_offer words views i v b before below at may held) = stays k start none settled first words views before
+stays k start none settled first _ _ (by_accept words old new v u before has_v has_u may carries less) = stays k start none settled first words old before
 stays k start none settled first _ _ (in_another_order words old new before same) = stays k start none settled first words old before
 
 same_lists : (xs ys : List ℕ) → length xs ≡ length ys → ((i : ℕ) → i < length ys → get_or xs i 0 ≡ get_or ys i 0) → xs ≡ ys

@@ -1,16 +1,21 @@
 -- The seats of a closed table, and its words.
-use Rattle.std.proofs.Common.{◌≡◌, ℕ, zero, suc, ◌+◌, ◌*◌, ◌≤◌, List, [], ◌∷◌, ◌++◌, get_or, take, drop, length, length-append, length-drop, refl, ap, sym, subst, ◌∙◌, arith}
+use Rattle.std.proofs.Common.{◌≡◌, ◌⊎◌, inl, inr, ℕ, zero, suc, ◌+◌, ◌-◌, ◌*◌, ◌≤◌, Contains, List, [], ◌∷◌, ◌++◌, get_or, take, drop, length, length-append, length-drop, refl, ap, sym, subst, ◌∙◌, arith}
 use Rattle.std.proofs.lemmas.List.{append-nil, take-append-drop, length-take-le}
 use mathlib.Core.Option.{some, some-injective, some-ne-none}
 use lib.ListN.{get_elem?}
 use Rattle.atomic_table.specs.Table.{Final, Seen}
 use Rattle.heap_model.specs.Geometry.{image_words}
-use Rattle.core_model.specs.View.{View}
+use Rattle.heap_model.specs.Counting.{total}
+use Rattle.heap_model.proofs.MemberLemmas.{in_head, in_rest}
+use Rattle.std.proofs.lemmas.List.Elements.{Contains-append_left, Contains-append_right, Contains-append_cases}
+use Rattle.core_model.specs.Carriers.{AreSeatsAndCarriers, IsCarrier}
+use Rattle.core_model.specs.View.{Setup, View}
 use Rattle.core_model.specs.Sound.{Sound}
-use Rattle.heap_table.specs.AtTable.{IsClosedReached, IsClosedSound}
+use Rattle.heap_table.specs.AtTable.{AreAll, IsClosedReached, IsClosedSound}
 use Rattle.heap_table.specs.Reached.{IsReached}
 use Rattle.heap_table.specs.Rule.{Opening, HasAllSeats, Holds, setup_for, state_of}
 use Rattle.heap_table.specs.SeatViews.{SeatViews, all_views}
+use Rattle.heap_table.proofs.DealLemmas.{length_total, total_append}
 
 none_left : (xs : List View) → length xs ≡ 0 → xs ≡ []
 none_left [] none = refl
@@ -20,6 +25,44 @@ one_in_all : (groups : List SeatViews) (id : ℕ) (group : SeatViews) → get_el
 one_in_all [] id group at = absurd (some-ne-none group (sym at))
 one_in_all (j ∷ groups) zero group at = let same = ap length (some-injective j group at) in let l = length-append j (all_views groups) in omega arith
 one_in_all (j ∷ groups) (suc id) group at = let rest = one_in_all groups id group at in let l = length-append j (all_views groups) in omega arith
+
+-- the sum over all views is the one over those of a seat of the table, and over others, each of which is one of all
+record HasOthers (groups : List SeatViews) (group : SeatViews) : Type 0 where
+  rest : List View
+  sums : (f : View → ℕ) → total f (all_views groups) ≡ total f group + total f rest
+  members : (v : View) → Contains rest v → Contains (all_views groups) v
+
+others_of : (groups : List SeatViews) (id : ℕ) (group : SeatViews) → get_elem? groups id ≡ some group → HasOthers groups group
+others_of [] id group at = absurd (some-ne-none group (sym at))
+others_of (j ∷ groups) zero group at = record {
+  rest = all_views groups;
+  sums = λ f. let a = total_append f j (all_views groups) in let same = ap (total f) (some-injective j group at) in omega arith;
+  members = λ v there. Contains-append_right j (all_views groups) v there;
+}
+others_of (j ∷ groups) (suc id) group at = let o = others_of groups id group at in record {
+  rest = j ++ o.rest;
+  sums = λ f. let a = total_append f j (all_views groups) in let b = total_append f j o.rest in let s = o.sums f in omega arith;
+  members = λ v there. elim (Contains-append_cases j o.rest v there) [ inl here ↦ Contains-append_left j (all_views groups) v here | inr later ↦ Contains-append_right j (all_views groups) v (o.members v later) ];
+}
+
+-- views of which none is a seat are carriers, which offered and accepted nothing
+no_seats : (rest : List View) → ((v : View) → Contains rest v → (v.carries ≡ 0) ⊎ IsCarrier v) → total (λ (v : View). 1 - v.carries) rest ≡ 0
+    → (total (λ (v : View). v.carries) rest ≡ length rest) × (total (λ (v : View). v.offers) rest ≡ 0)
+no_seats [] each none = (refl, refl)
+no_seats (v ∷ rest) each none = let later = no_seats rest (λ x there. each x (in_rest v x rest there)) (omega (arith, none)) in elim (each v (in_head v rest)) [
+  | inl seat ↦ absurd (omega (arith, none, seat))
+  | inr carrier ↦ let one = carrier.is_one in let o = carrier.handed.0 in let p = later.0 in let q = later.1 in (omega arith, omega arith)
+]
+
+-- where one seat of the table stands for all seats and for each carrier that is not taken in, as many views as it has are there
+as_many : (k : Setup) (groups : List SeatViews) (id : ℕ) (group : SeatViews) → get_elem? groups id ≡ some group → AreSeatsAndCarriers k (all_views groups) → AreAll k.seats group → length (all_views groups) ≡ length group
+as_many k groups id group at are all =
+    let o = others_of groups id group at in
+    let s = o.sums (λ (v : View). 1 - v.carries) in let c = o.sums (λ (v : View). v.carries) in let a = o.sums (λ (v : View). v.accepts) in let f = o.sums (λ (v : View). v.offers) in
+    let n = o.sums (λ (v : View). 1) in let l = length_total (all_views groups) in let l' = length_total group in let r = length_total o.rest in
+    let x = are.seats in let y = are.carriers in let z = all.seats_are in let w = all.carriers_are in
+    let none = no_seats o.rest (λ v there. are.each v (o.members v there)) (omega (arith, s, x, z)) in
+    let p = none.0 in let q = none.1 in omega arith
 
 -- where one seat of the table stands for as many seats as there are, no other stands for any
 all_in_one : (groups : List SeatViews) (id : ℕ) (group : SeatViews) → get_elem? groups id ≡ some group → length (all_views groups) ≡ length group → all_views groups ≡ group
@@ -44,7 +87,7 @@ three_parts words n long = sym (take-append-drop n words)
       one = let a = length-drop n words in let b = length-drop n (drop n words) in omega arith
 
 -- what the table leaves, where one seat of it stood for all seats
-module _ (o : Opening) (words slots : List ℕ) (id n : ℕ) (group : SeatViews) (final : Final (Seen (Holds o) id group) words slots) (count : length group ≡ o.seats) (half : n ≡ image_words (setup_for o).capacity) where
+module _ (o : Opening) (words slots : List ℕ) (id n : ℕ) (group : SeatViews) (final : Final (Seen (Holds o) id group) words slots) (all : AreAll o.seats group) (half : n ≡ image_words (setup_for o).capacity) where
   keeps : HasAllSeats o final.0.words final.0.views
   keeps = final.1.0
 
@@ -54,7 +97,7 @@ module _ (o : Opening) (words slots : List ℕ) (id n : ℕ) (group : SeatViews)
   -- what the rule says of the last state is so of the parts that its words are read off in
   told : (P : List ℕ → List View → Type 0) → P final.0.words (all_views final.0.views) → P (take n words ++ (take n (drop n words) ++ (get_or (drop n (drop n words)) 0 0 ∷ []))) group
   told P p = subst (λ ws. P ws group) (three_parts words n long)
-      (subst (P words) (all_in_one final.0.views id group final.1.1 (keeps.count ∙ sym count)) (subst (λ ws. P ws (all_views final.0.views)) final.2 p))
+      (subst (P words) (all_in_one final.0.views id group final.1.1 (as_many (setup_for o) final.0.views id group final.1.1 keeps.counted all)) (subst (λ ws. P ws (all_views final.0.views)) final.2 p))
 
   now_long : length (take n words) ≡ image_words (setup_for o).capacity
   now_long = length-take-le n words (omega (arith, long)) ∙ half
@@ -63,7 +106,7 @@ module _ (o : Opening) (words slots : List ℕ) (id n : ℕ) (group : SeatViews)
   kept_long = length-take-le n (drop n words) (let l = length-drop n words in omega (arith, long, l)) ∙ half
 
   pub closed_sound : IsClosedSound (setup_for o) (take n words) (take n (drop n words)) group
-  closed_sound = record { now_long = now_long; kept_long = kept_long; drawn = get_or (drop n (drop n words)) 0 0; sound = told (Sound (setup_for o)) keeps.sound; count = count }
+  closed_sound = record { now_long = now_long; kept_long = kept_long; drawn = get_or (drop n (drop n words)) 0 0; sound = told (Sound (setup_for o)) keeps.sound; counted = told (λ ws. AreSeatsAndCarriers (setup_for o)) keeps.counted }
 
   pub closed_reached : IsClosedReached o (take n words) (take n (drop n words)) group
   closed_reached = record { now_long = now_long; kept_long = kept_long; drawn = get_or (drop n (drop n words)) 0 0; reached = told (IsReached (setup_for o) (state_of o)) keeps.reached }

@@ -1,5 +1,5 @@
 -- A seat of the table that deals out some of its views, or takes in those of another, leaves the same seats.
-use Rattle.std.proofs.Common.{◌≡◌, ℕ, zero, suc, ◌+◌, inl, inr, ◌⊎◌, List, [], ◌∷◌, ◌++◌, Contains, length, set, refl, ap, sym, subst, ◌∙◌, arith}
+use Rattle.std.proofs.Common.{◌≡◌, ℕ, zero, suc, ◌+◌, inl, inr, ◌⊎◌, List, [], ◌∷◌, ◌++◌, Contains, length, set, refl, ap, sym, subst, arith}
 use Rattle.std.proofs.lemmas.List.Elements.{Contains-append_left, Contains-append_right, Contains-append_cases}
 use mathlib.Core.Option.{some, some-injective, some-ne-none}
 use lib.ListN.{get_elem?}
@@ -9,12 +9,13 @@ use Rattle.heap_model.specs.Counting.{total}
 use Rattle.heap_model.proofs.MemberLemmas.{in_none}
 use Rattle.core_model.specs.View.{View}
 use Rattle.core_model.specs.Orders.{AreReordered}
+use Rattle.core_model.proofs.CarrierLemmas.{same_seats}
 use Rattle.core_model.proofs.OrderLemmas.{reordered}
 use Rattle.heap_table.specs.Reached.{in_another_order}
 use Rattle.heap_table.specs.SeatViews.{SeatViews, all_views}
 use Rattle.heap_table.specs.Rule.{Opening, HasAllSeats, Holds, setup_for}
 
-total_append : (f : View → ℕ) (xs ys : List View) → total f (xs ++ ys) ≡ total f xs + total f ys
+pub total_append : (f : View → ℕ) (xs ys : List View) → total f (xs ++ ys) ≡ total f xs + total f ys
 total_append f [] ys = omega arith
 total_append f (x ∷ xs) ys = let rest = total_append f xs ys in omega arith
 
@@ -23,7 +24,7 @@ length_total [] = refl
 length_total (x ∷ xs) = let rest = length_total xs in omega arith
 
 -- where one seat of the table stands for other views, the sum over them changes as theirs
-total_set_group : (f : View → ℕ) (groups : List SeatViews) (id : ℕ) (old new : SeatViews) → get_elem? groups id ≡ some old
+pub total_set_group : (f : View → ℕ) (groups : List SeatViews) (id : ℕ) (old new : SeatViews) → get_elem? groups id ≡ some old
     → total f (all_views (set groups id new)) + total f old ≡ total f (all_views groups) + total f new
 total_set_group f [] id old new at = absurd (some-ne-none old (sym at))
 total_set_group f (j ∷ groups) zero old new at =
@@ -31,7 +32,7 @@ total_set_group f (j ∷ groups) zero old new at =
 total_set_group f (j ∷ groups) (suc id) old new at =
     let a = total_append f j (all_views (set groups id new)) in let b = total_append f j (all_views groups) in let rest = total_set_group f groups id old new at in omega arith
 
-total_last : (f : View → ℕ) (groups : List SeatViews) (last : SeatViews) → total f (all_views (groups ++ last ∷ [])) ≡ total f (all_views groups) + total f last
+pub total_last : (f : View → ℕ) (groups : List SeatViews) (last : SeatViews) → total f (all_views (groups ++ last ∷ [])) ≡ total f (all_views groups) + total f last
 total_last f [] last = let a = total_append f last [] in omega arith
 total_last f (j ∷ groups) last =
     let a = total_append f j (all_views (groups ++ last ∷ [])) in let b = total_append f j (all_views groups) in let rest = total_last f groups last in omega arith
@@ -50,20 +51,20 @@ of_all (j ∷ groups) v p = elim (Contains-append_cases j (all_views groups) v p
   | inr later ↦ let rest = of_all groups v later in record { id = suc rest.id; group = rest.group; at = rest.at; has = rest.has }
 ]
 
-in_all : (groups : List SeatViews) (id : ℕ) (group : SeatViews) (v : View) → get_elem? groups id ≡ some group → Contains group v → Contains (all_views groups) v
+pub in_all : (groups : List SeatViews) (id : ℕ) (group : SeatViews) (v : View) → get_elem? groups id ≡ some group → Contains group v → Contains (all_views groups) v
 in_all [] id group v at has = absurd (some-ne-none group (sym at))
 in_all (j ∷ groups) zero group v at has = Contains-append_left j (all_views groups) v (subst (λ (l : SeatViews). Contains l v) (sym (some-injective j group at)) has)
 in_all (j ∷ groups) (suc id) group v at has = Contains-append_right j (all_views groups) v (in_all groups id group v at has)
 
 -- where one seat of the table stands for other views, each view is as before or one of those
-of_set : (groups : List SeatViews) (id : ℕ) (new : SeatViews) (v : View) → Contains (all_views (set groups id new)) v → Contains new v ⊎ Contains (all_views groups) v
+pub of_set : (groups : List SeatViews) (id : ℕ) (new : SeatViews) (v : View) → Contains (all_views (set groups id new)) v → Contains new v ⊎ Contains (all_views groups) v
 of_set groups id new v p = let found = of_all (set groups id new) v p in
     elim (at_set groups id found.id new found.group found.at) [
       | inl here ↦ inl (subst (λ (l : SeatViews). Contains l v) (sym here.1) found.has)
       | inr other ↦ inr (in_all groups found.id found.group v other.1 found.has)
     ]
 
-of_last : (groups : List SeatViews) (last : SeatViews) (v : View) → Contains (all_views (groups ++ last ∷ [])) v → Contains (all_views groups) v ⊎ Contains last v
+pub of_last : (groups : List SeatViews) (last : SeatViews) (v : View) → Contains (all_views (groups ++ last ∷ [])) v → Contains (all_views groups) v ⊎ Contains last v
 of_last groups last v p = let found = of_all (groups ++ last ∷ []) v p in
     elim (at_snoc groups last found.group found.id found.at) [
       | inl before ↦ inl (in_all groups found.id found.group v before found.has)
@@ -75,7 +76,7 @@ keeps_reordered : (o : Opening) (words : List ℕ) (old new : List SeatViews) �
 keeps_reordered o words old new same keeps = record {
   reached = in_another_order words (all_views old) (all_views new) keeps.reached same;
   sound = reordered (setup_for o) words (all_views old) (all_views new) same keeps.sound;
-  count = length_total (all_views new) ∙ same.sums (λ (v : View). 1) ∙ sym (length_total (all_views old)) ∙ keeps.count;
+  counted = same_seats (setup_for o) (all_views old) (all_views new) same keeps.counted;
   few = keeps.few;
   low = keeps.low;
 }

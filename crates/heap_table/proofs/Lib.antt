@@ -7,3 +7,4 @@ pub mod RuleLemmas
 pub mod BudgetLemmas
 pub mod UntakenLemmas
 pub mod StepLemmas
+pub mod HandingLemmas

@@ -1,14 +1,15 @@
 -- What the rule says of an opened heap, and of its first seat.
-use Rattle.std.proofs.Common.{◌≡◌, ℕ, ◌<◌, ◌≤◌, List, [], ◌∷◌, ◌++◌, length, refl, ap, sym, subst, ◌∙◌}
+use Rattle.std.proofs.Common.{◌≡◌, ℕ, ◌<◌, ◌≤◌, List, [], ◌∷◌, ◌++◌, refl, sym, subst}
 use Rattle.std.proofs.lemmas.List.{append-nil}
 use Rattle.heap_model.specs.Rest.{IsReady}
 use Rattle.core_model.specs.Opening.{AreOwners}
 use Rattle.core_model.specs.Sound.{Sound}
-use Rattle.core_model.proofs.OpenLemmas.{length_tabulate}
+use Rattle.core_model.specs.Carriers.{AreSeatsAndCarriers}
 use Rattle.core_model.proofs.OpenedLemmas.{opened}
 use Rattle.heap_table.specs.Reached.{IsReached, at_opening}
-use Rattle.heap_table.specs.Rule.{Opening, HasAllSeats, setup_for, state_of, most_seats, opened_views, opened_view_of}
+use Rattle.heap_table.specs.Rule.{Opening, HasAllSeats, setup_for, state_of, most_seats, opened_views}
 use Rattle.heap_table.specs.SeatViews.{SeatViews, first_view, other_views}
+use Rattle.heap_table.proofs.ReachedLemmas.{opened_counted}
 
 -- a heap at rest keeps the rule at the opening
 pub opened_keeps : (o : Opening) (words : List ℕ) → IsReady o.words o.held → AreOwners o.held o.seats o.block_owners o.root_owners → o.seats ≤ most_seats → o.budget < 1099511627776
@@ -18,7 +19,7 @@ opened_keeps o words ready owners few low are = record {
       (subst (λ ws. IsReached (setup_for o) (state_of o) ws (opened_views o)) (sym are) at_opening);
   sound = subst (Sound (setup_for o) words) (sym (append-nil (opened_views o)))
       (subst (λ ws. Sound (setup_for o) ws (opened_views o)) (sym are) (opened o.words o.held o.budget o.seats o.block_owners o.root_owners ready owners));
-  count = ap length (append-nil (opened_views o)) ∙ length_tabulate (opened_view_of o) 0 o.seats;
+  counted = subst (AreSeatsAndCarriers (setup_for o)) (sym (append-nil (opened_views o))) (opened_counted o);
   few = few;
   low = low;
 }

@@ -14,22 +14,26 @@ use Rattle.core_model.specs.Guards.{IsOwn, MayStep}
 use Rattle.core_model.specs.Sound.{Sound}
 use Rattle.core_model.specs.Steps.{found_by, words_after, seat_after}
 use Rattle.core_model.proofs.SoundLemmas.{in_table, sound_step}
+use Rattle.core_model.specs.Carriers.{AreSeatsAndCarriers}
+use Rattle.core_model.proofs.CarrierLemmas.{same_roles}
+use Rattle.core_model.proofs.RoleLemmas.{role_after}
 use Rattle.seat_notes.proofs.WordLemmas.{read_is}
 use Rattle.heap_table.specs.SeatViews.{SeatViews, IsSingle, all_views}
 use Rattle.heap_table.specs.Reached.{IsReached, by_event, by_record, learned}
 use Rattle.heap_table.specs.Rule.{Opening, HasAllSeats, Holds, setup_for, state_of}
 use Rattle.heap_table.specs.Plays.{HasSoundState, IsStepAt, Did, DidStore, DidRead, DidLearn}
 use Rattle.heap_table.proofs.ReachedLemmas.{recorded_sound}
-use Rattle.heap_table.proofs.SeatViewsLemmas.{offset, offset_below, at_offset, set_offset, same_seats}
+use Rattle.heap_table.proofs.SeatViewsLemmas.{offset, offset_below, at_offset, set_offset}
 
 -- the state of the table, as one in which the seat has the view
-abbrev pub state_with : (o : Opening) (words : List ℕ) (groups : List SeatViews) (id : ℕ) (group : SeatViews) (v : View) → v.setup ≡ setup_for o → HasAllSeats o words groups → get_elem? groups id ≡ some group → IsSingle group v → HasSoundState v
-state_with o words groups id group v setup holds at single = record {
+abbrev pub state_with : (o : Opening) (words : List ℕ) (groups : List SeatViews) (id : ℕ) (group : SeatViews) (v : View) → v.setup ≡ setup_for o → v.carries ≡ 0 → HasAllSeats o words groups → get_elem? groups id ≡ some group → IsSingle group v → HasSoundState v
+state_with o words groups id group v setup seat holds at single = record {
   words = words;
   views = all_views groups;
   seat = offset id groups;
   sound = subst (λ k. Sound k words (all_views groups)) (sym setup) holds.sound;
-  count = holds.count ∙ sym (ap (λ (s : Setup). s.seats) setup);
+  counted = subst (λ k. AreSeatsAndCarriers k (all_views groups)) (sym setup) holds.counted;
+  is_seat = seat;
   below = offset_below groups id group v at single;
   at = at_offset groups id group v at single;
 }
@@ -39,7 +43,7 @@ pub allowed : (o : Opening) (count id : ℕ) (group : SeatViews) (slots : List (
 allowed o count id group slots v event place f single is s holds none at fits =
     (w ∷ [], keeps, tt, kept, did) where
       has : HasSoundState v
-      has = state_with o s.words s.views id group v is.setup holds at single
+      has = state_with o s.words s.views id group v is.setup is.is_seat holds at single
 
       step : MayStep (memory_of v.setup.capacity s.words) v event
       step = is.may has
@@ -73,13 +77,13 @@ allowed o count id group slots v event place f single is s holds none at fits =
 
       reached : IsReached v.setup (state_of o) (words_after v.setup s.words v event) (set (all_views s.views) has.seat w)
       reached = subst (λ u. IsReached v.setup (state_of o) (words_after v.setup s.words v event) (set (all_views s.views) has.seat u)) (sym w_is)
-          (by_event s.words (all_views s.views) has.seat v event (subst (λ k. IsReached k (state_of o) s.words (all_views s.views)) (sym is.setup) holds.reached) has.below has.at step)
+          (by_event s.words (all_views s.views) has.seat v event (subst (λ k. IsReached k (state_of o) s.words (all_views s.views)) (sym is.setup) holds.reached) has.below has.at is.is_seat step)
 
       kept : HasAllSeats o (set s.words place (f found)) (set s.views id (w ∷ []))
       kept = record {
         reached = told (λ k. IsReached k (state_of o)) reached;
         sound = told Sound sound;
-        count = same_seats s.views id group v w at single ∙ holds.count;
+        counted = told (λ k ws. AreSeatsAndCarriers k) (same_roles v.setup (all_views s.views) has.seat v w has.below has.at has.counted is.is_seat (role_after (memory_of v.setup.capacity s.words) v event found));
         few = holds.few;
         low = holds.low;
       }
@@ -101,23 +105,23 @@ allowed_store o count id group slots v event place value single is s holds none 
     (r.0, r.1, r.2, r.3, record { found = get_or s.words place 0; did = r.4 })
 
 -- a read that changes nothing
-pub allowed_read : (o : Opening) (count id : ℕ) (group : SeatViews) (slots : List (ℕ × ℕ)) (v : View) (place : ℕ) → IsSingle group v → v.setup ≡ setup_for o
+pub allowed_read : (o : Opening) (count id : ℕ) (group : SeatViews) (slots : List (ℕ × ℕ)) (v : View) (place : ℕ) → IsSingle group v → v.setup ≡ setup_for o → v.carries ≡ 0
     → Allows (Holds o) count id (group, slots) place (λ n. n) (λ found after. DidRead place (group, slots) found after)
-allowed_read o count id group slots v place single setup s holds none at fits = (
+allowed_read o count id group slots v place single setup seat s holds none at fits = (
   group,
   keeps,
   tt,
   subst (λ ws. HasAllSeats o ws (set s.views id group)) (sym (set-get_or s.words place 0)) (subst (λ js. HasAllSeats o s.words js) (sym (set_again s.views id group at)) holds),
-  record { same = refl; view = v; single = single; has = state_with o s.words s.views id group v setup holds at single; found_is = refl },
+  record { same = refl; view = v; single = single; has = state_with o s.words s.views id group v setup seat holds at single; found_is = refl },
 )
 
 -- a read of an own word that is recorded
-pub allowed_learn : (o : Opening) (count id : ℕ) (group : SeatViews) (slots : List (ℕ × ℕ)) (v : View) (word : ℕ) → IsSingle group v → v.setup ≡ setup_for o → IsOwn v (cell_at v.setup.capacity word)
+pub allowed_learn : (o : Opening) (count id : ℕ) (group : SeatViews) (slots : List (ℕ × ℕ)) (v : View) (word : ℕ) → IsSingle group v → v.setup ≡ setup_for o → v.carries ≡ 0 → IsOwn v (cell_at v.setup.capacity word)
     → Allows (Holds o) count id (group, slots) word (λ n. n) (λ found after. DidLearn word (group, slots) found after)
-allowed_learn o count id group slots v word single setup own s holds none at fits =
+allowed_learn o count id group slots v word single setup seat own s holds none at fits =
     (w ∷ [], keeps, tt, kept, record { view = v; single = single; now = refl; before = has; found_is = refl; has = has_w }) where
       has : HasSoundState v
-      has = state_with o s.words s.views id group v setup holds at single
+      has = state_with o s.words s.views id group v setup seat holds at single
 
       found : ℕ
       found = get_or s.words word 0
@@ -137,7 +141,7 @@ allowed_learn o count id group slots v word single setup own s holds none at fit
       kept = record {
         reached = told (λ k. IsReached k (state_of o)) (by_record s.words (all_views s.views) has.seat v word (subst (λ k. IsReached k (state_of o) s.words (all_views s.views)) (sym setup) holds.reached) has.below has.at own);
         sound = told Sound sound;
-        count = same_seats s.views id group v w at single ∙ holds.count;
+        counted = told (λ k ws. AreSeatsAndCarriers k) (same_roles v.setup (all_views s.views) has.seat v w has.below has.at has.counted seat refl);
         few = holds.few;
         low = holds.low;
       }
@@ -148,7 +152,8 @@ allowed_learn o count id group slots v word single setup own s holds none at fit
         views = set (all_views s.views) has.seat w;
         seat = has.seat;
         sound = sound;
-        count = length-set (all_views s.views) has.seat w ∙ has.count;
+        counted = same_roles v.setup (all_views s.views) has.seat v w has.below has.at has.counted seat refl;
+        is_seat = seat;
         below = let l = length-set (all_views s.views) has.seat w in let b = has.below in omega arith;
         at = get_or-set_same (all_views s.views) has.seat w w has.below;
       }

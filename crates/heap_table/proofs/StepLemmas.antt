@@ -18,7 +18,9 @@ use Rattle.heap_table.specs.SeatViews.{SeatViews, IsSingle, all_views, view_in, 
 use Rattle.heap_table.specs.Rule.{Opening, HasAllSeats, setup_for}
 use Rattle.heap_table.specs.Plays.{HasSoundState, May, IsEvent, IsStepAt, Did}
 use Rattle.seat_notes.proofs.WordLemmas.{read_is}
-use Rattle.seat_notes.proofs.CountLemmas.{stopped_most}
+use Rattle.core_model.specs.Carriers.{AreSeatsAndCarriers}
+use Rattle.core_model.proofs.CarrierLemmas.{same_roles, stopped_few}
+use Rattle.core_model.proofs.RoleLemmas.{Role, role, role_after}
 use Rattle.heap_table.specs.AtTable.{SharedView, IsAt, IsLook, IsDraw, IsRaise, IsExchange, IsStore}
 
 -- the place of a step is one of the table
@@ -39,7 +41,8 @@ has_after event v found w e = (
     views = set e.before.views e.before.seat w;
     seat = e.before.seat;
     sound = subst (λ k. Sound k (words_after v.setup e.before.words v event) (set e.before.views e.before.seat w)) (sym same) e.kept;
-    count = length-set e.before.views e.before.seat w ∙ e.before.count ∙ sym (ap (λ (s : Setup). s.seats) same);
+    counted = subst (λ k. AreSeatsAndCarriers k (set e.before.views e.before.seat w)) (sym same) (same_roles v.setup e.before.views e.before.seat v w e.before.below e.before.at e.before.counted e.before.is_seat roles);
+    is_seat = ap (λ (r : Role). r.carries) roles ∙ e.before.is_seat;
     below = below;
     at = at;
   },
@@ -53,6 +56,9 @@ has_after event v found w e = (
 
   same : w.setup ≡ v.setup
   same = (e.kept.good.set_up e.before.seat w below at).setup
+
+  roles : role w ≡ role v
+  roles = ap role e.after ∙ role_after (memory_of v.setup.capacity e.before.words) v event found
 
 -- what a seat is after the event
 pub record IsAfter (shared : SharedView) (table : TableId) (event : Event) (me : Me ℕ SeatViews) (found : ℕ) (me' : Me ℕ SeatViews) : Type 0 where
@@ -81,9 +87,10 @@ after_did shared table table' event me found me' at same did = record {
   single = ap (λ (m : Me ℕ SeatViews). m.0) did.now ∙ ap (λ u. u ∷ []) (sym left_is)
 
 -- a look leaves the word as it is
-pub look_at : (o : Opening) (v : View) (event : Event) (place : ℕ) → v.setup ≡ setup_for o → May v event → place ≡ table_index v.setup.capacity (place_of v event) → IsLook event → IsStepAt o v event place (λ n. n)
-look_at o v event place setup may place_is look = record {
+pub look_at : (o : Opening) (v : View) (event : Event) (place : ℕ) → v.setup ≡ setup_for o → v.carries ≡ 0 → May v event → place ≡ table_index v.setup.capacity (place_of v event) → IsLook event → IsStepAt o v event place (λ n. n)
+look_at o v event place setup seat may place_is look = record {
   setup = setup;
+  is_seat = seat;
   may = may;
   place_is = place_is;
   leaves = λ words groups keeps s same all. sym (look (memory_of v.setup.capacity words) v (get_or words place 0));
@@ -98,11 +105,12 @@ look_below v d s look = elim look [
 
 -- a draw does not wrap: fewer tickets are drawn than the budget and the seats
 drawn_below : (o : Opening) (words : List ℕ) (groups : List SeatViews) → HasAllSeats o words groups → get_or words (2 * image_words (setup_for o).capacity) 0 + 1 < 18446744073709551616
-drawn_below o words groups keeps = let d = keeps.sound.good.adds.stopped in let most = stopped_most (all_views groups) in let c = keeps.count in let f = keeps.few in let l = keeps.low in omega arith
+drawn_below o words groups keeps = let d = keeps.sound.good.adds.stopped in let most = stopped_few (setup_for o) (all_views groups) keeps.counted in let f = keeps.few in let l = keeps.low in omega arith
 
-pub draw_at : (o : Opening) (v : View) (event : Event) (place : ℕ) → v.setup ≡ setup_for o → May v event → place ≡ table_index v.setup.capacity (place_of v event) → IsDraw event → IsStepAt o v event place (λ n. (n + 1) % 2 ^ 64)
-draw_at o v event place setup may place_is draw = record {
+pub draw_at : (o : Opening) (v : View) (event : Event) (place : ℕ) → v.setup ≡ setup_for o → v.carries ≡ 0 → May v event → place ≡ table_index v.setup.capacity (place_of v event) → IsDraw event → IsStepAt o v event place (λ n. (n + 1) % 2 ^ 64)
+draw_at o v event place setup seat may place_is draw = record {
   setup = setup;
+  is_seat = seat;
   may = may;
   place_is = place_is;
   leaves = λ words groups keeps s same all.
@@ -111,18 +119,20 @@ draw_at o v event place setup may place_is draw = record {
       mod-eq_of_lt less ∙ sym ((draw v).1 (memory_of v.setup.capacity words) (get_or words place 0));
 }
 
-pub raise_at : (o : Opening) (v : View) (event : Event) (place value : ℕ) → v.setup ≡ setup_for o → May v event → place ≡ table_index v.setup.capacity (place_of v event) → IsRaise event v value → IsStepAt o v event place (λ n. max n value)
-raise_at o v event place value setup may place_is raise = record {
+pub raise_at : (o : Opening) (v : View) (event : Event) (place value : ℕ) → v.setup ≡ setup_for o → v.carries ≡ 0 → May v event → place ≡ table_index v.setup.capacity (place_of v event) → IsRaise event v value → IsStepAt o v event place (λ n. max n value)
+raise_at o v event place value setup seat may place_is raise = record {
   setup = setup;
+  is_seat = seat;
   may = may;
   place_is = place_is;
   leaves = λ words groups keeps s same all. sym (raise (memory_of v.setup.capacity words) (get_or words place 0));
 }
 
-pub exchange_at : (o : Opening) (v : View) (event : Event) (place seen new : ℕ) → v.setup ≡ setup_for o → May v event → place ≡ table_index v.setup.capacity (place_of v event) → IsExchange event v seen new
+pub exchange_at : (o : Opening) (v : View) (event : Event) (place seen new : ℕ) → v.setup ≡ setup_for o → v.carries ≡ 0 → May v event → place ≡ table_index v.setup.capacity (place_of v event) → IsExchange event v seen new
     → IsStepAt o v event place (λ n. either (n == seen) new n)
-exchange_at o v event place seen new setup may place_is exchange = record {
+exchange_at o v event place seen new setup seat may place_is exchange = record {
   setup = setup;
+  is_seat = seat;
   may = may;
   place_is = place_is;
   leaves = λ words groups keeps s same all.
@@ -132,9 +142,10 @@ exchange_at o v event place seen new setup may place_is exchange = record {
       subst (λ ws. either (get_or ws place 0 == seen) new (get_or ws place 0) ≡ left_there (memory_of v.setup.capacity ws) v event (get_or ws place 0)) same (sym (exchange s (get_or s.words place 0) found_is));
 }
 
-pub store_at : (o : Opening) (v : View) (event : Event) (place value : ℕ) → v.setup ≡ setup_for o → May v event → place ≡ table_index v.setup.capacity (place_of v event) → IsStore event v value → IsStepAt o v event place (λ _. value)
-store_at o v event place value setup may place_is store = record {
+pub store_at : (o : Opening) (v : View) (event : Event) (place value : ℕ) → v.setup ≡ setup_for o → v.carries ≡ 0 → May v event → place ≡ table_index v.setup.capacity (place_of v event) → IsStore event v value → IsStepAt o v event place (λ _. value)
+store_at o v event place value setup seat may place_is store = record {
   setup = setup;
+  is_seat = seat;
   may = may;
   place_is = place_is;
   leaves = λ words groups keeps s same all. subst (λ ws. value ≡ left_there (memory_of v.setup.capacity ws) v event (get_or words place 0)) same (sym (store s (get_or words place 0)));

@@ -23,7 +23,7 @@ use Rattle.core_model.proofs.SoundLemmas.{in_table}
 use Rattle.core_model.proofs.TableLemmas.{is_place, memory_set}
 use Rattle.core_model.proofs.TotalLemmas.{total_at}
 use Rattle.heap_table.specs.AtTable.{IsClosedReached}
-use Rattle.heap_table.specs.Reached.{IsReached, at_opening, by_event, by_record, in_another_order}
+use Rattle.heap_table.specs.Reached.{IsReached, at_opening, by_event, by_record, by_offer, by_accept, in_another_order}
 use Rattle.heap_table.specs.Rule.{Opening, setup_for, state_of}
 use Rattle.heap_table.proofs.BudgetLemmas.{at_kept, at_now, opened_long}
 use Rattle.heap_table.proofs.ReachedLemmas.{reached_sound}
@@ -123,7 +123,7 @@ reached_untaken : (k : Setup) (start : TableState) → Sound k start.words start
     → (word : ℕ) → start_word k.capacity 0 ≤ word → word < superblocks_end k.capacity → used (memory_of k.capacity words) ≤ superblock_at k.capacity word
     → (get_or words word 0 ≡ get_or start.words word 0) × (get_or words (image_words k.capacity + word) 0 ≡ get_or start.words (image_words k.capacity + word) 0)
 reached_untaken k start sound _ _ at_opening word from until past = (refl, refl)
-reached_untaken k start sound _ _ (by_event words views i v event before below at may) word from until past =
+reached_untaken k start sound _ _ (by_event words views i v event before below at seat may) word from until past =
     let so_far = reached_untaken k start sound words views before word from until earlier in
     (get_or-set_other words (table_index k.capacity p) word x 0 apart.0 ∙ so_far.0, get_or-set_other words (table_index k.capacity p) (image_words k.capacity + word) x 0 apart.1 ∙ so_far.1) where
       m : Memory
@@ -148,6 +148,8 @@ reached_untaken k start sound _ _ (by_event words views i v event before below a
       apart : (word ≢ table_index k.capacity p) × (image_words k.capacity + word ≢ table_index k.capacity p)
       apart = index_apart k.capacity p there word from until (no_data k m views i v below at sound_before.good event may word earlier)
 reached_untaken k start sound _ _ (by_record words views i v at_word before below at own) word from until past = reached_untaken k start sound words views before word from until past
+reached_untaken k start sound _ _ (by_offer words views i v b before below at may held) word from until past = reached_untaken k start sound words views before word from until past
+reached_untaken k start sound _ _ (by_accept words old new v u before has_v has_u may carries less) word from until past = reached_untaken k start sound words old before word from until past
 reached_untaken k start sound _ _ (in_another_order words old new before same) word from until past = reached_untaken k start sound words old before word from until past
 
 pub never_taken : (o : Opening) (now kept : List ℕ) (views : List View) → IsReady o.words o.held → AreOwners o.held o.seats o.block_owners o.root_owners → IsClosedReached o now kept views

@@ -1,9 +1,11 @@
 -- What contracts see of the table, when a seat of it may take a step, and what a step leaves of its word.
-use Rattle.std.specs.Prelude.{◌≡◌, ℕ, ◌+◌, cond, nat_eq, max, List, [], ◌∷◌, ◌++◌, length}
+use Rattle.std.specs.Prelude.{◌≡◌, ℕ, ◌+◌, ◌-◌, cond, nat_eq, max, List, [], ◌∷◌, ◌++◌, length}
+use Rattle.heap_model.specs.Counting.{total}
 use Rattle.heap_model.specs.Geometry.{image_words}
 use Rattle.atomic_table.specs.Seated.{TableId}
 use Rattle.atomic_table.specs.Table.{Me}
 use Rattle.core_model.specs.declared.event.Event.{Event}
+use Rattle.core_model.specs.Carriers.{AreSeatsAndCarriers}
 use Rattle.core_model.specs.Effects.{place_of, left_there}
 use Rattle.core_model.specs.Memory.{Memory, memory_of, tickets}
 use Rattle.core_model.specs.Sound.{Sound}
@@ -50,7 +52,7 @@ pub record IsClosedSound (k : Setup) (now kept : List ℕ) (views : List View) :
   pub kept_long : length kept ≡ image_words k.capacity
   pub drawn : ℕ
   pub sound : Sound k (now ++ (kept ++ (drawn ∷ []))) views
-  pub count : length views ≡ k.seats
+  pub counted : AreSeatsAndCarriers k views
 
 -- the volatile words of an image and the durable ones, with some ticket word, are what the opened heap came to, with these views
 pub record IsClosedReached (o : Opening) (now kept : List ℕ) (views : List View) : Type 0 where
@@ -58,3 +60,8 @@ pub record IsClosedReached (o : Opening) (now kept : List ℕ) (views : List Vie
   pub kept_long : length kept ≡ image_words (setup_for o).capacity
   pub drawn : ℕ
   pub reached : IsReached (setup_for o) (state_of o) (now ++ (kept ++ (drawn ∷ []))) views
+
+-- the views of so many seats, and of each carrier that they made and that none took in
+pub record AreAll (seats : ℕ) (views : List View) : Type 0 where
+  pub seats_are : total (λ (v : View). 1 - v.carries) views ≡ seats
+  pub carriers_are : total (λ (v : View). v.carries) views + total (λ (v : View). v.accepts) views ≡ total (λ (v : View). v.offers) views

@@ -75,4 +75,4 @@ pub leaves_each_durable_word : (now : List ℕ) (views : List View) → IsClosed
 leaves_each_durable_word now views closed = differ 0 (image_words 0) closed.kept_long (omega arith)
 
 pub leaves_each_view : (k : Setup) (now kept : List ℕ) → IsClosedSound (record k { seats = 1 }) now kept [] → ⊥
-leaves_each_view k now kept closed = differ 0 1 closed.count (omega arith)
+leaves_each_view k now kept closed = differ 0 1 closed.counted.seats (omega arith)

@@ -4,6 +4,7 @@ use Rattle.atomic_table.specs.Table.{Me}
 use Rattle.core_model.specs.declared.event.Event.{Event}
 use Rattle.core_model.specs.Memory.{memory_of, table_index}
 use Rattle.core_model.specs.View.{View}
+use Rattle.core_model.specs.Carriers.{AreSeatsAndCarriers}
 use Rattle.core_model.specs.Effects.{place_of, left_there, view_after}
 use Rattle.core_model.specs.Guards.{MayStep}
 use Rattle.core_model.specs.Sound.{Sound}
@@ -12,13 +13,14 @@ use Rattle.heap_table.specs.Reached.{learned}
 use Rattle.heap_table.specs.SeatViews.{SeatViews, IsSingle, all_views}
 use Rattle.heap_table.specs.Rule.{Opening, HasAllSeats, setup_for}
 
--- a sound state of all seats that the heap was opened for, in which one has the view
+-- a sound state of all seats that the heap was opened for, and of carriers, in which one of the seats has the view
 pub record HasSoundState (v : View) : Type 0 where
   pub words : List ℕ
   pub views : List View
   pub seat : ℕ
   pub sound : Sound v.setup words views
-  pub count : length views ≡ v.setup.seats
+  pub counted : AreSeatsAndCarriers v.setup views
+  pub is_seat : v.carries ≡ 0
   pub below : seat < length views
   pub at : get_or views seat v ≡ v
 
@@ -57,6 +59,7 @@ pub record DidStore (event : Event) (me : Me ℕ SeatViews) (me' : Me ℕ SeatVi
 -- the event works on this word, which becomes f of what it was: in each state of the table in which the seat has the view
 pub record IsStepAt (o : Opening) (v : View) (event : Event) (place : ℕ) (f : ℕ → ℕ) : Type 0 where
   pub setup : v.setup ≡ setup_for o
+  pub is_seat : v.carries ≡ 0
   pub may : May v event
   pub place_is : place ≡ table_index v.setup.capacity (place_of v event)
   pub leaves : (words : List ℕ) (groups : List SeatViews) → HasAllSeats o words groups → (s : HasSoundState v) → s.words ≡ words

@@ -1,8 +1,9 @@
 -- What is so of the words of the table and of the seats' views between any two atomic steps.
-use Rattle.std.specs.Prelude.{◌≡◌, ℕ, ◌<◌, ◌≤◌, List, [], ◌∷◌, length}
+use Rattle.std.specs.Prelude.{ℕ, ◌<◌, ◌≤◌, List, [], ◌∷◌}
 use Rattle.heap_model.specs.declared.block.Block.{Block}
 use Rattle.atomic_table.specs.Table.{State}
 use Rattle.core_model.specs.View.{Setup, View}
+use Rattle.core_model.specs.Carriers.{AreSeatsAndCarriers}
 use Rattle.core_model.specs.Sound.{Sound}
 use Rattle.core_model.specs.Steps.{TableState}
 use Rattle.core_model.specs.Opening.{setup_of, opened_view, opened_state}
@@ -41,11 +42,11 @@ state_of o = opened_state (setup_for o) o.held o.block_owners o.root_owners o.se
 abbrev pub most_seats : ℕ
 most_seats = 8
 
--- the words and the views are what the opened heap came to; they are sound, and all the seats are there
+-- the words and the views are what the opened heap came to; they are sound, and all the seats are there, and the carriers
 pub record HasAllSeats (o : Opening) (words : List ℕ) (groups : List SeatViews) : Type 0 where
   pub reached : IsReached (setup_for o) (state_of o) words (all_views groups)
   pub sound : Sound (setup_for o) words (all_views groups)
-  pub count : length (all_views groups) ≡ o.seats
+  pub counted : AreSeatsAndCarriers (setup_for o) (all_views groups)
   pub few : o.seats ≤ most_seats
   pub low : o.budget < 1099511627776
 

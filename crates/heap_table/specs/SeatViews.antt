@@ -1,5 +1,7 @@
 -- What a seat of the table stands for.
 use Rattle.std.specs.Prelude.{◌≡◌, List, [], ◌∷◌, ◌++◌, get_or}
+use Rattle.heap_model.specs.declared.block.Block.{Block}
+use Rattle.core_model.specs.Carriers.{accepted, carrier_of, offered}
 use Rattle.core_model.specs.View.{View}
 use Rattle.core_model.specs.Opening.{setup_of, plain_view}
 
@@ -36,3 +38,17 @@ other_views (v ∷ group) = group
 -- the views of another seat of the table come before its own
 abbrev pub joined_views : SeatViews → SeatViews → SeatViews
 joined_views mine theirs = theirs ++ mine
+
+-- a seat that offers a block, and the carrier of it
+abbrev pub no_block : Block
+no_block = record { first_word = 0; words = 0 }
+
+abbrev pub left_by_offer : Block → SeatViews → SeatViews
+left_by_offer b group = offered (view_in group) b.first_word ∷ []
+
+abbrev pub made_by_offer : Block → SeatViews → SeatViews
+made_by_offer b group = carrier_of (view_in group) b.first_word ∷ []
+
+-- a seat that takes in what a carrier has
+abbrev pub left_by_accept : SeatViews → SeatViews → SeatViews
+left_by_accept mine theirs = accepted (view_in mine) (view_in theirs) ∷ []

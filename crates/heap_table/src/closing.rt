@@ -3,7 +3,7 @@
 ghost use Rattle.std.specs.Prelude.{◌≡◌, ◌≤◌, ◌+◌, [], length, IfOk};
 ghost use lib.ListN.{take, drop};
 ghost use Rattle.std.specs.Slots.{slots_items, slots_len, IsFull};
-ghost use Rattle.heap_table.specs.AtTable.{IsClosedReached, IsClosedSound};
+ghost use Rattle.heap_table.specs.AtTable.{AreAll, IsClosedReached, IsClosedSound};
 ghost use Rattle.heap_table.specs.Rule.{setup_for};
 ghost use Rattle.heap_table.specs.SeatViews.{joined_views};
 
@@ -54,11 +54,12 @@ pub fn join(shared: &Shared, seat: &mut TableSeat, other: TableSeat)
     shared.table.shared.join_seat::<Together>(seat, other);
 }
 
-/// Closes a table, once one seat stands for all seats of the heap. It leaves the two values of
+/// Closes a table, once one seat stands for all seats of the heap, and for each
+/// carrier that they made and that none took in. It leaves the two values of
 /// each word. It fails only where memory runs out.
 pub fn close_table(alloc: Global, shared: Shared, last: TableSeat) -> Result<Closed, AllocError>
     requires table { last.table_id ≡ shared.table }
-    requires all { length last.me.0 ≡ shared.opening.seats }
+    requires all { AreAll shared.opening.seats last.me.0 }
     ensures sound { IfOk result (λ c.
         IsClosedSound (setup_for shared.opening) c.now c.kept last.me.0) }
     ensures reached { IfOk result (λ c. IsClosedReached shared.opening c.now c.kept last.me.0) }

@@ -3,6 +3,7 @@
 #![tactic(auto)]
 
 mod closing;
+mod handing;
 mod laws;
 mod opening;
 mod plays;
@@ -11,6 +12,7 @@ mod shared;
 mod steps;
 
 pub use closing::{close_table, fresh_seat, join};
+pub use handing::{accept, offer};
 pub use laws::{
     a_heap_without_a_budget_stays_as_it_was_opened,
     a_superblock_that_was_never_taken_stays_as_it_was_opened, what_a_heap_comes_to_is_sound,

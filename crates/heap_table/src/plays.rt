@@ -63,7 +63,7 @@ pub(crate) fn read_as(shared: &Words, seat: &mut TableSeat, place: usize) -> u64
     requires table { seat.old.table_id ≡ shared.now.table_id }
     requires inside { place < shared.now.table_id.words }
     requires single { (v : View) × IsSingle seat.old.me.0 v
-        × (v.setup ≡ setup_for shared.now.key) }
+        × (v.setup ≡ setup_for shared.now.key) × (v.carries ≡ 0) }
     ensures did { DidRead place seat.old.me result seat.new.me }
     ensures table { seat.new.table_id ≡ seat.old.table_id }
 {
@@ -84,7 +84,7 @@ pub(crate) fn learn_as(shared: &Words, seat: &mut TableSeat, word: usize) -> u64
     requires table { seat.old.table_id ≡ shared.now.table_id }
     requires inside { word < shared.now.table_id.words }
     requires own { (v : View) × IsSingle seat.old.me.0 v × (v.setup ≡ setup_for shared.now.key)
-        × IsOwn v (cell_at v.setup.capacity word) }
+        × (v.carries ≡ 0) × IsOwn v (cell_at v.setup.capacity word) }
     ensures did { DidLearn word seat.old.me result seat.new.me }
     ensures table { seat.new.table_id ≡ seat.old.table_id }
 {

@@ -38,6 +38,7 @@ nothing_won v w wins taken p = record {
   passes = record {
     setup = p.passes.setup;
     roots = p.passes.roots;
+    role_is = p.passes.role_is;
     floor = p.passes.floor;
     next = p.passes.next;
     tickets = p.passes.tickets;

@@ -1,7 +1,7 @@
 -- Rows to views that differ in little: in nothing that rows speak of, in what is recorded of words, or in counts.
 use Rattle.std.proofs.Common.{◌≡◌, ◌≤◌, ℕ, zero, suc, ◌+◌, max, inl, get_or, List, [], Option, None, refl, ap, sym, subst, ◌∙◌, arith}
 use Rattle.core_model.specs.Effects.{claimed, drew, lost, trimmed, won}
-use Rattle.core_model.specs.View.{LastLook, Setup, Span, View, no_batch}
+use Rattle.core_model.specs.View.{LastLook, Role, role, Setup, Span, View, no_batch}
 use Rattle.seat_rows.specs.Costs.{Costs, NoneFalls, RisesBy, no_costs, one_draw, one_loss, one_win, one_give, one_move}
 use Rattle.seat_rows.specs.Rows.{Passes, ViewRow, after_ticket, next_of}
 use Rattle.seat_rows.specs.Words.{IsHeldWord, KeepsWord}
@@ -23,9 +23,10 @@ pub record Standing : Type 0 where
   losses : ℕ
   gives : ℕ
   moves : ℕ
+  role_of : Role
 
 abbrev pub standing : View → Standing
-standing v = record { setup = v.setup; roots = v.roots; used_look = v.used_look; head_looks = v.head_looks; floor = v.floor; last_ticket = v.last_ticket; taken = v.taken; draws = v.draws; cuts = v.cuts; wins = v.wins; losses = v.losses; gives = v.gives; moves = v.moves }
+standing v = record { setup = v.setup; roots = v.roots; used_look = v.used_look; head_looks = v.head_looks; floor = v.floor; last_ticket = v.last_ticket; taken = v.taken; draws = v.draws; cuts = v.cuts; wins = v.wins; losses = v.losses; gives = v.gives; moves = v.moves; role_of = role v }
 
 -- with the held blocks; and with what is recorded too
 abbrev pub holding : View → Standing × List (List ℕ) × List Span
@@ -67,12 +68,16 @@ plain s = record {
   losses = s.losses;
   gives = s.gives;
   moves = s.moves;
+  carries = s.role_of.carries;
+  offers = s.role_of.offers;
+  accepts = s.role_of.accepts;
 }
 
 to_plain : {a : Costs} (v w : View) → Passes a v w → Passes a v (plain (standing w))
 to_plain v w p = record {
   setup = p.setup;
   roots = p.roots;
+  role_is = p.role_is;
   floor = p.floor;
   next = p.next;
   tickets = p.tickets;
@@ -85,6 +90,7 @@ from_plain : {a : Costs} (v w : View) → Passes a v (plain (standing w)) → Pa
 from_plain v w p = record {
   setup = p.setup;
   roots = p.roots;
+  role_is = p.role_is;
   floor = p.floor;
   next = p.next;
   tickets = p.tickets;
@@ -121,6 +127,7 @@ pub passes_counted : {a : Costs} (v w : View) → standing w ≡ counted v w →
 passes_counted v w same floor few more most = record {
   setup = ap (λ (s : Standing). s.setup) same;
   roots = ap (λ (s : Standing). s.roots) same;
+  role_is = ap (λ (s : Standing). s.role_of) same;
   floor = floor;
   next = let e = ap (λ (s : Standing). after_ticket s.last_ticket) same in omega arith;
   tickets = let e = ap (λ (s : Standing). after_ticket s.last_ticket) same in omega arith;
@@ -197,6 +204,7 @@ drew_row v ticket later = record {
   passes = record {
     setup = refl;
     roots = refl;
+    role_is = refl;
     floor = omega arith;
     next = omega arith;
     tickets = omega arith;

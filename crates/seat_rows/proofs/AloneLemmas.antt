@@ -1,5 +1,5 @@
 -- A seat that is alone.
-use Rattle.std.proofs.Common.{◌≡◌, ◌<◌, ◌≤◌, ℕ, zero, suc, ◌+◌, inl, inr, Bool, true, false, cond, nat_eq, nat_lt, get_or, set, length, length-set, slice_index, List, [], ◌∷◌, ◌++◌, Contains, Option, None, Some, refl, ap, sym, subst, ◌∙◌, lt-ltb, arith}
+use Rattle.std.proofs.Common.{◌≡◌, ◌<◌, ◌≤◌, ℕ, zero, suc, ◌+◌, inl, inr, Bool, true, false, cond, nat_eq, nat_lt, get_or, set, length, length-set, slice_index, List, [], ◌∷◌, ◌++◌, Contains, Option, None, Some, refl, ap, sym, subst, ◌∙◌, lt-ltb, arith, length-append}
 use Rattle.std.proofs.lemmas.Bool.{cases_eq}
 use Rattle.std.proofs.lemmas.List.{get_or_append_left, get_or-set_same, get_or-set_other}
 use Rattle.heap_model.specs.declared.block.Block.{Block}
@@ -17,8 +17,12 @@ use Rattle.core_model.specs.Guards.{IsOwn, MayStep}
 use Rattle.core_model.specs.Memory.{Memory, head, used, memory_of, write, with_cell, volatile_at}
 use Rattle.core_model.specs.Opening.{AreOwners, opened_view, unlooked}
 use Rattle.core_model.specs.Sound.{Good, Sound}
-use Rattle.core_model.specs.Steps.{TableState, memory_after, seat_after, words_after}
-use Rattle.core_model.specs.View.{LastLook, Setup, View, no_batch, times_own}
+use Rattle.core_model.specs.Steps.{TableState, found_by, memory_after, seat_after, words_after}
+use Rattle.heap_model.specs.Counting.{total}
+use Rattle.core_model.specs.Carriers.{AreSeatsAndCarriers, carrier_of, offered}
+use Rattle.core_model.specs.View.{LastLook, Role, Setup, View, no_batch, times_own}
+use Rattle.core_model.proofs.RoleLemmas.{role_after}
+use Rattle.core_model.proofs.TotalLemmas.{total_at}
 use Rattle.core_model.proofs.FrameLemmas.{with_other}
 use Rattle.core_model.proofs.MemoryLemmas.{same-true}
 use Rattle.core_model.proofs.OpenLemmas.{length_tabulate, tabulate_at}
@@ -30,10 +34,10 @@ use Rattle.core_model.proofs.TableLemmas.{memory_set}
 use Rattle.heap_model.proofs.MemberLemmas.{head_or_rest, in_head, in_none}
 use Rattle.heap_table.specs.AtTable.{IsClosedReached}
 use Rattle.heap_table.specs.Plays.{IsEvent}
-use Rattle.heap_table.specs.Reached.{IsReached, at_opening, by_event, by_record, in_another_order, learned}
+use Rattle.heap_table.specs.Reached.{IsReached, at_opening, by_event, by_record, by_offer, by_accept, in_another_order, learned}
 use Rattle.heap_table.specs.Rule.{Opening, opened_view_of, setup_for, state_of}
 use Rattle.heap_table.proofs.DealLemmas.{length_total}
-use Rattle.heap_table.proofs.ReachedLemmas.{reached_sound}
+use Rattle.heap_table.proofs.ReachedLemmas.{opened_counted, reached_counted, reached_sound}
 use Rattle.seat_rows.specs.Alone.{IsSteady, Steady}
 
 -- no other seat has won an exchange
@@ -213,13 +217,13 @@ one_set views i w v below only = sym (get_or-set_same views i w w below) ∙ ap 
   first : i ≡ 0
   first = let e = length-set views i w in let one = ap length only in omega (arith, e, one)
 
--- of what a heap comes to whose one seat is steady, it is steady
-reached_steady : (k : Setup) (start : TableState) → Sound k start.words start.views → ((v : View) → start.views ≡ v ∷ [] → Steady (memory_of k.capacity start.words) v)
-    → (words : List ℕ) (views : List View) → IsReached k start words views → (v : View) → views ≡ v ∷ [] → Steady (memory_of k.capacity words) v
-reached_steady k start sound begins _ _ at_opening v only = begins v only
-reached_steady k start sound begins _ _ (by_event words views i u event before below at may) v only = subst (Steady (memory_of k.capacity (words_after k words u event))) (one_set views i (seat_after m u event) v below only)
+-- of what a heap comes to whose one seat is steady and has offered nothing, it is steady
+reached_steady : (k : Setup) (start : TableState) → Sound k start.words start.views → AreSeatsAndCarriers k start.views → ((v : View) → start.views ≡ v ∷ [] → Steady (memory_of k.capacity start.words) v)
+    → (words : List ℕ) (views : List View) → IsReached k start words views → (v : View) → views ≡ v ∷ [] → v.offers ≡ 0 → Steady (memory_of k.capacity words) v
+reached_steady k start sound counted begins _ _ at_opening v only none = begins v only
+reached_steady k start sound counted begins _ _ (by_event words views i u event before below at seat may) v only none = subst (Steady (memory_of k.capacity (words_after k words u event))) (one_set views i (seat_after m u event) v below only)
     (subst (λ n. Steady n (seat_after m u event)) (sym (memory_set k.capacity words (place_of u event) _ so_far.long (in_table k m views i u below at so_far.good event may)))
-    (looks_say k m u event (subst (Good k m) alone so_far.good) may (reached_steady k start sound begins words views before u alone))) where
+    (looks_say k m u event (subst (Good k m) alone so_far.good) may (reached_steady k start sound counted begins words views before u alone (ap (λ (r : Role). r.offers) (sym (role_after m u event (found_by m u event))) ∙ ap (λ (x : View). x.offers) (one_set views i (seat_after m u event) v below only) ∙ none)))) where
       m : Memory
       m = memory_of k.capacity words
 
@@ -228,15 +232,19 @@ reached_steady k start sound begins _ _ (by_event words views i u event before b
 
       alone : views ≡ u ∷ []
       alone = one_at views i u (sym (length-set views i (seat_after m u event)) ∙ ap length only) below at
-reached_steady k start sound begins _ _ (by_record words views i u word before below at own) v only = subst (Steady (memory_of k.capacity words)) (one_set views i (learned u word (get_or words word 0)) v below only)
+reached_steady k start sound counted begins _ _ (by_record words views i u word before below at own) v only none = subst (Steady (memory_of k.capacity words)) (one_set views i (learned u word (get_or words word 0)) v below only)
     (keeps_steady (memory_of k.capacity words) (memory_of k.capacity words) u (learned u word (get_or words word 0)) (record { used_look = refl; head_looks = refl; wins = omega arith }) (λ e. refl) (λ list e. refl)
-    (reached_steady k start sound begins words views before u (one_at views i u (sym (length-set views i (learned u word (get_or words word 0))) ∙ ap length only) below at)))
-reached_steady k start sound begins _ _ (in_another_order words old new before same) v only = reached_steady k start sound begins words old before v
-    (one_of old v (length_total old ∙ sym (same.sums (λ (u : View). 1)) ∙ sym (length_total new) ∙ ap length only) (same.members v (subst (λ l. Contains l v) (sym only) (in_head v []))))
+    (reached_steady k start sound counted begins words views before u (one_at views i u (sym (length-set views i (learned u word (get_or words word 0))) ∙ ap length only) below at) (ap (λ (x : View). x.offers) (one_set views i (learned u word (get_or words word 0)) v below only) ∙ none)))
+reached_steady k start sound counted begins _ _ (by_offer words views i u b before below at may held) v only none = absurd (let l = ap length only in let a = length-append (set views i (offered u b.first_word)) (carrier_of u b.first_word ∷ []) in let n = length-set views i (offered u b.first_word) in omega (arith, l, a, n, below))
+reached_steady k start sound counted begins _ _ (by_accept words old new u c before has_u has_c may carries less) v only none = absurd
+    (let s = less.sums (λ (x : View). x.offers) in let t = ap (total (λ (x : View). x.offers)) only in let are = reached_counted k start counted words old before in
+    let held = are.carriers in let one = total_at (λ (x : View). x.carries) old has_c.0 c has_c.1 has_c.2 in let is = carries.is_one in let h = carries.handed.0 in omega (arith, s, t, held, one, is, h, none))
+reached_steady k start sound counted begins _ _ (in_another_order words old new before same) v only none = reached_steady k start sound counted begins words old before v
+    (one_of old v (length_total old ∙ sym (same.sums (λ (u : View). 1)) ∙ sym (length_total new) ∙ ap length only) (same.members v (subst (λ l. Contains l v) (sym only) (in_head v [])))) none
 
 pub left_steady : (o : Opening) (now kept : List ℕ) (v : View) → IsReady o.words o.held → AreOwners o.held o.seats o.block_owners o.root_owners → IsClosedReached o now kept (v ∷ [])
-    → IsSteady v v.used_look (slice_index now used_word) × ((list : ℕ) → list < lists → IsSteady v (get_or v.head_looks list v.used_look) (slice_index now (head_word list)))
-left_steady o now kept v ready owners closed = (
+    → v.offers ≡ 0 → IsSteady v v.used_look (slice_index now used_word) × ((list : ℕ) → list < lists → IsSteady v (get_or v.head_looks list v.used_look) (slice_index now (head_word list)))
+left_steady o now kept v ready owners closed none = (
   subst (IsSteady v v.used_look) (at_now used_word (let l = closed.now_long in omega (arith, l))) steady.used_is,
   λ list less. subst (IsSteady v (get_or v.head_looks list v.used_look)) (pick (nat_lt list lists) _ 0 (lt-ltb list lists less) ∙ at_now (head_word list) (let l = closed.now_long in omega (arith, l, less))) (steady.heads list less),
 ) where
@@ -250,4 +258,4 @@ left_steady o now kept v ready owners closed = (
         one = let e = length_tabulate (opened_view_of o) 0 o.seats in let l = ap length only in omega (arith, e, l)
 
   steady : Steady (memory_of (setup_for o).capacity (now ++ (kept ++ (closed.drawn ∷ [])))) v
-  steady = reached_steady (setup_for o) (state_of o) (opened o.words o.held o.budget o.seats o.block_owners o.root_owners ready owners) opened_one _ (v ∷ []) closed.reached v refl
+  steady = reached_steady (setup_for o) (state_of o) (opened o.words o.held o.budget o.seats o.block_owners o.root_owners ready owners) (opened_counted o) opened_one _ (v ∷ []) closed.reached v refl none

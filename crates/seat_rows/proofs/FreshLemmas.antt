@@ -59,6 +59,7 @@ module _ (v u : View) (drawn : HasDrawn v u) (row : ViewRow one_draw v u) where
     passes = record {
       setup = row.passes.setup;
       roots = row.passes.roots;
+      role_is = row.passes.role_is;
       floor = row.passes.floor;
       next = row.passes.next;
       tickets = row.passes.tickets;
@@ -82,6 +83,7 @@ module _ (v u : View) (drawn : HasDrawn v u) (row : ViewRow one_draw v u) where
     passes = record {
       setup = row.passes.setup;
       roots = row.passes.roots;
+      role_is = row.passes.role_is;
       floor = row.passes.floor;
       next = row.passes.next;
       tickets = row.passes.tickets;

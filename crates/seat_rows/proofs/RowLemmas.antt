@@ -12,6 +12,7 @@ pub passes_none : (v : View) → Passes no_costs v v
 passes_none v = record {
   setup = refl;
   roots = refl;
+  role_is = refl;
   floor = omega arith;
   next = omega arith;
   tickets = omega arith;
@@ -72,6 +73,7 @@ pub passes_then : {a b : Costs} (u v w : View) → Passes a u v → Passes b v w
 passes_then u v w p q = record {
   setup = q.setup ∙ p.setup;
   roots = q.roots ∙ p.roots;
+  role_is = q.role_is ∙ p.role_is;
   floor = let x = p.floor in let y = q.floor in omega arith;
   next = let x = p.next in let y = q.next in omega arith;
   tickets = let x = p.tickets in let y = q.tickets in omega arith;
@@ -115,6 +117,7 @@ pub passes_within : {a : Costs} (b : Costs) (v w : View) → IsWithin a b → Pa
 passes_within b v w less p = record {
   setup = p.setup;
   roots = p.roots;
+  role_is = p.role_is;
   floor = p.floor;
   next = p.next;
   tickets = p.tickets;
@@ -143,6 +146,7 @@ row_moves v w p = record {
     passes = record {
       setup = p.view.passes.setup;
       roots = p.view.passes.roots;
+      role_is = p.view.passes.role_is;
       floor = p.view.passes.floor;
       next = p.view.passes.next;
       tickets = p.view.passes.tickets;

@@ -3,7 +3,7 @@ use Rattle.std.specs.Prelude.{◌≡◌, ◌≢◌, ◌<◌, ◌≤◌, ℕ, ◌
 use Rattle.line_memory.specs.Marks.{IsMarked}
 use Rattle.core_model.specs.Effects.{drew}
 use Rattle.core_model.specs.View.{LastLook, View}
-pub use Rattle.core_model.specs.View.{Parts, parts}
+pub use Rattle.core_model.specs.View.{Parts, parts, Role, role}
 use Rattle.heap_rule.specs.Fences.{Owns}
 use Rattle.heap_rule.specs.Seated.{SeatView}
 pub use Rattle.heap_rule.specs.Tickets.{after_ticket, next_of}
@@ -42,6 +42,7 @@ pub record SameLooks (v w : View) : Type 0 where
 pub record Passes (costs : Costs) (v w : View) : Type 0 where
   pub setup : w.setup ≡ v.setup
   pub roots : w.roots ≡ v.roots
+  pub role_is : role w ≡ role v
   pub floor : v.floor ≤ w.floor
   pub next : next_of v ≤ next_of w
   pub tickets : w.draws + next_of v ≤ v.draws + next_of w

@@ -27,7 +27,7 @@ ghost use Rattle.seat_rows.specs.Words.{KeepsWord};
 ghost use Rattle.seat_rows.specs.Alone.{IsSteady, Steady};
 
 /// A seat that is alone loses no exchange, and its last looks say what the words are as long as it
-/// has won no exchange since: at the opening, behind each step, and in the words of a closed heap.
+/// has won no exchange since: at the opening, behind each step, and in the words of a closed heap where it offered no block.
 pub fn a_seat_that_is_alone_loses_nothing()
     ensures losses { (k : Setup) (words : List ℕ) (v : View) → Sound k words (v ∷ []) → v.losses ≡ 0 }
     ensures event { (event : Event) (v w : View) (found : ℕ) → (e : IsEvent event v found w)
@@ -38,7 +38,7 @@ pub fn a_seat_that_is_alone_loses_nothing()
         (m : Memory) → Steady m (opened_view k held block_owners root_owners i) }
     ensures left { (o : Opening) (now kept : List ℕ) (v : View) → IsReady o.words o.held
         → AreOwners o.held o.seats o.block_owners o.root_owners
-        → IsClosedReached o now kept (v ∷ [])
+        → IsClosedReached o now kept (v ∷ []) → v.offers ≡ 0
         → IsSteady v v.used_look (slice_index now used_word)
         × ((list : ℕ) → list < lists
         → IsSteady v (get_or v.head_looks list v.used_look) (slice_index now (head_word list))) }

@@ -129,6 +129,7 @@ module _ (s : CacheState) (x y : SeatView) (n : CallCounts) (step : SmallStep s 
   small_keeps same = record {
     setup = passes.setup;
     roots = passes.roots;
+    role_is = passes.role_is;
     floor = passes.floor;
     none_falls = passes.more;
     small_rise = let e = step.small in omega arith;

@@ -78,6 +78,7 @@ module _ {a : Costs} (s : CacheState) (x y : SeatView) (n : CallCounts) (step : 
   large_keeps few paid = record {
     setup = passes.setup;
     roots = passes.roots;
+    role_is = passes.role_is;
     floor = passes.floor;
     none_falls = passes.more;
     small_rise = let e = step.small in omega arith;

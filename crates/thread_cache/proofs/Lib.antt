@@ -3,3 +3,4 @@ pub mod LargeLemmas
 pub mod QuietLemmas
 pub mod AllocLemmas
 pub mod FreeLemmas
+pub mod HandedLemmas

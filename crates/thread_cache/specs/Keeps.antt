@@ -1,6 +1,6 @@
 -- What every call of a seat that allocates by caches leaves of the heap, and what it may cost.
 use Rattle.std.specs.Prelude.{◌≡◌, ◌≤◌, ℕ, ◌+◌, ◌*◌, ◌^◌, length}
-use Rattle.core_model.specs.View.{View, one_if_some}
+use Rattle.core_model.specs.View.{View, one_if_some, role}
 use Rattle.seat_rows.specs.Costs.{NoneFalls}
 use Rattle.heap_rule.specs.Seated.{SeatView}
 use Rattle.seat_view.specs.CacheState.{CacheState}
@@ -23,12 +23,13 @@ light_draws = 64
 abbrev pub traces : View → ℕ
 traces v = v.cuts + v.gives + v.taken + one_if_some v.stopped
 
--- Between two views of a seat, with so many small and large calls by then, the setup and the owned roots stay, no count falls, and what is known of the durable
+-- Between two views of a seat, with so many small and large calls by then, the setup and the owned roots stay, no block was offered or accepted, no count falls, and what is known of the durable
 -- mark does not. A small call draws one ticket at most, and any other the most; it cuts one superblock at most. To that come 16 tickets for each lost exchange and
 -- each move, and 2 wins for each move. A large call draws as many tickets as a light one, with the most for each trace and for each large block that is held no more.
 pub record KeepsCosts (v : View) (small large : ℕ) (w : View) (smalls larges : ℕ) : Type 0 where
   pub setup : w.setup ≡ v.setup
   pub roots : w.roots ≡ v.roots
+  pub role_is : role w ≡ role v
   pub floor : v.floor ≤ w.floor
   pub none_falls : NoneFalls v w
   pub small_rise : small ≤ smalls

@@ -7,6 +7,7 @@ costs_none : (s : CacheState) → KeepsCosts s.view s.small_calls s.large_calls 
 costs_none s = record {
   setup = refl;
   roots = refl;
+  role_is = refl;
   floor = omega arith;
   none_falls = record { draws = omega arith; wins = omega arith; losses = omega arith; gives = omega arith; moves = omega arith; cuts = omega arith; taken = omega arith };
   small_rise = omega arith;
@@ -23,6 +24,7 @@ costs_row : (s t u : CacheState) → KeepsCosts s.view s.small_calls s.large_cal
 costs_row s t u p q = record {
   setup = q.setup ∙ p.setup;
   roots = q.roots ∙ p.roots;
+  role_is = q.role_is ∙ p.role_is;
   floor = let x = p.floor in let y = q.floor in omega arith;
   none_falls = let a = p.none_falls in let b = q.none_falls in record {
     draws = let x = a.draws in let y = b.draws in omega arith;

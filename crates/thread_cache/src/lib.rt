@@ -4,6 +4,7 @@
 
 mod cache_seat;
 mod calls;
+mod handing;
 mod quiet;
 
 pub use cache_seat::CacheSeat;

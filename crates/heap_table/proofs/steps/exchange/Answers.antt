@@ -17,7 +17,7 @@ pub exchange_as-requires-clause-step : goal.exchange_as-requires-clause-step
 exchange_as-requires-clause-step c = (
   view_in c.args.seat.now.me.0,
   c.requires.at.single,
-  exchange_at c.shared.inside.table.shared.key (view_in c.args.seat.now.me.0) c.args.event c.args.place c.args.seen c.args.new (c.requires.at.setup ∙ sym (ap (λ (s : SharedView). setup_for s.opening) c.shared.view_is))
+  exchange_at c.shared.inside.table.shared.key (view_in c.args.seat.now.me.0) c.args.event c.args.place c.args.seen c.args.new (c.requires.at.setup ∙ sym (ap (λ (s : SharedView). setup_for s.opening) c.shared.view_is)) c.requires.at.has.is_seat
       c.requires.may c.requires.place c.requires.exchange,
 )
 

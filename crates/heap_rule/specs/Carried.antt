@@ -1,0 +1,59 @@
+-- What contracts see of a carrier, and what it keeps; and all that a heap is closed with.
+use Rattle.std.specs.Prelude.{◌≡◌, ℕ, ◌+◌, ◌-◌, ◌<◌, List, [], ◌∷◌, Contains, length, map}
+use Rattle.heap_model.specs.declared.block.Block.{Block}
+use Rattle.heap_model.specs.Counting.{times, total}
+use Rattle.heap_model.specs.Sizes.{IsClass, words_of_class}
+use Rattle.atomic_table.specs.Seated.{TableId}
+use Rattle.atomic_table.specs.Table.{Me}
+use Rattle.core_model.specs.Carriers.{IsCarrier}
+use Rattle.core_model.specs.View.{View, of_class}
+use Rattle.heap_table.specs.AtTable.{SharedView}
+use Rattle.heap_table.specs.SeatViews.{SeatViews, view_in}
+use Rattle.heap_rule.specs.Seated.{SeatView}
+use Rattle.heap_rule.specs.Seats.{AreSeatsOf, views_of}
+
+-- which table it is at, its view, and the block that it has
+pub record CarrierView : Type 0 where
+  pub table : TableId
+  pub view : View
+  pub block : Block
+
+-- it holds this small block, once, in the list of its class, and nothing else
+pub record HoldsAlone (u : View) (b : Block) (class : ℕ) : Type 0 where
+  pub is_class : IsClass class
+  pub words : b.words ≡ words_of_class class
+  pub once : (n : ℕ) → total (times n) u.small ≡ times n (b.first_word ∷ [])
+  pub in_class : (of n : ℕ) → 0 < times n (of_class u.small of) → of ≡ class
+  pub none_large : u.large ≡ []
+
+pub record IsWholeCarrier (me : Me ℕ SeatViews) (b : Block) (class : ℕ) : Type 0 where
+  pub me_is : me ≡ (view_in me.0 ∷ [], [])
+  pub carrier : IsCarrier (view_in me.0)
+  pub alone : HoldsAlone (view_in me.0) b class
+
+abbrev pub carried_views : List CarrierView → List View
+carried_views carriers = map (λ (c : CarrierView). c.view) carriers
+
+-- all the seats of a heap, in any order, and each carrier that they made and that none accepted
+pub record AreAllOf (shared : SharedView) (seats : List SeatView) (carriers : List CarrierView) : Type 0 where
+  pub seats_are : AreSeatsOf shared seats
+  pub at_table : (c : CarrierView) → Contains carriers c → c.table ≡ shared.table
+  pub none_lost : length carriers + total (λ (v : View). v.accepts) (views_of seats) ≡ total (λ (v : View). v.offers) (views_of seats)
+
+-- of these views so many are carriers, and the others are none
+pub record AreCarriers (n : ℕ) (views : List View) : Type 0 where
+  pub carry : total (λ (v : View). v.carries) views ≡ n
+  pub no_seats : total (λ (v : View). 1 - v.carries) views ≡ 0
+  pub no_offers : total (λ (v : View). v.offers) views ≡ 0
+  pub no_accepts : total (λ (v : View). v.accepts) views ≡ 0
+
+-- so many seats were put before the views
+pub record HasSeatsBefore (n : ℕ) (before after : List View) : Type 0 where
+  pub seats : total (λ (v : View). 1 - v.carries) after ≡ n + total (λ (v : View). 1 - v.carries) before
+  pub carry : total (λ (v : View). v.carries) after ≡ total (λ (v : View). v.carries) before
+
+-- a small block that the seat holds
+pub record HoldsSmall (v : View) (b : Block) : Type 0 where
+  pub class : ℕ
+  pub words : b.words ≡ words_of_class class
+  pub held : 0 < times b.first_word (of_class v.small class)

@@ -1,0 +1,58 @@
+//! A seat offers a held block to a carrier, or accepts the block of one, each with its ticket.
+
+ghost use Rattle.std.specs.Prelude.{◌≡◌, IfErr, IfOk, OnErr};
+ghost use Rattle.heap_rule.specs.Carried.{HoldsSmall};
+ghost use Rattle.heap_rule.specs.Seated.{IsSeatOf};
+ghost use Rattle.seat_rows.specs.Costs.{one_draw};
+ghost use Rattle.seat_rows.specs.Rows.{Row, Stops};
+ghost use Rattle.seat_words.specs.Handed.{HasAccepted, HasOffered};
+
+use heap_rule::{Carrier, Seat, Shared};
+use line_memory::{Chance, Stopped};
+use seat_rows::draw;
+use super_block::Block;
+
+/// Gives a held small block to a carrier. Where the seat stops it is still held.
+pub fn offer<C: Chance>(
+    seat: &mut Seat,
+    shared: &Shared,
+    block: Block,
+    chance: &mut C,
+) -> Result<Carrier, Stopped>
+    requires seat { IsSeatOf shared.now seat.old }
+    requires held { HoldsSmall seat.old.view block }
+    ensures offered { IfOk result (λ carrier. HasOffered block carrier shared.now.table
+        seat.old.view seat.new.view) }
+    ensures stopped { IfErr result (λ e. Stops e.step seat.old.view seat.new.view) }
+    ensures none { OnErr result (Row one_draw seat.old seat.new) }
+    ensures seat { IsSeatOf shared.now seat.new }
+{
+    draw(seat, shared, chance)?;
+    seat.has_a_sound_state();
+    Ok(seat.offer(shared, block))
+}
+
+/// Takes the block of a carrier, which comes back where the seat stops.
+pub fn accept<C: Chance>(
+    seat: &mut Seat,
+    shared: &Shared,
+    carrier: Carrier,
+    chance: &mut C,
+) -> Result<Block, (Stopped, Carrier)>
+    requires seat { IsSeatOf shared.now seat.old }
+    requires carrier { carrier.table ≡ shared.now.table }
+    ensures accepted { IfOk result (λ block. HasAccepted block carrier
+        seat.old.view seat.new.view) }
+    ensures stopped { IfErr result (λ e. Stops e.0.step seat.old.view seat.new.view
+        × (e.1 ≡ carrier)) }
+    ensures none { OnErr result (Row one_draw seat.old seat.new) }
+    ensures seat { IsSeatOf shared.now seat.new }
+{
+    match draw(seat, shared, chance) {
+        Ok(()) => {
+            seat.has_a_sound_state();
+            Ok(seat.accept(shared, carrier))
+        }
+        Err(stopped) => Err((stopped, carrier)),
+    }
+}

@@ -1,0 +1,53 @@
+//! A seat offers a held block to a carrier, or accepts the block of one.
+
+ghost use Rattle.std.specs.Prelude.{◌≡◌, ◌+◌, IfErr, IfOk};
+
+use crate::cache_seat::CacheSeat;
+use heap_model::Block;
+use heap_rule::Carrier;
+use line_memory::{Chance, Stopped};
+use seat_words::{accept, offer};
+
+impl<'a, C: Chance> CacheSeat<'a, C> {
+    ghost use Rattle.heap_rule.specs.Carried.{HoldsSmall};
+    ghost use Rattle.seat_words.specs.Handed.{HasAccepted, HasOffered};
+
+    /// Gives a held small block to a carrier. Where the seat stops it is still held.
+    pub fn offer(&mut self, block: Block) -> Result<Carrier, Stopped>
+        requires held { HoldsSmall self.old.view block }
+        ensures offered { IfOk result (λ carrier. HasOffered block carrier self.old.table
+            self.old.view self.new.view) }
+        ensures counted { IfOk result (λ _. self.new.small_calls ≡ self.old.small_calls + 1) }
+        ensures table { self.new.table ≡ self.old.table }
+    {
+        self.check_running()?;
+        self.seat.has_a_low_budget();
+        self.seat.has_a_sound_state();
+        let answer = offer(&mut self.seat, self.shared, block, &mut self.chance);
+        self.seat.has_a_sound_state();
+        self.small_calls += 1;
+        answer
+    }
+
+    /// Takes the block of a carrier of this heap, which comes back where the seat stops.
+    pub fn accept(&mut self, carrier: Carrier) -> Result<Block, (Stopped, Carrier)>
+        requires table { carrier.table ≡ self.old.table }
+        ensures accepted { IfOk result (λ block. HasAccepted block carrier
+            self.old.view self.new.view) }
+        ensures back { IfErr result (λ e. e.1 ≡ carrier) }
+        ensures counted { IfOk result (λ _. self.new.small_calls ≡ self.old.small_calls + 1) }
+        ensures table { self.new.table ≡ self.old.table }
+    {
+        match self.check_running() {
+            Err(stopped) => Err((stopped, carrier)),
+            Ok(()) => {
+                self.seat.has_a_low_budget();
+                self.seat.has_a_sound_state();
+                let answer = accept(&mut self.seat, self.shared, carrier, &mut self.chance);
+                self.seat.has_a_sound_state();
+                self.small_calls += 1;
+                answer
+            }
+        }
+    }
+}
