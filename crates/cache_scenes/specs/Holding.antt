@@ -2,7 +2,7 @@
 use Rattle.std.specs.Prelude.{◌≡◌, ◌≢◌, ◌<◌, ◌%◌, ℕ, All, None, Some, Option, List, Contains, get_or, length}
 use Rattle.heap_model.specs.declared.block.Block.{Block}
 use Rattle.heap_model.specs.Geometry.{roots}
-use Rattle.core_model.specs.View.{View}
+use Rattle.core_model.specs.View.{View, no_role, role}
 use Rattle.heap_table.specs.AtTable.{SharedView}
 use Rattle.heap_rule.specs.Seated.{IsSeatOf, SeatView}
 use Rattle.seat_rows.specs.Idle.{HasShortCaches, IsIdle}
@@ -14,9 +14,15 @@ pub record IsFresh (v : View) : Type 0 where
   pub going : v.stopped ≡ None
   pub idle : IsIdle v
   pub short : HasShortCaches v
+  pub role_is : role v ≡ no_role
 
 abbrev pub IsFreshSeatOf : SharedView → SeatView → Type 0
 IsFreshSeatOf shared seat = IsSeatOf shared seat × IsFresh seat.view
+
+-- a seat of this heap that has offered and accepted nothing
+pub record IsBackFrom (shared : SharedView) (seat : SeatView) : Type 0 where
+  pub of : IsSeatOf shared seat
+  pub role_is : role seat.view ≡ no_role
 
 -- each block that was given is held
 pub record Holds (held given : List Block) : Type 0 where

@@ -1,8 +1,7 @@
 //! Threads that share a heap, each with a seat that allocates by caches and acts as it is told.
 
 ghost use Rattle.std.specs.Prelude.{◌≡◌, All, IfOk, length};
-ghost use Rattle.heap_rule.specs.Seated.{IsSeatOf};
-ghost use Rattle.cache_scenes.specs.Holding.{HaveRoots, IsFreshSeatOf, IsJobOf};
+ghost use Rattle.cache_scenes.specs.Holding.{HaveRoots, IsBackFrom, IsFreshSeatOf, IsJobOf};
 
 use crate::fixtures::open;
 use crate::holders::Halt;
@@ -53,7 +52,7 @@ pub struct Worked {
 /// The work of one thread.
 fn work(job: Job, shared: &Shared, acts: &str, turn: Turn<'_>) -> Worked
     requires { IsJobOf shared.now job.roots.items job.seat }
-    ensures { IsSeatOf shared.now result.seat }
+    ensures { IsBackFrom shared.now result.seat }
 {
     let Job {
         seat,
@@ -81,7 +80,7 @@ fn work(job: Job, shared: &Shared, acts: &str, turn: Turn<'_>) -> Worked
 /// The work of one thread by the plan.
 fn work_by(job: Job, shared: &Shared, plan: Plan<'_>) -> Worked
     requires { IsJobOf shared.now job.roots.items job.seat }
-    ensures { IsSeatOf shared.now result.seat }
+    ensures { IsBackFrom shared.now result.seat }
 {
     let is_first = job.number == 0;
     let acts = if is_first { plan.first } else { plan.others };
@@ -146,8 +145,8 @@ fn gather(
     shared: &Shared,
     mut worked: Vec<Worked>,
 ) -> Result<(Vec<Seat>, Report), AllocError>
-    requires { All (λ one. IsSeatOf shared.now one.seat) worked.items }
-    ensures seats { IfOk result (λ r. All (IsSeatOf shared.now) r.0.items) }
+    requires { All (λ one. IsBackFrom shared.now one.seat) worked.items }
+    ensures seats { IfOk result (λ r. All (IsBackFrom shared.now) r.0.items) }
     ensures count { IfOk result (λ r. length r.0.items ≡ length worked.items) }
 {
     let _seats = shared;
@@ -202,13 +201,13 @@ fn work_and_close<R: Threads + Sync>(
         jobs,
         &|job: Job| -> Worked
             requires { IsJobOf shared job.roots.items job.seat }
-            ensures { IsSeatOf shared result.seat }
+            ensures { IsBackFrom shared result.seat }
         { work_by(job, &shared, plan) },
     )?;
     let (seats, mut report) = gather(alloc, &shared, worked)?;
     report.given.sort_by_key(|b| b.first_word)?;
     Ok(Left {
-        closed: close_shared(alloc, shared, seats)?,
+        closed: close_shared(alloc, shared, seats, Vec::new(alloc))?,
         report,
     })
 }

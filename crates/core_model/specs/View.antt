@@ -97,6 +97,10 @@ pub record Role : Type 0 where
 abbrev pub role : View → Role
 role v = record { carries = v.carries; offers = v.offers; accepts = v.accepts }
 
+-- of a seat that has offered and accepted nothing
+abbrev pub no_role : Role
+no_role = record { carries = 0; offers = 0; accepts = 0 }
+
 -- the parts of the heap that are the seat's
 pub record Parts : Type 0 where
   pub setup : Setup

@@ -1,6 +1,6 @@
 -- Two seats are all seats of a heap that was opened for two.
 use Rattle.std.proofs.Common.{◌≡◌, ◌<◌, ◌+◌, ℕ, zero, suc, List, [], ◌∷◌, ◌++◌, refl, inl, inr, ◌⊎◌, length, length-append, get_or, ap, sym, subst, ◌∙◌, arith}
-use Rattle.std.specs.Prelude.{slice_index, slice_set}
+use Rattle.std.specs.Prelude.{slice_index, slice_set, Contains}
 use Rattle.std.proofs.lemmas.List.{get_or-set_other, get_or-set_same}
 use Rattle.heap_model.specs.declared.block.Block.{Block}
 use Rattle.heap_model.specs.Durability.{IsClosedImage}
@@ -8,7 +8,7 @@ use Rattle.heap_model.specs.Geometry.{roots}
 use Rattle.heap_model.proofs.CountingLemmas.{times_some}
 use Rattle.heap_model.specs.Counting.{times}
 use Rattle.core_model.specs.Opening.{opened_view}
-use Rattle.core_model.specs.View.{Setup, View}
+use Rattle.core_model.specs.View.{Setup, View, no_role, role}
 use Rattle.core_model.proofs.RootLemmas.{owns_root}
 use Rattle.core_model.specs.Held.{IsHeld, IsHeldBy}
 use Rattle.heap_table.specs.AtTable.{SharedView}
@@ -27,12 +27,19 @@ both_are all rest (x ∷ fewer) one other split again two =
     let longer = ap length again in
     absurd (omega (arith, two, long, outer, longer, inner))
 
-pub pair_of : (shared : SharedView) (one other : SeatView) → shared.opening.seats ≡ 2 → IsSeatOf shared one → IsSeatOf shared other → AreSeatsOf shared (one ∷ other ∷ [])
-pair_of shared one other two is also = record { count = sym two; each = λ s p. by_index s p.0 p.1 p.2 } where
-  by_index : (s : SeatView) (j : ℕ) → j < 2 → get_or (one ∷ other ∷ []) j s ≡ s → IsSeatOf shared s
-  by_index s zero less at = subst (IsSeatOf shared) at is
-  by_index s (suc zero) less at = subst (IsSeatOf shared) at also
-  by_index s (suc (suc j)) less at = absurd (omega (arith, less))
+module _ (shared : SharedView) (one other : SeatView) (two : shared.opening.seats ≡ 2) where
+  of_pair : (P : SeatView → Type 0) → P one → P other → (s : SeatView) → Contains (one ∷ other ∷ []) s → P s
+  of_pair P is also s p = by_index p.0 p.1 p.2 where
+    by_index : (j : ℕ) → j < 2 → get_or (one ∷ other ∷ []) j s ≡ s → P s
+    by_index zero less at = subst P at is
+    by_index (suc zero) less at = subst P at also
+    by_index (suc (suc j)) less at = absurd (omega (arith, less))
+
+  pub pair_of : IsSeatOf shared one → IsSeatOf shared other → AreSeatsOf shared (one ∷ other ∷ [])
+  pair_of is also = record { count = sym two; each = of_pair (IsSeatOf shared) is also }
+
+  pub pair_hands_nothing : role one.view ≡ no_role → role other.view ≡ no_role → (s : SeatView) → Contains (one ∷ other ∷ []) s → role s.view ≡ no_role
+  pair_hands_nothing = of_pair (λ s. role s.view ≡ no_role)
 
 -- a seat of an opened heap is fresh, with each root that is its own
 pub fresh_of : (setup : Setup) (held : List Block) (block_owners root_owners : List ℕ) (shared : SharedView) (seats : List SeatView) (i root : ℕ) (seat : SeatView)
@@ -44,6 +51,7 @@ fresh_of setup held block_owners root_owners shared seats i root seat opened les
       going = ap (λ (v : View). v.stopped) each.1;
       idle = idle.0;
       short = idle.1;
+      role_is = ap role each.1;
       root_is = times_some root seat.view.roots (subst (λ (v : View). 0 < times root v.roots) (sym each.1) ((owns_root i roots root_owners root).1 (below, owner)));
     }
 

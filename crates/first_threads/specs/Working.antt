@@ -4,7 +4,7 @@ use Rattle.heap_model.specs.declared.block.Block.{Block}
 use Rattle.heap_model.specs.Sizes.{IsClass}
 use Rattle.heap_seat.specs.declared.fault.AllocFault.{AllocFault}
 use Rattle.core_model.specs.Held.{IsHeld}
-use Rattle.core_model.specs.View.{View, of_class}
+use Rattle.core_model.specs.View.{View, no_role, of_class, role}
 use Rattle.heap_table.specs.AtTable.{SharedView}
 use Rattle.heap_rule.specs.Seated.{IsSeatOf, SeatView}
 use Rattle.first_threads.specs.declared.threads.Worked.{Worked}
@@ -16,6 +16,7 @@ pub record IsFreshSeatOf (shared : SharedView) (root : ℕ) (seat : SeatView) : 
   pub going : seat.view.stopped ≡ None
   pub idle : IsIdle seat.view
   pub short : HasShortCaches seat.view
+  pub role_is : role seat.view ≡ no_role
   pub root_is : Contains seat.view.roots root
 
 -- the seat has claimed nothing, and keeps no free block from others
@@ -35,5 +36,6 @@ AreHeldBy v chain = (b : Block) → Tells chain b → IsHeld v b
 -- what a thread ends with: a seat of this heap, which holds the blocks that the thread tells of and is quiet where it came to its end
 pub record HasWorked (shared : SharedView) (worked : Worked) : Type 0 where
   pub seat : IsSeatOf shared worked.seat
+  pub role_is : role worked.seat.view ≡ no_role
   pub held : AreHeldBy worked.seat.view worked.chain
   pub quiet : OnOk worked.chain (IsQuiet worked.seat.view)

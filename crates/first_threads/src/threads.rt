@@ -7,6 +7,7 @@ ghost use Rattle.heap_model.specs.Geometry.{clean};
 ghost use Rattle.heap_model.specs.Header.{state_of};
 ghost use Rattle.core_model.specs.Held.{AreApart, IsHeld};
 ghost use Rattle.core_model.specs.Opening.{AreOwners};
+ghost use Rattle.core_model.specs.View.{no_role, role};
 ghost use Rattle.heap_rule.specs.Seated.{IsSeatOf};
 ghost use Rattle.seat_view.specs.CacheState.{heap_view};
 ghost use Rattle.thread_cache.specs.Keeps.{KeepsHeap};
@@ -15,7 +16,7 @@ ghost use Rattle.first_threads.specs.Working.{HasWorked, IsFreshSeatOf, IsQuiet,
 use crate::chain::{pop, push};
 use heap_rule::{
     Seat, Shared, a_closed_heap_names_each_held_block, close_shared, no_block_is_held_twice,
-    open_shared,
+    open_shared, seats_that_hand_nothing_leave_no_carrier,
 };
 use heap_seat::{AllocFault, HeapSeat};
 use line_memory::ConstantChance;
@@ -138,6 +139,8 @@ fn close(alloc: Global, shared: Shared, one: Seat, other: Seat) -> Result<Vec<u6
     requires seats { shared.opening.seats ≡ 2 }
     requires one { IsSeatOf shared one }
     requires other { IsSeatOf shared other }
+    requires one_role { role one.view ≡ no_role }
+    requires other_role { role other.view ≡ no_role }
     ensures apart { OnOk result ((a b : Block) → IsHeld one.view a → IsHeld other.view b
         → AreApart a b) }
     ensures named { IfOk result (λ image. (b : Block) → IsHeld one.view b ⊎ IsHeld other.view b
@@ -146,10 +149,11 @@ fn close(alloc: Global, shared: Shared, one: Seat, other: Seat) -> Result<Vec<u6
 {
     no_block_is_held_twice();
     a_closed_heap_names_each_held_block();
+    seats_that_hand_nothing_leave_no_carrier();
     let mut seats = Vec::with_capacity(alloc, 2)?;
     seats.push_reserved(one);
     seats.push_reserved(other);
-    let mut image = close_shared(alloc, shared, seats)?.now;
+    let mut image = close_shared(alloc, shared, seats, Vec::new(alloc))?.now;
     image[STATE_WORD as usize] = CLEAN;
     Ok(image)
 }

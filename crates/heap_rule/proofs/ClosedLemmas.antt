@@ -14,7 +14,7 @@ use Rattle.heap_rule.specs.Left.{IsCloseOf, IsCrashOf}
 use Rattle.heap_table.specs.Plays.{HasSoundState}
 use Rattle.heap_table.specs.AtTable.{IsClosedSound}
 use Rattle.heap_rule.proofs.ImageLemmas.{volatile_is, durable_is}
-use Rattle.heap_rule.proofs.SeatImageLemmas.{state_recorded}
+use Rattle.heap_rule.proofs.SeatImageLemmas.{view_recorded}
 
 module _ (k : Setup) (now kept : List ℕ) (views : List View) (closed : IsClosedSound k now kept views) where
   abbrev words : List ℕ
@@ -51,12 +51,13 @@ module _ (k : Setup) (now kept : List ℕ) (views : List View) (closed : IsClose
       subst (λ (i : Image). Mixes i (durable_image k.capacity words) image) (sym (volatile_is k.capacity now kept closed.drawn closed.now_long closed.kept_long))
       (subst (λ (i : Image). Mixes (slice_index now) i image) (sym (durable_is k.capacity now kept closed.drawn closed.now_long closed.kept_long)) mixed)
 
-  pub recorded : Each views (λ v. v.carries ≡ 0 → HasRecorded (slice_index now) (slice_index kept) v)
-  recorded i v below at seat =
-      let capacity = ap (λ (s : Setup). s.capacity) (closed.sound.good.set_up i v below at).setup in
+  pub recorded : Each views (HasRecorded (slice_index now) (slice_index kept))
+  recorded i v below at =
+      let same = (closed.sound.good.set_up i v below at).setup in
+      let capacity = ap (λ (s : Setup). s.capacity) same in
       subst (λ (image : Image). HasRecorded image (slice_index kept) v) (ap (λ c. volatile_image c words) capacity ∙ volatile_is k.capacity now kept closed.drawn closed.now_long closed.kept_long)
       (subst (λ (image : Image). HasRecorded (volatile_image v.setup.capacity words) image v) (ap (λ c. durable_image c words) capacity ∙ durable_is k.capacity now kept closed.drawn closed.now_long closed.kept_long)
-      (state_recorded v (last_state i v below at seat)))
+      (view_recorded v words views (subst (λ s. Sound s words views) (sym same) closed.sound) i below at))
 
   pub images : (image : Image) → Mixes (slice_index now) (slice_index kept) image → Each views (λ v. v.carries ≡ 0 → IsImageOf v image)
   images image mixed i v below at seat = record {

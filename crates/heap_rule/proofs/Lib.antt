@@ -39,3 +39,4 @@ pub mod TicketLemmas
 pub mod RecordLemmas
 pub mod StackLemmas
 pub mod OwnedCarriers
+pub mod HandingLemmas

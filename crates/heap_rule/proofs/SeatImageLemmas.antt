@@ -18,7 +18,6 @@ use Rattle.core_model.proofs.TableLemmas.{fixed_below}
 use Rattle.heap_rule.specs.Images.{Agrees, HasPickedRecords, HasRecorded, IsImageOf, HasFixedWords, MixesRecorded}
 use Rattle.heap_table.specs.Plays.{HasSoundState}
 use Rattle.heap_rule.proofs.SettleLemmas.{own_there, own_index, own_below}
-use Rattle.heap_rule.proofs.ViewLemmas.{shown, shown_durable}
 
 module _ (k : Setup) (words : List ℕ) (views : List View) (sound : Sound k words views) (image : Image) (mixed : Mixes (volatile_image k.capacity words) (durable_image k.capacity words) image) where
   -- a word of the image is the volatile or the durable one
@@ -47,24 +46,31 @@ picked : (test : Bool) (a b : ℕ) → (cond test a b ≡ a) ⊎ (cond test a b 
 picked true a b = inl refl
 picked false a b = inr refl
 
-module _ (v : View) (s : HasSoundState v) where
-  -- each own word has its recorded values
-  pub now_recorded : (word : ℕ) → IsOwn v (cell_at v.setup.capacity word) → Agrees v.volatile (cell_at v.setup.capacity word) (volatile_image v.setup.capacity s.words word)
-  now_recorded word own value shows = let there = own_there v word own in
+-- of a view of a sound state, a seat's or a carrier's, each own word has its recorded values
+module _ (v : View) (words : List ℕ) (views : List View) (sound : Sound v.setup words views) (seat : ℕ) (below : seat < length views) (at : get_or views seat v ≡ v) where
+  now_is : (word : ℕ) → IsOwn v (cell_at v.setup.capacity word) → Agrees v.volatile (cell_at v.setup.capacity word) (volatile_image v.setup.capacity words word)
+  now_is word own value shows = let there = own_there v word own in
       pick (nat_lt word (image_words v.setup.capacity)) _ _ (lt-ltb word (image_words v.setup.capacity) (own_below v word own))
-      ∙ ap (λ n. get_or s.words n 0) (sym (own_index v word own))
+      ∙ ap (λ n. get_or words n 0) (sym (own_index v word own))
       ∙ sym (pick (is_cell v.setup.capacity (cell_at v.setup.capacity word)) _ _ there)
-      ∙ shown v s (cell_at v.setup.capacity word) value there shows
+      ∙ ((sound.good.words seat v below at).volatile (cell_at v.setup.capacity word) value there shows).1
+
+  kept_is : (word : ℕ) → IsOwn v (cell_at v.setup.capacity word) → Agrees v.durable (cell_at v.setup.capacity word) (durable_image v.setup.capacity words word)
+  kept_is word own value shows = let there = own_there v word own in
+      pick (nat_lt word (image_words v.setup.capacity)) _ _ (lt-ltb word (image_words v.setup.capacity) (own_below v word own))
+      ∙ ap (λ n. get_or words (image_words v.setup.capacity + n) 0) (sym (own_index v word own))
+      ∙ sym (pick (is_cell v.setup.capacity (cell_at v.setup.capacity word)) _ _ there)
+      ∙ ((sound.good.words seat v below at).durable (cell_at v.setup.capacity word) value there shows).1
+
+  pub view_recorded : HasRecorded (volatile_image v.setup.capacity words) (durable_image v.setup.capacity words) v
+  view_recorded = record { volatile = now_is; durable = kept_is }
+
+module _ (v : View) (s : HasSoundState v) where
+  pub now_recorded : (word : ℕ) → IsOwn v (cell_at v.setup.capacity word) → Agrees v.volatile (cell_at v.setup.capacity word) (volatile_image v.setup.capacity s.words word)
+  now_recorded = (view_recorded v s.words s.views s.sound s.seat s.below s.at).volatile
 
   pub kept_recorded : (word : ℕ) → IsOwn v (cell_at v.setup.capacity word) → Agrees v.durable (cell_at v.setup.capacity word) (durable_image v.setup.capacity s.words word)
-  kept_recorded word own value shows = let there = own_there v word own in
-      pick (nat_lt word (image_words v.setup.capacity)) _ _ (lt-ltb word (image_words v.setup.capacity) (own_below v word own))
-      ∙ ap (λ n. get_or s.words (image_words v.setup.capacity + n) 0) (sym (own_index v word own))
-      ∙ sym (pick (is_cell v.setup.capacity (cell_at v.setup.capacity word)) _ _ there)
-      ∙ shown_durable v s (cell_at v.setup.capacity word) value there shows
-
-  pub state_recorded : HasRecorded (volatile_image v.setup.capacity s.words) (durable_image v.setup.capacity s.words) v
-  state_recorded = record { volatile = now_recorded; durable = kept_recorded }
+  kept_recorded = (view_recorded v s.words s.views s.sound s.seat s.below s.at).durable
 
   -- the image with the words that are picked
   picked_words : (ℕ → Bool) → Image

@@ -13,10 +13,11 @@ ghost use Rattle.heap_rule.specs.Images.{HasRecorded, IsImageOf, HasFixedWords};
 ghost use Rattle.heap_rule.specs.Left.{IsCloseOf, IsCrashOf};
 ghost use Rattle.heap_table.specs.AtTable.{IsClosedSound};
 
-/// Of each own word a seat has recorded what a close left: the volatile value and the durable one.
+/// Of each own word a seat or a carrier has recorded what a close left: the volatile value and the
+/// durable one.
 pub fn a_closed_heap_has_the_recorded_words()
     ensures { (k : Setup) (now kept : List ℕ) (views : List View) → IsClosedSound k now kept views
-        → Each views (λ v. v.carries ≡ 0 → HasRecorded (slice_index now) (slice_index kept) v) }
+        → Each views (HasRecorded (slice_index now) (slice_index kept)) }
 {}
 
 /// The words that no step changes are as they were opened, in every mixture of volatile and durable

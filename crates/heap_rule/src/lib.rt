@@ -11,6 +11,7 @@ mod exchanges;
 mod fences;
 mod fresh;
 mod handing;
+mod handing_laws;
 mod image_laws;
 mod laws;
 mod lists;
@@ -38,6 +39,7 @@ pub use closed_laws::{
     a_closed_heap_has_the_recorded_words, a_crash_or_a_close_of_a_closed_heap_is_one_of_each_seat,
 };
 pub use closing::close_shared;
+pub use handing_laws::seats_that_hand_nothing_leave_no_carrier;
 pub use heap_table::Shared;
 pub use image_laws::{
     a_close_leaves_a_seat_its_blocks_and_words, a_crash_leaves_a_seat_its_blocks_and_words,

@@ -10,8 +10,6 @@ use Rattle.core_model.specs.Opening.{setup_of}
 use Rattle.core_model.specs.View.{View}
 use Rattle.dict_model.specs.Requests.{Request}
 use Rattle.heap_table.specs.AtTable.{IsClosedSound, SharedView}
-use Rattle.heap_rule.specs.Seated.{IsSeatOf, SeatView}
-use Rattle.heap_rule.specs.Seats.{AreSeatsOf}
 use Rattle.heap_rule.proofs.ClosedLemmas.{mixed_is}
 use Rattle.heap_rule.proofs.SeatImageLemmas.{mixed_fixed}
 use Rattle.worker_run.specs.Left.{AreWholeImage}
@@ -21,14 +19,6 @@ use Rattle.shared_run.specs.Dealing.{AreParts, Queue}
 pub first_of : {X : Type 0} (xs : List X) → 0 < length xs → X
 first_of [] some = absurd (omega (arith, some))
 first_of (x ∷ xs) some = x
-
--- each worker's seat is one of the heap, and there are as many as it was opened for
-pub parts_back : (shared : SharedView) (requests : List Request) (workers : ℕ) (seats : List SeatView) (told : List Queue) (stopped : Bool) → AreParts shared requests workers seats told stopped
-    → 0 < length told → length seats ≡ shared.opening.seats → AreSeatsOf shared seats
-parts_back shared requests workers seats told stopped parts some count = record {
-  count = count;
-  each = λ seat there. subst (IsSeatOf shared) there.2 (parts.each there.0 seat (first_of told some) there.1).1.seat_of;
-}
 
 -- what is closed has the opened capacity, in both values of each word
 module _ (words : List ℕ) (held : List Block) (workers budget : ℕ) (now kept : List ℕ) (views : List View) (ready : IsReady words held) (closed : IsClosedSound (setup_of words budget workers) now kept views) where

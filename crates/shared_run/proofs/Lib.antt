@@ -14,6 +14,7 @@ pub mod OpeningLemmas
 pub mod OrderlyLemmas
 pub mod PartLemmas
 pub mod ReplyLemmas
+pub mod RoleLemmas
 pub mod RunLemmas
 pub mod ShardLemmas
 pub mod ShareLemmas

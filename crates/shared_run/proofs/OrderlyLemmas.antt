@@ -36,6 +36,7 @@ use Rattle.dict_seat.proofs.ShardReachLemmas.{block_lists}
 use Rattle.shared_run.specs.Closed.{LeavesOrderly}
 use Rattle.shared_run.specs.Together.{HaveWorked}
 use Rattle.shared_run.proofs.ShareLemmas.{below_count, has_state, mixes, share}
+use Rattle.shared_run.proofs.WorkerLemmas.{is_seat}
 
 -- a close leaves each own word as the seat sees it
 seen_left : (s : CacheState) (left : Image) → IsCloseOf s.view left → (word value : ℕ) → IsOwn (heap_view s).held (heap_view s).roots word → (heap_view s).volatile word ≡ Some value → left word ≡ value
@@ -62,7 +63,7 @@ module _ (words : List ℕ) (held : List Block) (workers budget : ℕ) (requests
       record { idle = ((h.last i).between runs).0; empty = (part.emptied (going i below)).each }
 
   inside : (i : ℕ) → i < length h.views → i < workers
-  inside i below = let count = h.closed.count in omega arith
+  inside i below = let count = h.count in omega arith
 
   all_keep_none : Each h.views KeepsNothing
   all_keep_none i v below at = subst KeepsNothing (sym (h.views_are i v (inside i below)) ∙ at) (keeps_none i (inside i below))
@@ -85,7 +86,7 @@ module _ (words : List ℕ) (held : List Block) (workers budget : ℕ) (requests
   }
 
   closed_of : (i : ℕ) → i < workers → IsCloseOf (h.last i).view (slice_index left)
-  closed_of i below = closes k now kept h.views h.closed (slice_index left) h.left_is i (h.last i).view (below_count words held workers budget requests replies false now kept left h i below) (h.views_are i (h.last i).view below)
+  closed_of i below = closes k now kept h.views h.closed (slice_index left) h.left_is i (h.last i).view (below_count words held workers budget requests replies false now kept left h i below) (h.views_are i (h.last i).view below) (is_seat h i below)
 
   seats : MixesSeats workers (λ i. heap_view (h.last i)) (slice_index left)
   seats = mixes words held workers budget requests replies false now kept left h

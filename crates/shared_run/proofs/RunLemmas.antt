@@ -129,6 +129,7 @@ module _ (shared : SharedView) (requests : List Request) (workers : ℕ) (seats 
       few = few;
       views = views_of seats;
       closed = subst (λ (k : Setup). IsClosedSound k now kept (views_of seats)) set_up closed;
+      count = length-map seats (λ (seat : SeatView). seat.view) ∙ count;
       owners = owners;
       by_root = by_root;
       reached = subst (λ (o : Opening). IsClosedReached o now kept (views_of seats)) opened reached;

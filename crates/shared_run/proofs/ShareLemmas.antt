@@ -23,6 +23,7 @@ use Rattle.run_model.specs.Runs.{IsOtherRoot}
 use Rattle.run_model.specs.Stands.{StandsOver}
 use Rattle.run_model.specs.Working.{HasEnded, at_end, in_one}
 use Rattle.shared_run.specs.Together.{HaveWorked, IsLeftOf}
+use Rattle.shared_run.proofs.WorkerLemmas.{is_seat}
 use Rattle.worker_run.proofs.ProgressLemmas.{stands_on}
 
 -- however a worker's part has ended, what belongs to no shard stands in its seat
@@ -42,17 +43,17 @@ one_of_workers workers root false some = omega arith
 module _ (words : List ℕ) (held : List Block) (workers budget : ℕ) (requests : List Request) (replies : Replies) (stopped : Bool) (now kept left : List ℕ)
     (h : HaveWorked words held workers budget requests replies stopped now kept left) where
   pub below_count : (i : ℕ) → i < workers → i < length h.views
-  below_count i below = let count = h.closed.count in omega arith
+  below_count i below = let count = h.count in omega arith
 
   -- some sound state has a worker's last view
   pub has_state : (i : ℕ) → i < workers → HasSoundState (h.last i).view
-  has_state i below = last_state (setup_of words budget workers) now kept h.views h.closed i (h.last i).view (below_count i below) (h.views_are i (h.last i).view below)
+  has_state i below = last_state (setup_of words budget workers) now kept h.views h.closed i (h.last i).view (below_count i below) (h.views_are i (h.last i).view below) (is_seat h i below)
 
   pub may_be_left : (i : ℕ) → i < workers → MayBeLeft (h.last i).view (slice_index left)
   may_be_left i below = by_stop stopped h.left_is where
     by_stop : (b : Bool) → IsLeftOf b now kept left → MayBeLeft (h.last i).view (slice_index left)
-    by_stop false is = closed (closes (setup_of words budget workers) now kept h.views h.closed (slice_index left) is i (h.last i).view (below_count i below) (h.views_are i (h.last i).view below))
-    by_stop true is = crashed (crashes (setup_of words budget workers) now kept h.views h.closed (slice_index left) is i (h.last i).view (below_count i below) (h.views_are i (h.last i).view below))
+    by_stop false is = closed (closes (setup_of words budget workers) now kept h.views h.closed (slice_index left) is i (h.last i).view (below_count i below) (h.views_are i (h.last i).view below) (is_seat h i below))
+    by_stop true is = crashed (crashes (setup_of words budget workers) now kept h.views h.closed (slice_index left) is i (h.last i).view (below_count i below) (h.views_are i (h.last i).view below) (is_seat h i below))
 
   pub stands_last : (i : ℕ) → i < workers → StandsOver (slice_index words) (heap_view (h.last i))
   stands_last i below = ended_stands (slice_index words) _ (h.told i) (h.stops i) (heap_view (h.last i)) (h.parts i below).ended

@@ -41,7 +41,7 @@ module _ (words : List ℕ) (held : List Block) (workers budget : ℕ) (requests
       let opened = (unused h 0 some).nothing.floor in
       let setup = ap (λ (k : Setup). k.used) (opened_setup h 0 some) in
       let risen = (kept_all h 0 some).1.floor in
-      let knows = (h.closed.sound.good.knows 0 (last_view h 0) (let count = h.closed.count in omega arith) (h.views_are 0 (last_view h 0) some)).floor in
+      let knows = (h.closed.sound.good.knows 0 (last_view h 0) (let count = h.count in omega arith) (h.views_are 0 (last_view h 0) some)).floor in
       let capacity = slice_index words capacity_word in
       let durable = sym (cond-true (nat_lt used_word (image_words capacity)) _ 0 (lt-ltb used_word (image_words capacity) (omega arith)))
       ∙ ap (λ (image : Image). image used_word) (durable_is capacity now kept h.closed.drawn h.closed.now_long h.closed.kept_long) in

@@ -7,24 +7,17 @@ use Rattle.heap_model.specs.Geometry.{used_word}
 use Rattle.heap_rule.proofs.ClosedLemmas.{taken_in_all}
 use Rattle.core_model.specs.Opening.{setup_of}
 use Rattle.core_model.specs.Sound.{Each}
-use Rattle.core_model.specs.View.{View}
+use Rattle.core_model.specs.View.{Role, View, role}
 use Rattle.seat_view.specs.CacheState.{CacheState, heap_view}
 use Rattle.thread_cache.specs.Keeps.{KeepsHeap}
-use Rattle.thread_cache.specs.Laws.{keeps_none_law, keeps_row_law}
 use Rattle.run_model.specs.Runs.{answered, unanswered, worker_answered, worker_unanswered, worker_span, span_taken, first_span}
 use Rattle.run_model.specs.Needs.{shards_put_into}
 use Rattle.run_model.specs.Workers.{Replies, worker_requests}
-use Rattle.run_model.specs.Working.{TakesRequests}
-use Rattle.shared_run.specs.Parts.{IsUnused, TurnsAway}
+use Rattle.shared_run.specs.Parts.{IsUnused}
 use Rattle.shared_run.specs.Together.{HaveWorked}
 use Rattle.shared_run.proofs.CountLemmas.{answered_padded, unanswered_padded}
-use Rattle.shared_run.proofs.PartLemmas.{settled_costs}
+use Rattle.shared_run.proofs.RoleLemmas.{part_keeps}
 use Rattle.run_model.proofs.SumLemmas.{sum_over, total_over}
-
--- requests that were taken one by one keep what each call keeps
-pub keeps_over : (rs : List (Request × Reply)) (s t : CacheState) → TakesRequests heap_view KeepsHeap TurnsAway rs s t → KeepsHeap s t
-keeps_over [] s t same = subst (λ (u : CacheState). KeepsHeap s u) (sym same) (keeps_none_law s)
-keeps_over (r ∷ rs) s t takes = keeps_row_law s takes.0 t takes.1.keeps_it (keeps_over rs takes.0 t takes.2)
 
 module _ {words : List ℕ} {held : List Block} {workers budget : ℕ} {requests : List Request} {replies : Replies} {stopped : Bool} {now kept left : List ℕ}
     (h : HaveWorked words held workers budget requests replies stopped now kept left) where
@@ -33,21 +26,20 @@ module _ {words : List ℕ} {held : List Block} {workers budget : ℕ} {requests
   last_view worker = (h.last worker).view
 
   pub kept_all : (worker : ℕ) → worker < workers → KeepsHeap (h.first worker) (h.last worker)
-  kept_all worker below =
-      let steps = (h.parts worker below).steps in
-      let ends = steps.2 in
-      keeps_row_law (h.first worker) steps.0 (h.last worker)
-      (keeps_over (answered (worker_requests workers worker requests) (h.told worker)) (h.first worker) steps.0 steps.1)
-      (keeps_row_law steps.0 ends.worked (h.last worker) ends.kept (settled_costs ends.before _ ends.worked (h.last worker) ends.settled).kept)
+  kept_all worker below = part_keeps _ workers requests worker (h.told worker) (h.stops worker) (h.first worker) (h.last worker) (h.parts worker below)
+
+  -- no worker's seat is a carrier
+  pub is_seat : (worker : ℕ) → worker < workers → (h.last worker).view.carries ≡ 0
+  is_seat worker below = ap (λ (r : Role). r.carries) ((kept_all worker below).1.role_is ∙ ap role (h.fresh worker below).view_is)
 
   -- what is so of each view is so of each worker's, and a sum over the views is one over the workers
   pub of_each : (P : View → Type 0) → Each h.views P → (worker : ℕ) → worker < workers → P (last_view worker)
-  of_each P each worker below = each worker (last_view worker) (let count = h.closed.count in omega arith) (h.views_are worker (last_view worker) below)
+  of_each P each worker below = each worker (last_view worker) (let count = h.count in omega arith) (h.views_are worker (last_view worker) below)
 
   pub seats_total : (of : View → ℕ) → total of h.views ≡ sum_over (λ worker. of (last_view worker)) 0 workers
   seats_total of =
-      total_over of h.views (λ worker. of (last_view worker)) 0 (λ i v below. ap of (h.views_are i v (let count = h.closed.count in omega arith)) ∙ ap (λ n. of (last_view n)) (let e : i ≡ 0 + i = omega arith in e))
-      ∙ ap (sum_over (λ worker. of (last_view worker)) 0) h.closed.count
+      total_over of h.views (λ worker. of (last_view worker)) 0 (λ i v below. ap of (h.views_are i v (let count = h.count in omega arith)) ∙ ap (λ n. of (last_view n)) (let e : i ≡ 0 + i = omega arith in e))
+      ∙ ap (sum_over (λ worker. of (last_view worker)) 0) h.count
 
   -- a worker's replies are those that it was told
   pub answered_told : (worker : ℕ) → worker < workers → worker_answered workers worker requests replies ≡ answered (worker_requests workers worker requests) (h.told worker)

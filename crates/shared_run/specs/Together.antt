@@ -33,6 +33,8 @@ pub record HaveWorked (words : List ℕ) (held : List Block) (workers budget : �
   pub few : workers ≤ 8
   pub views : List View
   pub closed : IsClosedSound (setup_of words budget workers) now kept views
+  -- no carrier is left
+  pub count : length views ≡ workers
   -- each root and each held block is its worker's at the opening, and the closed words and views are what events of the seats made of that
   pub owners : OwnerLists
   pub by_root : AreOwnersByRoot (slice_index words) held workers owners.held owners.roots

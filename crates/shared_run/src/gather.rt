@@ -3,13 +3,18 @@
 
 ghost use Rattle.std.specs.Prelude.{◌≡◌, ◌<◌, ◌≤◌, ℕ, All, IfOk, List, [], length, get_or};
 ghost use Rattle.std.specs.Vec.{vec_capacity};
+ghost use Rattle.heap_table.specs.AtTable.{IsClosedReached, IsClosedSound};
+ghost use Rattle.heap_table.specs.Rule.{setup_for};
+ghost use Rattle.heap_rule.specs.Carried.{AreAllOf};
+ghost use Rattle.heap_rule.specs.Seats.{views_of};
 ghost use Rattle.run_model.specs.Workers.{worker_requests, worker_replies};
 ghost use Rattle.worker_run.specs.Said.{requests_of, replies_of};
 ghost use Rattle.shared_run.specs.Jobs.{IsWorkedOf};
 ghost use Rattle.shared_run.specs.Dealing.{AreInTurn, AreParts, Queue, padded};
 
 use crate::job::Worked;
-use heap_rule::{Seat, Shared};
+use heap_rule::{Seat, Shared, close_shared};
+use line_memory::Closed;
 use std::alloc::{AllocError, Global};
 use std::collections::VecDeque;
 use trace_text::{Reply, Request};
@@ -55,6 +60,17 @@ pub(crate) fn gather(
         told,
         stopped,
     })
+}
+
+/// Closes the heap, which has no carriers, since no worker offers a block.
+pub(crate) fn close(alloc: Global, shared: Shared, seats: Vec<Seat>) -> Result<Closed, AllocError>
+    requires { AreAllOf shared seats.items [] }
+    ensures sound { IfOk result (λ c. IsClosedSound (setup_for shared.opening) c.now c.kept
+        (views_of seats.items)) }
+    ensures reached { IfOk result (λ c. IsClosedReached shared.opening c.now c.kept
+        (views_of seats.items)) }
+{
+    close_shared(alloc, shared, seats, Vec::new(alloc))
 }
 
 /// The replies in the order of the trace: each request has the next one of its worker, as far as

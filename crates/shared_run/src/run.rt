@@ -24,10 +24,10 @@ ghost use Rattle.shared_run.specs.Together.{HaveWorked, IsLeftOf, opening_for};
 
 use crate::deal::{Reading, deal};
 use crate::follow::follow;
-use crate::gather::{Gathered, gather, put_in_order};
+use crate::gather::{Gathered, close, gather, put_in_order};
 use crate::job::{Job, Worked, work};
 use dictionary::MappedHeap;
-use heap_rule::{Shared, close_shared, open_shared};
+use heap_rule::{Shared, open_shared};
 use line_memory::{Chance, Closed};
 use region_header::Bytes;
 use seat_owners::owners_by_trace;
@@ -227,7 +227,7 @@ fn run_workers<R: Threads + Sync, G: Gate + Sync, C: Chances>(
         stopped,
     } = gather(alloc, &shared, requests, worked)?;
     put_in_order(requests, told, &mut replies);
-    let closed = close_shared(alloc, shared, seats)?;
+    let closed = close(alloc, shared, seats)?;
     let image = image_left(closed, stopped, geometry, chances);
     let maps = maps_after(alloc, maps, stopped, requests, &replies)?;
     Ok(Outcome {

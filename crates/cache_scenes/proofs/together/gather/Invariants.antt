@@ -1,11 +1,11 @@
 use Rattle.std.proofs.Common.{◌≡◌, ◌+◌, length, All}
-use Rattle.heap_rule.specs.Seated.{IsSeatOf}
+use Rattle.cache_scenes.specs.Holding.{IsBackFrom}
 use Rattle.cache_scenes.proofs.together.gather.Given as goal
 
 abbrev pub invariant-loop-one : goal.invariant-loop-one
 invariant-loop-one l = record {
-  worked : All (λ one. IsSeatOf l.shared one.seat) l.worked.items;
-  seats : All (IsSeatOf l.shared) l.seats.items;
+  worked : All (λ one. IsBackFrom l.shared one.seat) l.worked.items;
+  seats : All (IsBackFrom l.shared) l.seats.items;
   count : length l.seats.items + length l.worked.items ≡ length l.fn.worked.items;
 }
 

@@ -13,14 +13,15 @@ use Rattle.tool_ports.specs.Chances.{unasked}
 use Rattle.tool_ports.proofs.ChanceLemmas.{comes_then}
 use Rattle.shared_run.specs.Dealing.{AreParts}
 use Rattle.shared_run.specs.Following.{AreAfter}
-use Rattle.shared_run.proofs.ClosedLemmas.{both_long, first_of, kept_capacity, kept_whole, now_capacity, now_long, now_whole, parts_back}
+use Rattle.shared_run.proofs.ClosedLemmas.{both_long, first_of, kept_capacity, kept_whole, now_capacity, now_long, now_whole}
 use Rattle.shared_run.proofs.DealtLemmas.{dealt_in_turn}
 use Rattle.shared_run.proofs.ScrambledLemmas.{at_capacity}
+use Rattle.shared_run.proofs.RoleLemmas.{parts_back}
 use Rattle.shared_run.proofs.RunLemmas.{have_worked}
 use Rattle.shared_run.proofs.run.run_workers.Goals as goal
 
-pub close_shared-requires : goal.close_shared-requires
-close_shared-requires g c =
+pub close-requires : goal.close-requires
+close-requires g c =
     let got = c.in_ok-seats.field-0 in
     let parts = c.in_ok-seats.ensures.parts in
     let jobs = c.in_ok-shared.ensures.count in
