@@ -40,3 +40,5 @@ pub mod RecordLemmas
 pub mod StackLemmas
 pub mod OwnedCarriers
 pub mod HandingLemmas
+pub mod LargeCarriers
+pub mod HandedSeats

@@ -29,7 +29,7 @@ use Rattle.heap_table.specs.Plays.{HasSoundState}
 use Rattle.heap_table.specs.SeatViews.{SeatViews, view_in}
 use Rattle.heap_rule.specs.Seated.{IsKeptOf, IsWholeSeat}
 use Rattle.heap_rule.proofs.ViewLemmas.{block_below, block_class, block_range}
-use Rattle.heap_rule.specs.Carried.{HoldsAlone, HoldsSmall, IsWholeCarrier}
+use Rattle.heap_rule.specs.Holdings.{HoldsOneSmall, HoldsSmall}
 use Rattle.heap_rule.specs.declared.owned.Owned.{Owned}
 use Rattle.heap_rule.specs.Owned.{AreClasses, HasOwned, IsMarking, parts_of, times_had}
 use Rattle.heap_rule.proofs.BlockMarks.{marked_less, marked_more}
@@ -69,23 +69,23 @@ less_in test n class [] = omega arith
 less_in test n zero (xs ∷ xss) = less_of test n xs
 less_in test n (suc class) (xs ∷ xss) = less_in test n class xss
 
-all_roots : (roots : List ℕ) → chosen (λ i. true) roots ≡ roots
+pub all_roots : (roots : List ℕ) → chosen (λ i. true) roots ≡ roots
 all_roots [] = refl
 all_roots (x ∷ roots) = ap (λ l. x ∷ l) (all_roots roots)
 
-all_spans : (test : ℕ → Bool) (spans : List Span) → ((span : Span) → Contains spans span → test span.first ≡ true) → chosen_spans test spans ≡ spans
+pub all_spans : (test : ℕ → Bool) (spans : List Span) → ((span : Span) → Contains spans span → test span.first ≡ true) → chosen_spans test spans ≡ spans
 all_spans test [] each = refl
 all_spans test (span ∷ spans) each = ap (λ t. cond t (span ∷ chosen_spans test spans) (chosen_spans test spans)) (each span (in_head span spans)) ∙ ap (λ l. span ∷ l) (all_spans test spans (λ s there. each s (in_rest span s spans there)))
 
 -- a span of the list takes its first superblock
-span_takes : (spans : List Span) (span : Span) → ((s : Span) → Contains spans s → 1 ≤ s.count) → Contains spans span → 0 < times_large span.first spans
+pub span_takes : (spans : List Span) (span : Span) → ((s : Span) → Contains spans s → 1 ≤ s.count) → Contains spans span → 0 < times_large span.first spans
 span_takes [] span counted there = absurd (let l = there.1 in omega arith)
 span_takes (s ∷ spans) span counted there = elim (head_or_rest s span spans there) as (λ _. 0 < times_large span.first (s ∷ spans)) [
   | inl same ↦ let r = range_is s.first s.count s.first (omega arith) (let c = counted s (in_head s spans) in omega arith) in let e = ap (λ (x : Span). one_if (takes x.first s)) same in omega arith
   | inr later ↦ let rest = span_takes spans span (λ t at. counted t (in_rest s t spans at)) later in omega arith
 ]
 
-module _ (v : View) (s : HasSoundState v) (b : Block) (small : HoldsSmall v b) where
+module _ (v : View) (s : HasSoundState v) (b : Block) (class : ℕ) (small : HoldsSmall v b class) where
   abbrev m : Memory
   m = memory_of v.setup.capacity s.words
 
@@ -93,7 +93,7 @@ module _ (v : View) (s : HasSoundState v) (b : Block) (small : HoldsSmall v b) w
   good = s.sound.good
 
   in_lists : total (times b.first_word) v.small ≡ 1
-  in_lists = let t = in_lists_total b.first_word small.class v.small small.held in let all = total_at (times_block b.first_word) s.views s.seat v s.below s.at in
+  in_lists = let t = in_lists_total b.first_word class v.small small.held in let all = total_at (times_block b.first_word) s.views s.seat v s.below s.at in
       let once = (held_once v.setup s.words s.views s.sound).small b.first_word in omega arith
 
   no_other : (total (times b.first_word) v.caches ≡ 0) × (times b.first_word v.batch.blocks ≡ 0)
@@ -144,7 +144,7 @@ module _ (v : View) (s : HasSoundState v) (b : Block) (small : HoldsSmall v b) w
     ]
 
 -- a seat that accepts a small block, whatever it has of its superblock
-module _ (v u : View) (b : Block) (class : ℕ) (alone : HoldsAlone u b class) (s : HasSoundState (accepted v u)) where
+module _ (v u : View) (b : Block) (class : ℕ) (alone : HoldsOneSmall u b class) (s : HasSoundState (accepted v u)) where
   abbrev after : Good v.setup (memory_of v.setup.capacity s.words) s.views
   after = s.sound.good
 
@@ -200,7 +200,7 @@ module _ (v u : View) (b : Block) (class : ℕ) (alone : HoldsAlone u b class) (
     batched n some = let q = (after.blocks s.seat (accepted v u) s.below s.at).batched n some in
         there o.classes.items v.batch.class n less (ap (info (memory_of v.setup.capacity s.words)) q.0 ∙ q.1) (own.classes.batched n some)
 
-one_marked : (old : List Bool) (n : ℕ) (mark : Bool) → n < length old → IsMarking old (set old n mark) (n ∷ []) mark
+pub one_marked : (old : List Bool) (n : ℕ) (mark : Bool) → n < length old → IsMarking old (set old n mark) (n ∷ []) mark
 one_marked old n mark less = record {
   long = length-set old n mark;
   inside = λ x here. elim (cases_eq n x) as (λ _. get_or (set old n mark) x false ≡ mark) [
@@ -214,75 +214,11 @@ one_marked old n mark less = record {
 pub block_there : (v : View) (s : HasSoundState v) (b : ℕ) → 0 < times_block b v → (start_word v.setup.capacity 0 ≤ b) × (b < image_words v.setup.capacity) × (superblock_at v.setup.capacity b < v.setup.capacity)
 block_there v s b own = let r = block_range v s b own in let p = r.0 in let q = r.1 in (p, omega arith, block_below v s b own)
 
-pub small_own : (v : View) (b : Block) → HoldsSmall v b → 0 < times_block b.first_word v
-small_own v b small = let t = in_lists_total b.first_word small.class v.small small.held in omega arith
+pub small_own : (v : View) (b : Block) (class : ℕ) → HoldsSmall v b class → 0 < times_block b.first_word v
+small_own v b class small = let t = in_lists_total b.first_word class v.small small.held in omega arith
 
-pub alone_own : (v u : View) (b : Block) (class : ℕ) → HoldsAlone u b class → 0 < times_block b.first_word (accepted v u)
+pub alone_own : (v u : View) (b : Block) (class : ℕ) → HoldsOneSmall u b class → 0 < times_block b.first_word (accepted v u)
 alone_own v u b class alone = let t = both_times b.first_word u.small v.small in let o = alone.once b.first_word in let e = eq-eqb-one b.first_word b.first_word refl in omega arith
-
-pub is_held : (v : View) (b : Block) → HoldsSmall v b → IsHeld v b
-is_held v b small = subst (λ w. IsHeld v (record { first_word = b.first_word; words = w })) (sym small.words) (a_small small.class b.first_word small.held)
-
--- what is kept of a seat whose ticket is used up, where its notes, caches and batch stay
-keeps_on : (notes : SeatNotes) (v w : View) → w.setup ≡ v.setup → w.ticket ≡ None → (w.stopped ≡ v.stopped) × (w.seen_used ≡ v.seen_used) × (w.seen_head ≡ v.seen_head) × (w.seen_link ≡ v.seen_link) × (w.seen_anchor ≡ v.seen_anchor)
-    → w.caches ≡ v.caches → w.batch ≡ v.batch → HasSoundState w → IsKeptOf notes v → IsKeptOf (record notes { ticket = None }) w
-keeps_on notes v w setup ticket same caches batch has kept = let n = kept.notes_are in record {
-  has = has;
-  notes_are = record {
-    ticket = ticket;
-    stopped = same.0 ∙ n.stopped;
-    seen_used = same.1 ∙ n.seen_used;
-    seen_head = same.2 ∙ n.seen_head;
-    seen_link = same.3 ∙ n.seen_link;
-    seen_anchor = same.4 ∙ n.seen_anchor;
-  };
-  caches = subst (HasCaches notes.caches) (sym caches) kept.caches;
-  batch = subst (HasBatch notes.batch) (sym batch) kept.batch;
-}
-
--- a whole seat after an offer
-pub offered_seat : (shared : SharedView) (table : TableId) (me me' : Me ℕ SeatViews) (notes : SeatNotes) (owned : Owned) (blocks : List Bool) (marks : List Bool) (capacity budget : ℕ) (b : Block) → HoldsSmall (view_in me.0) b
-    → IsWholeSeat me notes owned marks capacity budget → IsAt shared table me' (view_in me'.0) → view_in me'.0 ≡ offered (view_in me.0) b.first_word → blocks ≡ set owned.blocks b.first_word false
-    → IsWholeSeat me' (record notes { ticket = None }) (record owned { blocks = blocks }) marks capacity budget
-offered_seat shared table me me' notes owned blocks marks capacity budget b small whole at view_is blocks_are =
-    let v = view_in me.0 in let old = whole.seat in let has = old.kept.has in
-    let there = block_there v has b.first_word (small_own v b small) in
-    let less : b.first_word < length owned.blocks = (let l = whole.own.words_long in let t = there.1 in omega arith) in
-    record {
-      seat = record {
-        single = at.single;
-        no_slots = at.no_slots;
-        kept = subst (IsKeptOf (record notes { ticket = None })) (sym view_is) (keeps_on notes v (offered v b.first_word) refl refl (refl, refl, refl, refl, refl) refl refl (subst HasSoundState view_is at.has) old.kept);
-        capacity_is = old.capacity_is ∙ sym (ap (λ (x : View). x.setup.capacity) view_is);
-        budget_is = old.budget_is ∙ sym (ap (λ (x : View). x.setup.budget) view_is);
-        low = subst (λ (x : View). x.setup.budget < 1099511627776) (sym view_is) old.low;
-      };
-      marks_long = whole.marks_long;
-      own = subst (λ (x : View). HasOwned (record owned { blocks = blocks }) (parts_of x)) (sym view_is) (offer_owned v has b small owned blocks whole.own (subst (λ l. IsMarking owned.blocks l (b.first_word ∷ []) false) (sym blocks_are) (one_marked owned.blocks b.first_word false less)));
-    }
-
--- a whole seat after it accepted
-pub accepted_seat : (shared : SharedView) (table : TableId) (me me' : Me ℕ SeatViews) (notes : SeatNotes) (owned : Owned) (blocks : List Bool) (classes : Vec ℕ Global) (marks : List Bool) (capacity budget : ℕ) (u : View) (b : Block) (class : ℕ) → HoldsAlone u b class
-    → IsWholeSeat me notes owned marks capacity budget → IsAt shared table me' (view_in me'.0) → view_in me'.0 ≡ accepted (view_in me.0) u → blocks ≡ set owned.blocks b.first_word true
-    → classes.items ≡ set owned.classes.items (superblock_at (view_in me.0).setup.capacity b.first_word) class
-    → IsWholeSeat me' (record notes { ticket = None }) (record owned { blocks = blocks; classes = classes }) marks capacity budget
-accepted_seat shared table me me' notes owned blocks classes marks capacity budget u b class alone whole at view_is blocks_are classes_are =
-    let v = view_in me.0 in let old = whole.seat in let has = subst HasSoundState view_is at.has in
-    let there = block_there (accepted v u) has b.first_word (alone_own v u b class alone) in
-    let less : b.first_word < length owned.blocks = (let l = whole.own.words_long in let t = there.1 in omega arith) in
-    record {
-      seat = record {
-        single = at.single;
-        no_slots = at.no_slots;
-        kept = subst (IsKeptOf (record notes { ticket = None })) (sym view_is) (keeps_on notes v (accepted v u) refl refl (refl, refl, refl, refl, refl) refl refl has old.kept);
-        capacity_is = old.capacity_is ∙ sym (ap (λ (x : View). x.setup.capacity) view_is);
-        budget_is = old.budget_is ∙ sym (ap (λ (x : View). x.setup.budget) view_is);
-        low = subst (λ (x : View). x.setup.budget < 1099511627776) (sym view_is) old.low;
-      };
-      marks_long = whole.marks_long;
-      own = subst (λ (x : View). HasOwned (record owned { blocks = blocks; classes = classes }) (parts_of x)) (sym view_is)
-          (accept_owned v u b class alone has owned blocks classes whole.own (let l = whole.own.classes_long in let t = there.2 in omega arith) (subst (λ l. IsMarking owned.blocks l (b.first_word ∷ []) true) (sym blocks_are) (one_marked owned.blocks b.first_word true less)) classes_are);
-    }
 
 -- the carrier of a small block
 only_it : (b n : ℕ) (xs : List ℕ) → n ≢ b → times n (chosen (λ x. nat_eq x b) xs) ≡ 0
@@ -299,37 +235,31 @@ all_of_it b (x ∷ xs) = by_test (nat_eq x b) refl (all_of_it b xs) where
   by_test true e rest = omega arith
   by_test false e rest = let z = ap one_if e in omega arith
 
-lists_only : (b n : ℕ) (xss : List (List ℕ)) → n ≢ b → total (times n) (chosen_lists (λ x. nat_eq x b) xss) ≡ 0
+pub lists_only : (b n : ℕ) (xss : List (List ℕ)) → n ≢ b → total (times n) (chosen_lists (λ x. nat_eq x b) xss) ≡ 0
 lists_only b n [] other = refl
 lists_only b n (xs ∷ xss) other = let here = only_it b n xs other in let rest = lists_only b n xss other in omega arith
 
-lists_all : (b : ℕ) (xss : List (List ℕ)) → total (times b) (chosen_lists (λ x. nat_eq x b) xss) ≡ total (times b) xss
+pub lists_all : (b : ℕ) (xss : List (List ℕ)) → total (times b) (chosen_lists (λ x. nat_eq x b) xss) ≡ total (times b) xss
 lists_all b [] = refl
 lists_all b (xs ∷ xss) = let here = all_of_it b xs in let rest = lists_all b xss in omega arith
 
-no_spans : (test : ℕ → Bool) (spans : List Span) → ((span : Span) → Contains spans span → test span.first ≡ false) → chosen_spans test spans ≡ []
+pub no_spans : (test : ℕ → Bool) (spans : List Span) → ((span : Span) → Contains spans span → test span.first ≡ false) → chosen_spans test spans ≡ []
 no_spans test [] each = refl
 no_spans test (span ∷ spans) each = ap (λ t. cond t (span ∷ chosen_spans test spans) (chosen_spans test spans)) (each span (in_head span spans)) ∙ no_spans test spans (λ s there. each s (in_rest span s spans there))
 
-pub carrier_alone : (v : View) (s : HasSoundState v) (b : Block) (small : HoldsSmall v b) (class : ℕ) → class ≡ small.class → HoldsAlone (carrier_of v b.first_word) b class
-carrier_alone v s b small class same = record {
-  is_class = subst IsClass (sym same) is_class;
-  words = small.words ∙ ap words_of_class (sym same);
+pub carrier_alone : (v : View) (s : HasSoundState v) (b : Block) (class : ℕ) → HoldsSmall v b class → HoldsOneSmall (carrier_of v b.first_word) b class
+carrier_alone v s b class small = record {
+  is = small.is;
   once = λ n. elim (cases_eq n b.first_word) as (λ _. total (times n) (chosen_lists (λ x. nat_eq x b.first_word) v.small) ≡ times n (b.first_word ∷ [])) [
     | inl here ↦ subst (λ x. total (times x) (chosen_lists (λ y. nat_eq y b.first_word) v.small) ≡ times x (b.first_word ∷ [])) (sym here)
-        (let a = lists_all b.first_word v.small in let one = in_lists v s b small in let e = eq-eqb-one b.first_word b.first_word refl in omega arith)
+        (let a = lists_all b.first_word v.small in let one = in_lists v s b class small in let e = eq-eqb-one b.first_word b.first_word refl in omega arith)
     | inr other ↦ let z = lists_only b.first_word n v.small other in let e = ne-eqb-none b.first_word n (λ x. other (sym x)) in omega arith
   ];
   in_class = λ of n there. elim (cases_eq n b.first_word) [
     | inl here ↦ let has : 0 < times b.first_word (of_class v.small of) = (let l = less_in (λ x. nat_eq x b.first_word) b.first_word of v.small in let e = ap (λ x. times x (of_class (chosen_lists (λ y. nat_eq y b.first_word) v.small) of)) here in omega arith) in
-        sym ((s.sound.good.blocks s.seat v s.below s.at).held of b.first_word has) ∙ (s.sound.good.blocks s.seat v s.below s.at).held small.class b.first_word small.held ∙ sym same
+        sym ((s.sound.good.blocks s.seat v s.below s.at).held of b.first_word has) ∙ (s.sound.good.blocks s.seat v s.below s.at).held class b.first_word small.held
     | inr other ↦ absurd (let t = in_lists_total n of (chosen_lists (λ x. nat_eq x b.first_word) v.small) there in let z = lists_only b.first_word n v.small other in omega arith)
   ];
   none_large = no_spans (λ d. nat_eq d (superblock_at v.setup.capacity b.first_word)) v.large (λ span there. ne_eqb span.first (superblock_at v.setup.capacity b.first_word)
-      (λ here. let t = span_takes v.large span (s.sound.good.claims s.seat v s.below s.at).some there in let z = no_span v s b small in let e = ap (λ d. times_large d v.large) here in omega (arith, t, z, e)));
-} where
-  is_class : IsClass small.class
-  is_class = subst IsClass ((s.sound.good.blocks s.seat v s.below s.at).held small.class b.first_word small.held) (block_class v s b.first_word (small_own v b small))
-
-pub whole_carrier : (v : View) (s : HasSoundState v) (b : Block) (small : HoldsSmall v b) (class : ℕ) → class ≡ small.class → (me : Me ℕ SeatViews) → me ≡ (carrier_of v b.first_word ∷ [], []) → IsWholeCarrier me b class
-whole_carrier v s b small class same me me_is = subst (λ m. IsWholeCarrier m b class) (sym me_is) (record { me_is = refl; carrier = carries_block v b.first_word; alone = carrier_alone v s b small class same })
+      (λ here. let t = span_takes v.large span (s.sound.good.claims s.seat v s.below s.at).some there in let z = no_span v s b class small in let e = ap (λ d. times_large d v.large) here in omega (arith, t, z, e)));
+}

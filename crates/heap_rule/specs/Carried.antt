@@ -1,14 +1,15 @@
 -- What contracts see of a carrier, and what it keeps; and all that a heap is closed with.
-use Rattle.std.specs.Prelude.{◌≡◌, ℕ, ◌+◌, ◌-◌, ◌<◌, List, [], ◌∷◌, Contains, length, map}
+use Rattle.std.specs.Prelude.{◌≡◌, ℕ, ◌+◌, ◌-◌, List, [], ◌∷◌, Contains, length, map}
 use Rattle.heap_model.specs.declared.block.Block.{Block}
-use Rattle.heap_model.specs.Counting.{times, total}
-use Rattle.heap_model.specs.Sizes.{IsClass, words_of_class}
+use Rattle.heap_model.specs.Counting.{total}
 use Rattle.atomic_table.specs.Seated.{TableId}
 use Rattle.atomic_table.specs.Table.{Me}
 use Rattle.core_model.specs.Carriers.{IsCarrier}
-use Rattle.core_model.specs.View.{View, of_class}
+use Rattle.core_model.specs.View.{View}
 use Rattle.heap_table.specs.AtTable.{SharedView}
 use Rattle.heap_table.specs.SeatViews.{SeatViews, view_in}
+use Rattle.heap_rule.specs.declared.owned.Holding.{Holding}
+use Rattle.heap_rule.specs.Holdings.{HoldsAlone}
 use Rattle.heap_rule.specs.Seated.{SeatView}
 use Rattle.heap_rule.specs.Seats.{AreSeatsOf, views_of}
 
@@ -18,18 +19,11 @@ pub record CarrierView : Type 0 where
   pub view : View
   pub block : Block
 
--- it holds this small block, once, in the list of its class, and nothing else
-pub record HoldsAlone (u : View) (b : Block) (class : ℕ) : Type 0 where
-  pub is_class : IsClass class
-  pub words : b.words ≡ words_of_class class
-  pub once : (n : ℕ) → total (times n) u.small ≡ times n (b.first_word ∷ [])
-  pub in_class : (of n : ℕ) → 0 < times n (of_class u.small of) → of ≡ class
-  pub none_large : u.large ≡ []
-
-pub record IsWholeCarrier (me : Me ℕ SeatViews) (b : Block) (class : ℕ) : Type 0 where
+-- a seat of the table that stands for a carrier, which holds this block alone
+pub record IsWholeCarrier (me : Me ℕ SeatViews) (b : Block) (holding : Holding) : Type 0 where
   pub me_is : me ≡ (view_in me.0 ∷ [], [])
   pub carrier : IsCarrier (view_in me.0)
-  pub alone : HoldsAlone (view_in me.0) b class
+  pub alone : HoldsAlone (view_in me.0) b holding
 
 abbrev pub carried_views : List CarrierView → List View
 carried_views carriers = map (λ (c : CarrierView). c.view) carriers
@@ -51,9 +45,3 @@ pub record AreCarriers (n : ℕ) (views : List View) : Type 0 where
 pub record HasSeatsBefore (n : ℕ) (before after : List View) : Type 0 where
   pub seats : total (λ (v : View). 1 - v.carries) after ≡ n + total (λ (v : View). 1 - v.carries) before
   pub carry : total (λ (v : View). v.carries) after ≡ total (λ (v : View). v.carries) before
-
--- a small block that the seat holds
-pub record HoldsSmall (v : View) (b : Block) : Type 0 where
-  pub class : ℕ
-  pub words : b.words ≡ words_of_class class
-  pub held : 0 < times b.first_word (of_class v.small class)

@@ -3,6 +3,7 @@ pub mod Seated
 pub mod Seats
 pub mod Images
 pub mod Held
+pub mod Holdings
 pub mod Left
 pub mod Cuts
 pub mod Tickets

@@ -44,7 +44,7 @@ fn gather_carriers(shared: &Shared, mut carriers: Vec<Carrier>) -> TableSeat
         let Carrier {
             table_seat,
             block: _,
-            class: _,
+            holding: _,
         } = carrier;
         join(shared, &mut last, table_seat);
     }

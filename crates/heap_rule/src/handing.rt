@@ -5,20 +5,22 @@
 
 ghost use Rattle.std.specs.Prelude.{◌≡◌};
 ghost use Rattle.core_model.specs.Carriers.{accepted, carrier_of, MayHand, offered};
-ghost use Rattle.heap_rule.specs.Carried.{HoldsSmall};
+ghost use Rattle.core_model.specs.Held.{IsHeld};
+ghost use Rattle.heap_rule.specs.Holdings.{Holds};
 ghost use Rattle.heap_rule.specs.Seated.{IsSeatOf, KeepsStores};
 
 use crate::carrier::Carrier;
+use crate::owned::Holding;
 use crate::seat::Seat;
 use heap_table::{Shared, accept, offer};
 use super_block::{Block, SUPERBLOCK_WORDS};
 
 impl Seat {
-    /// Gives a held small block to a carrier.
+    /// Gives a held block to a carrier.
     pub fn offer(&mut self, shared: &Shared, block: Block) -> Carrier
         requires seat { IsSeatOf shared.now self.old }
         requires may { MayHand self.old.view }
-        requires held { HoldsSmall self.old.view block }
+        requires held { IsHeld self.old.view block }
         ensures view { self.new.view ≡ offered self.old.view block.first_word }
         ensures seat { IsSeatOf shared.now self.new }
         ensures stores { KeepsStores self.old self.new }
@@ -26,14 +28,14 @@ impl Seat {
         ensures carrier { result.view ≡ carrier_of self.old.view block.first_word }
         ensures block { result.block ≡ block }
     {
-        let class = self.small_class(block);
+        let holding = self.holding_of(block);
         let table_seat = offer(shared, &mut self.table_seat, block);
         self.notes.ticket = None;
-        self.owned.blocks.clear(block.first_word);
+        self.owned.lose(block, holding);
         Carrier {
             table_seat,
             block,
-            class,
+            holding,
         }
     }
 
@@ -50,22 +52,25 @@ impl Seat {
         let Carrier {
             table_seat,
             block,
-            class,
+            holding,
         } = carrier;
         accept(shared, &mut self.table_seat, table_seat);
         self.notes.ticket = None;
-        let d = (block.first_word - self.geometry.start(0)) / SUPERBLOCK_WORDS;
-        self.owned.blocks.set(block.first_word);
-        self.owned.classes[d as usize] = class;
+        self.owned.gain(self.geometry, block, holding);
         block
     }
 
-    /// The class of a held small block.
-    fn small_class(&self, block: Block) -> u64
-        requires held { HoldsSmall self.now.view block }
-        ensures { (h : HoldsSmall self.now.view block) → result ≡ h.class }
+    /// How a held block is held.
+    fn holding_of(&self, block: Block) -> Holding
+        requires held { IsHeld self.now.view block }
+        ensures { Holds self.now.view block result }
     {
         let d = (block.first_word - self.geometry.start(0)) / SUPERBLOCK_WORDS;
-        self.owned.classes[d as usize]
+        let n = self.owned.ownerships[d as usize].count();
+        if n > 0 {
+            return Holding::Large { d, n };
+        }
+        let class = self.owned.classes[d as usize];
+        Holding::Small { class }
     }
 }

@@ -7,12 +7,14 @@ ghost use Rattle.heap_rule.specs.Owned.{IsMarking, HaveOwnership, unclassed_in, 
 ghost use Rattle.core_model.specs.Effects.{rest_of};
 ghost use Rattle.heap_rule.specs.Stacks.{HasStack};
 ghost use Rattle.heap_rule.specs.Changed.{CanChange, IsChanged, IsRecached};
+ghost use Rattle.heap_rule.specs.Holdings.{CanGain, CanGainSmall, CanLose, HasGained, HasLost};
+ghost use Rattle.heap_rule.specs.declared.owned.Holding.TheVariants as holding;
 ghost use Rattle.heap_rule.specs.declared.owned.Change.TheVariants as change;
 
 use crate::stacks::Stack;
 use bit_marks::BitMarks;
 use size_table::SizeClass;
-use super_block::{Geometry, SUPERBLOCK_WORDS, block_words};
+use super_block::{Block, Geometry, SUPERBLOCK_WORDS, block_words};
 
 /// The most blocks of a superblock: each has two words at least.
 pub(crate) const MOST_BLOCKS: usize = SUPERBLOCK_WORDS as usize / 2;
@@ -127,6 +129,15 @@ pub enum Change {
     Split { d: u64, n: u64 },
 }
 
+/// How a block is held.
+#[derive(Clone, Copy)]
+pub enum Holding {
+    /// A small one, of the class.
+    Small { class: u64 },
+    /// A large one, of `n` superblocks from `d` on.
+    Large { d: u64, n: u64 },
+}
+
 impl Owned {
     /// Does the change.
     pub(crate) fn change(&mut self, geometry: Geometry, change: Change)
@@ -182,6 +193,38 @@ impl Owned {
     {
         own_range(&mut self.ownerships, d, n, Ownership::Large { count: 0 });
         self.ownerships[d as usize] = Ownership::Large { count: n };
+    }
+
+    /// A block that was held is not the seat's.
+    pub(crate) fn lose(&mut self, block: Block, holding: Holding)
+        requires { CanLose block holding self.old }
+        ensures { HasLost block holding self.old self.new }
+    {
+        match holding {
+            Holding::Small { .. } => self.blocks.clear(block.first_word),
+            Holding::Large { d, n } => own_range(&mut self.ownerships, d, n, Ownership::Nothing),
+        }
+    }
+
+    /// A block is held.
+    pub(crate) fn gain(&mut self, geometry: Geometry, block: Block, holding: Holding)
+        requires { CanGain block holding geometry.capacity self.old }
+        ensures { HasGained block holding geometry.capacity self.old self.new }
+    {
+        match holding {
+            Holding::Small { class } => self.hold_small(geometry, block, class),
+            Holding::Large { d, n } => self.hold_large(d, n),
+        }
+    }
+
+    /// A small block of the class is held.
+    fn hold_small(&mut self, geometry: Geometry, block: Block, class: u64)
+        requires { CanGainSmall block geometry.capacity self.old }
+        ensures { HasGained block (holding.Small class) geometry.capacity self.old self.new }
+    {
+        let d = (block.first_word - geometry.start(0)) / SUPERBLOCK_WORDS;
+        self.blocks.set(block.first_word);
+        self.classes[d as usize] = class;
     }
 }
 

@@ -1,7 +1,7 @@
 //! A seat offers a held block to a carrier, or accepts the block of one, each with its ticket.
 
 ghost use Rattle.std.specs.Prelude.{◌≡◌, IfErr, IfOk, OnErr};
-ghost use Rattle.heap_rule.specs.Carried.{HoldsSmall};
+ghost use Rattle.core_model.specs.Held.{IsHeld};
 ghost use Rattle.heap_rule.specs.Seated.{IsSeatOf};
 ghost use Rattle.seat_rows.specs.Costs.{one_draw};
 ghost use Rattle.seat_rows.specs.Rows.{Row, Stops};
@@ -12,7 +12,7 @@ use line_memory::{Chance, Stopped};
 use seat_rows::draw;
 use super_block::Block;
 
-/// Gives a held small block to a carrier. Where the seat stops it is still held.
+/// Gives a held block to a carrier. Where the seat stops it is still held.
 pub fn offer<C: Chance>(
     seat: &mut Seat,
     shared: &Shared,
@@ -20,7 +20,7 @@ pub fn offer<C: Chance>(
     chance: &mut C,
 ) -> Result<Carrier, Stopped>
     requires seat { IsSeatOf shared.now seat.old }
-    requires held { HoldsSmall seat.old.view block }
+    requires held { IsHeld seat.old.view block }
     ensures offered { IfOk result (λ carrier. HasOffered block carrier shared.now.table
         seat.old.view seat.new.view) }
     ensures stopped { IfErr result (λ e. Stops e.step seat.old.view seat.new.view) }

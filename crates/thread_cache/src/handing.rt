@@ -9,12 +9,12 @@ use line_memory::{Chance, Stopped};
 use seat_words::{accept, offer};
 
 impl<'a, C: Chance> CacheSeat<'a, C> {
-    ghost use Rattle.heap_rule.specs.Carried.{HoldsSmall};
+    ghost use Rattle.core_model.specs.Held.{IsHeld};
     ghost use Rattle.seat_words.specs.Handed.{HasAccepted, HasOffered};
 
-    /// Gives a held small block to a carrier. Where the seat stops it is still held.
+    /// Gives a held block to a carrier. Where the seat stops it is still held.
     pub fn offer(&mut self, block: Block) -> Result<Carrier, Stopped>
-        requires held { HoldsSmall self.old.view block }
+        requires held { IsHeld self.old.view block }
         ensures offered { IfOk result (λ carrier. HasOffered block carrier self.old.table
             self.old.view self.new.view) }
         ensures counted { IfOk result (λ _. self.new.small_calls ≡ self.old.small_calls + 1) }
