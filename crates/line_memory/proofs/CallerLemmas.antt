@@ -1,5 +1,5 @@
 -- What each call leaves, for callers of a memory: no call but a store adds a value, and a store adds only its own.
-use Rattle.std.proofs.Common.{◌≡◌, ℕ, ◌<◌, ◌⊎◌, List, [], ◌∷◌, length, get_or, set, refl, sym, ◌∙◌, ap, subst, arith, Contains, inl, inr, suc, zero, None, Some, Option, get_or-set_same, get_or-set_other, length-set, Result, Ok, Err, OnOk, IfErr}
+use Rattle.std.proofs.Common.{◌≡◌, ℕ, ◌/◌, ◌%◌, ◌<◌, ◌⊎◌, if◌then◌else◌, slice_get, ne_eqb, List, [], ◌∷◌, length, get_or, set, refl, sym, ◌∙◌, ap, subst, arith, Contains, inl, inr, suc, zero, None, Some, Option, get_or-set_same, get_or-set_other, length-set, Result, Ok, Err, OnOk, IfErr}
 use Rattle.std.specs.Option.{option_map_or}
 use Rattle.std.proofs.lemmas.Bool.{cases_eq, cases_lt}
 use Rattle.std.proofs.lemmas.Grind.{get_or-set_at}
@@ -167,3 +167,8 @@ may_store_then word value v u w m a =
 pub at_both : {T E : Type 0} (r : Result T E) (P : Type 0) → OnOk r P → IfErr r (λ _. P) → P
 at_both (Ok x) P a b = a
 at_both (Err e) P a b = b
+
+-- a draw of an even number writes nothing back
+pub even_settles_none : (r : ℕ) (v : View) → (r % 2 ≡ 1 → ⊥) → (after_draw r v).durable ≡ v.durable
+even_settles_none r v even =
+    ap (λ b. option_map_or (written_back v.volatile v.durable) (if b then slice_get v.recent (r / 2 % 16) else None) v.durable) (ne_eqb (r % 2) 1 even)

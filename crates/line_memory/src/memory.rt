@@ -2,7 +2,7 @@
 ghost use Rattle.std.specs.Prelude.{◌≡◌, ◌≢◌, ℕ, ◌+◌, ◌<◌, ◌≤◌, ◌⊎◌, Some, OnOk, IfOk, IfErr, ⊤};
 ghost use Rattle.line_memory.specs.View.{View, IsSound, word_count, HasLine, volatile_at, durable_at};
 ghost use Rattle.line_memory.specs.Crash.{AddsNothing, OnlyWritesBack, MayLeaveStore};
-ghost use Rattle.line_memory.specs.Steps.{Takes, Refuses, IsLoad, IsStore, IsWriteBack, IsFence};
+ghost use Rattle.line_memory.specs.Steps.{Takes, TakesBy, Refuses, RefusesBy, IsLoad, IsStore, IsWriteBack, IsFence};
 
 /// How many words a line has.
 pub const LINE: u64 = 8;
@@ -21,29 +21,48 @@ pub trait LineMemory {
     // What contracts see of it.
     ghost view: { Self → View };
 
+    // The number that a call drew by chance: the memory before, the memory after, the number. By
+    // default any.
+    ghost draws: { Self → Self → ℕ → Type 0 } = { λ _ _ _. ⊤ };
+
     /// What loads see of the word.
     fn load(&mut self, word: u64) -> Result<u64, Stopped>
         requires { word < word_count (view self.old) }
-        ensures ok { IfOk result (λ value. Takes (IsLoad word value) (view self.old)
-            (view self.new)) }
-        ensures stopped { IfErr result (λ e. Refuses e.step (view self.old) (view self.new)) };
+        ensures ok { IfOk result (λ value. TakesBy (draws self.old self.new) (IsLoad word value)
+            (view self.old) (view self.new)) }
+        ensures stopped { IfErr result (λ e. RefusesBy (draws self.old self.new) e.step
+            (view self.old) (view self.new)) }
+        ensures idle { (ticket : ℕ) → (view self.old).stopped ≡ Some ticket
+            → self.new ≡ self.old };
 
     /// Changes what loads see of the word. A crash may still leave its old value.
     fn store(&mut self, word: u64, value: u64) -> Result<(), Stopped>
         requires { word < word_count (view self.old) }
-        ensures ok { OnOk result (Takes (IsStore word value) (view self.old) (view self.new)) }
-        ensures stopped { IfErr result (λ e. Refuses e.step (view self.old) (view self.new)) };
+        ensures ok { OnOk result (TakesBy (draws self.old self.new) (IsStore word value)
+            (view self.old) (view self.new)) }
+        ensures stopped { IfErr result (λ e. RefusesBy (draws self.old self.new) e.step
+            (view self.old) (view self.new)) }
+        ensures idle { (ticket : ℕ) → (view self.old).stopped ≡ Some ticket
+            → self.new ≡ self.old };
 
     /// Asks for the words of the line to be made durable, which the next fence awaits.
     fn write_back(&mut self, line: u64) -> Result<(), Stopped>
         requires { HasLine (view self.old) line }
-        ensures ok { OnOk result (Takes (IsWriteBack line) (view self.old) (view self.new)) }
-        ensures stopped { IfErr result (λ e. Refuses e.step (view self.old) (view self.new)) };
+        ensures ok { OnOk result (TakesBy (draws self.old self.new) (IsWriteBack line)
+            (view self.old) (view self.new)) }
+        ensures stopped { IfErr result (λ e. RefusesBy (draws self.old self.new) e.step
+            (view self.old) (view self.new)) }
+        ensures idle { (ticket : ℕ) → (view self.old).stopped ≡ Some ticket
+            → self.new ≡ self.old };
 
     /// Waits until each word that was written back, and not stored to since, is durable.
     fn fence(&mut self) -> Result<(), Stopped>
-        ensures ok { OnOk result (Takes IsFence (view self.old) (view self.new)) }
-        ensures stopped { IfErr result (λ e. Refuses e.step (view self.old) (view self.new)) };
+        ensures ok { OnOk result (TakesBy (draws self.old self.new) IsFence
+            (view self.old) (view self.new)) }
+        ensures stopped { IfErr result (λ e. RefusesBy (draws self.old self.new) e.step
+            (view self.old) (view self.new)) }
+        ensures idle { (ticket : ℕ) → (view self.old).stopped ≡ Some ticket
+            → self.new ≡ self.old };
 
     ghost sound: { (memory : Self) → IsSound (view memory) };
 }

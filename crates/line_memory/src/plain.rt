@@ -61,6 +61,8 @@ impl<C: Chance> PlainMemory<C> {
 impl<C: Chance> LineMemory for PlainMemory<C> {
     ghost view = { view_of };
 
+    ghost draws = { λ m n number. C.draw_gives m.chance number n.chance };
+
     fn load(&mut self, word: u64) -> Result<u64, Stopped>
         requires { word < word_count (view_of self.old) }
         ensures ok { IfOk result (λ value. PlainTakes C.draw_gives (IsLoad word value)
