@@ -2,11 +2,10 @@
 use Rattle.std.proofs.Common.{◌≡◌, ◌≢◌, ℕ, zero, suc, ◌+◌, ◌-◌, ◌*◌, ◌/◌, ◌<◌, ◌≤◌, ◌⊎◌, inl, inr, List, [], ◌∷◌, length, slice_index, refl, sym, ap, subst, ◌∙◌, arith, cond, nat_eq, get_or-set_same, get_or-set_other, length-set, eq-eqb, ne_eqb}
 use Rattle.std.proofs.lemmas.Bool.{cases_eq, cases_lt}
 use Rattle.std.proofs.lemmas.List.{get_or_past}
-use Rattle.std.specs.Prelude.{⊤}
 use Rattle.heap_model.specs.Image.{Image}
 use Rattle.line_memory.specs.View.{View, volatile_at, durable_at, IsPending, IsSound}
 use Rattle.line_memory.specs.Crash.{AddsNothing}
-use Rattle.line_memory.specs.Steps.{Takes, Refuses, after_draw, IsStore, IsWriteBack, IsFence}
+use Rattle.line_memory.specs.Steps.{TakesBy, RefusesBy, after_draw, IsStore, IsWriteBack, IsFence}
 use Rattle.line_memory.proofs.CallerLemmas.{store_leaves, write_back_adds, fence_adds, refused_adds, refused_stopped, contains_or_not, draw_adds}
 use Rattle.heap_recover.specs.InPlace.{differences, changed_lines, steps_until, steps_between, HasReached, HoldsDurably, IsBetween, IsStoredTo, IsStoppedBetween, IsStoppedAt, Differ}
 
@@ -179,7 +178,7 @@ module _ (old new : List ℕ) (settled done : ℕ) (v : View) (so_far : IsStored
   ]
 
   -- the next word is stored
-  pub stored_more : (w : View) → settled ≤ done → done < length old → Takes (IsStore done (slice_index new done)) v w → IsStoredTo old new settled (done + 1) w
+  pub stored_more : {gives : ℕ → Type 0} (w : View) → settled ≤ done → done < length old → TakesBy gives (IsStore done (slice_index new done)) v w → IsStoredTo old new settled (done + 1) w
   stored_more w low within takes = record {
     count = ap (λ (xs : List ℕ). length xs) takes.done.volatile ∙ length-set v.volatile done (slice_index new done) ∙ so_far.count;
     stored = λ word below. elim (cases_eq word done) as (λ _. volatile_at w word ≡ slice_index new word) [
@@ -200,10 +199,10 @@ module _ (old new : List ℕ) (settled done : ℕ) (v : View) (so_far : IsStored
     other word ne = ap (λ (xs : List ℕ). slice_index xs word) takes.done.volatile ∙ get_or-set_other v.volatile done word (slice_index new done) 0 ne
 
     leaves : (word : ℕ) → (durable_at w word ≡ durable_at v word) ⊎ (durable_at w word ≡ volatile_at v word)
-    leaves = store_leaves (λ _. ⊤) done (slice_index new done) v w takes
+    leaves = store_leaves _ done (slice_index new done) v w takes
 
   -- the line whose words are stored is written back
-  pub line_written : (w : View) (line : ℕ) → settled ≡ 8 * line → done ≡ 8 * line + 8 → done ≤ length old → Takes (IsWriteBack line) v w
+  pub line_written : {gives : ℕ → Type 0} (w : View) (line : ℕ) → settled ≡ 8 * line → done ≡ 8 * line + 8 → done ≤ length old → TakesBy gives (IsWriteBack line) v w
       → IsStoredTo old new done done w
   line_written w line from to within takes = record {
     count = ap (λ (xs : List ℕ). length xs) adds.volatile ∙ so_far.count;
@@ -220,7 +219,7 @@ module _ (old new : List ℕ) (settled done : ℕ) (v : View) (so_far : IsStored
     ];
   } where
     adds : AddsNothing v w
-    adds = write_back_adds (λ _. ⊤) line v w takes
+    adds = write_back_adds _ line v w takes
 
     seen : (word : ℕ) → volatile_at w word ≡ volatile_at v word
     seen word = ap (λ (xs : List ℕ). slice_index xs word) adds.volatile
@@ -267,13 +266,13 @@ module _ (old new : List ℕ) (settled done : ℕ) (v : View) (so_far : IsStored
   }
 
   -- a fence, behind the last word: each is the new one
-  pub fence_stores : (w : View) → settled ≡ length old → done ≡ length old → length new ≡ length old → IsSound w → Takes IsFence v w → HoldsDurably new w
+  pub fence_stores : {gives : ℕ → Type 0} (w : View) → settled ≡ length old → done ≡ length old → length new ≡ length old → IsSound w → TakesBy gives IsFence v w → HoldsDurably new w
   fence_stores w all end same sound takes = record {
     volatile = seen_new;
     durable = same_lists w.durable new (sound.lengths ∙ ap (λ (xs : List ℕ). length xs) seen_new) durable_new;
   } where
     adds : AddsNothing v w
-    adds = fence_adds (λ _. ⊤) v w takes
+    adds = fence_adds _ v w takes
 
     seen : (word : ℕ) → volatile_at v word ≡ slice_index new word
     seen word = elim (cases_lt word done) as (λ _. volatile_at v word ≡ slice_index new word) [
@@ -304,13 +303,13 @@ module _ (old new : List ℕ) (settled done : ℕ) (v : View) (so_far : IsStored
   stored_between = record { count = so_far.count; volatile = seen_between; durable = so_far.durable }
 
 -- a refused call draws one ticket at most
-pub refused_draws : (v w : View) (ticket : ℕ) → Refuses ticket v w → w.drawn ≤ v.drawn + 1
+pub refused_draws : {gives : ℕ → Type 0} (v w : View) (ticket : ℕ) → RefusesBy gives ticket v w → w.drawn ≤ v.drawn + 1
 refused_draws v w ticket refuses = elim refuses as (λ _. w.drawn ≤ v.drawn + 1) [
   | inl had ↦ let same = ap (λ (u : View). u.drawn) had.unchanged in omega arith
   | inr stops ↦ let same = ap (λ (u : View). u.drawn) stops.done in omega arith
 ]
 
-pub refused_budget : (v w : View) (ticket : ℕ) → Refuses ticket v w → w.budget ≡ v.budget
+pub refused_budget : {gives : ℕ → Type 0} (v w : View) (ticket : ℕ) → RefusesBy gives ticket v w → w.budget ≡ v.budget
 refused_budget v w ticket refuses = elim refuses as (λ _. w.budget ≡ v.budget) [
   | inl had ↦ ap (λ (u : View). u.budget) had.unchanged
   | inr stops ↦ ap (λ (u : View). u.budget) stops.done
@@ -326,19 +325,19 @@ stopped_at old new most ticket v w sound cut = record {
 }
 
 -- a call is refused after few tickets
-pub refused_cut : (old new : List ℕ) (settled done before most : ℕ) (v u w : View) (ticket : ℕ) → IsStoredTo old new settled done u → Refuses ticket u w
+pub refused_cut : {gives : ℕ → Type 0} (old new : List ℕ) (settled done before most : ℕ) (v u w : View) (ticket : ℕ) → IsStoredTo old new settled done u → RefusesBy gives ticket u w
     → u.budget ≡ v.budget → u.stopped ≡ v.stopped → IsSound u → u.drawn + 1 ≤ v.drawn + most
     → v.drawn + steps_until (slice_index old) (slice_index new) done ≤ u.drawn + before → IsStoppedBetween old new before most ticket v w
 refused_cut old new settled done before most v u w ticket so_far refuses same stays sound few steps = record {
-  stopped = refused_stopped (λ _. ⊤) ticket u w refuses;
-  between = adds_between old new settled done u so_far w (refused_adds (λ _. ⊤) ticket u w refuses);
+  stopped = refused_stopped _ ticket u w refuses;
+  between = adds_between old new settled done u so_far w (refused_adds _ ticket u w refuses);
   budget = refused_budget u w ticket refuses ∙ same;
   drawn = let one = refused_draws u w ticket refuses in omega arith;
-  reached = adds_reached old new settled done u so_far before v w (refused_adds (λ _. ⊤) ticket u w refuses) sound same stays steps;
+  reached = adds_reached old new settled done u so_far before v w (refused_adds _ ticket u w refuses) sound same stays steps;
 }
 
 -- the fence behind all stores is refused
-pub fence_cut : (old new : List ℕ) (ticket : ℕ) (v u w : View) → IsStoredTo old new (length old) (length old) u → Refuses ticket u w → u.budget ≡ v.budget → u.stopped ≡ v.stopped
+pub fence_cut : {gives : ℕ → Type 0} (old new : List ℕ) (ticket : ℕ) (v u w : View) → IsStoredTo old new (length old) (length old) u → RefusesBy gives ticket u w → u.budget ≡ v.budget → u.stopped ≡ v.stopped
     → IsSound u → IsSound w → u.drawn + 1 ≡ v.drawn + steps_between (slice_index old) (slice_index new) (length old)
     → IsStoppedAt old new (steps_between (slice_index old) (slice_index new) (length old)) ticket v w
 fence_cut old new ticket v u w so_far refuses same stays sound sound_then all =
@@ -347,32 +346,32 @@ fence_cut old new ticket v u w so_far refuses same stays sound sound_then all =
     (refused_cut old new (length old) (length old) 0 (steps_between (slice_index old) (slice_index new) (length old)) v u w ticket so_far refuses same stays sound (omega arith) (omega arith))
 
 -- a store and a write-back draw one ticket each
-pub store_draws : (word value : ℕ) (v w : View) → Takes (IsStore word value) v w → w.drawn ≡ v.drawn + 1
+pub store_draws : {gives : ℕ → Type 0} (word value : ℕ) (v w : View) → TakesBy gives (IsStore word value) v w → w.drawn ≡ v.drawn + 1
 store_draws word value v w takes = takes.done.tickets.drawn
 
-pub store_budget : (word value : ℕ) (v w : View) → Takes (IsStore word value) v w → w.budget ≡ v.budget
+pub store_budget : {gives : ℕ → Type 0} (word value : ℕ) (v w : View) → TakesBy gives (IsStore word value) v w → w.budget ≡ v.budget
 store_budget word value v w takes = takes.done.tickets.budget
 
-pub store_going : (word value : ℕ) (v w : View) → Takes (IsStore word value) v w → w.stopped ≡ v.stopped
+pub store_going : {gives : ℕ → Type 0} (word value : ℕ) (v w : View) → TakesBy gives (IsStore word value) v w → w.stopped ≡ v.stopped
 store_going word value v w takes = takes.done.tickets.stopped
 
-pub write_back_going : (line : ℕ) (v w : View) → Takes (IsWriteBack line) v w → w.stopped ≡ v.stopped
+pub write_back_going : {gives : ℕ → Type 0} (line : ℕ) (v w : View) → TakesBy gives (IsWriteBack line) v w → w.stopped ≡ v.stopped
 write_back_going line v w takes = takes.done.tickets.stopped
 
-pub write_back_budget : (line : ℕ) (v w : View) → Takes (IsWriteBack line) v w → w.budget ≡ v.budget
+pub write_back_budget : {gives : ℕ → Type 0} (line : ℕ) (v w : View) → TakesBy gives (IsWriteBack line) v w → w.budget ≡ v.budget
 write_back_budget line v w takes = takes.done.tickets.budget
 
-pub write_back_draws : (line : ℕ) (v w : View) → Takes (IsWriteBack line) v w → w.drawn ≡ v.drawn + 1
+pub write_back_draws : {gives : ℕ → Type 0} (line : ℕ) (v w : View) → TakesBy gives (IsWriteBack line) v w → w.drawn ≡ v.drawn + 1
 write_back_draws line v w takes = takes.done.tickets.drawn
 
 -- a fence draws one ticket too, below the budget
-fence_draws : (v w : View) → Takes IsFence v w → w.drawn ≡ v.drawn + 1
+fence_draws : {gives : ℕ → Type 0} (v w : View) → TakesBy gives IsFence v w → w.drawn ≡ v.drawn + 1
 fence_draws v w takes = takes.done.tickets.drawn
 
-pub fence_drew : (steps : ℕ) (v u w : View) → u.drawn + 1 ≡ v.drawn + steps → Takes IsFence u w → w.drawn ≡ v.drawn + steps
+pub fence_drew : {gives : ℕ → Type 0} (steps : ℕ) (v u w : View) → u.drawn + 1 ≡ v.drawn + steps → TakesBy gives IsFence u w → w.drawn ≡ v.drawn + steps
 fence_drew steps v u w before takes = fence_draws u w takes ∙ before
 
-pub fence_within : (v u w : View) → u.budget ≡ v.budget → Takes IsFence u w → w.drawn ≤ v.budget
+pub fence_within : {gives : ℕ → Type 0} (v u w : View) → u.budget ≡ v.budget → TakesBy gives IsFence u w → w.drawn ≤ v.budget
 fence_within v u w same takes = let draws = fence_draws u w takes in let allowed = takes.allowed in omega arith
 
 -- where a step behind another cuts off, so many tickets were drawn in all

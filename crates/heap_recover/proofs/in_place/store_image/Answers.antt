@@ -1,9 +1,8 @@
 use Rattle.std.proofs.Common.{length, slice_index, refl}
 use Rattle.std.proofs.lemmas.Result.{on_ok_weaker, IfErr-weaker}
-use Rattle.std.specs.Prelude.{⊤}
 use Rattle.line_memory.specs.declared.memory.Stopped.{Stopped}
 use Rattle.line_memory.specs.Crash.{AddsNothing}
-use Rattle.line_memory.specs.Steps.{Refuses}
+use Rattle.line_memory.specs.Steps.{RefusesBy}
 use Rattle.line_memory.proofs.CallerLemmas.{at_both, fence_adds, refused_adds}
 use Rattle.heap_recover.specs.InPlace.{IsStoppedAt, steps_between}
 use Rattle.heap_recover.proofs.InPlaceLemmas.{adds_between, fence_cut, fence_stores, fence_drew, fence_within}
@@ -22,8 +21,8 @@ returns-clause-between g c =
     let view = g.M.LineMemory.view in
     let u = view c.store_differences.new.memory in
     let w = view c.fence.new.self in
-    let adds : AddsNothing u w = at_both c.fence.result (AddsNothing u w) (on_ok_weaker c.fence.result (fence_adds (λ _. ⊤) u w) c.fence.ensures.ok)
-    (IfErr-weaker c.fence.result (λ (e : Stopped). Refuses e.step u w) (λ _. AddsNothing u w) (λ e refuses. refused_adds (λ _. ⊤) e.step u w refuses) c.fence.ensures.stopped) in
+    let adds : AddsNothing u w = at_both c.fence.result (AddsNothing u w) (on_ok_weaker c.fence.result (fence_adds _ u w) c.fence.ensures.ok)
+    (IfErr-weaker c.fence.result (λ (e : Stopped). RefusesBy (g.M.LineMemory.draws c.store_differences.new.memory c.fence.new.self) e.step u w) (λ _. AddsNothing u w) (λ e refuses. refused_adds _ e.step u w refuses) c.fence.ensures.stopped) in
     adds_between c.args.old.now c.args.new.now (length c.args.old.now) (length c.args.old.now) u c.in_ok-store_differences.ensures.ok w adds
 
 pub returns-clause-drew : goal.returns-clause-drew
@@ -48,6 +47,6 @@ returns-clause-stopped g c =
     let u = view c.store_differences.new.memory in
     let w = view c.fence.new.self in
     let steps = steps_between (slice_index c.args.old.now) (slice_index c.args.new.now) (length c.args.old.now) in
-    IfErr-weaker c.fence.result (λ (e : Stopped). Refuses e.step u w) (λ (e : Stopped). IsStoppedAt c.args.old.now c.args.new.now steps e.step v w)
+    IfErr-weaker c.fence.result (λ (e : Stopped). RefusesBy (g.M.LineMemory.draws c.store_differences.new.memory c.fence.new.self) e.step u w) (λ (e : Stopped). IsStoppedAt c.args.old.now c.args.new.now steps e.step v w)
     (λ e refuses. fence_cut c.args.old.now c.args.new.now e.step v u w c.in_ok-store_differences.ensures.ok refuses c.store_differences.ensures.budget c.in_ok-store_differences.ensures.going
     (g.met.M.LineMemory.sound c.store_differences.new.memory) (g.met.M.LineMemory.sound c.fence.new.self) c.in_ok-store_differences.ensures.drawn) c.fence.ensures.stopped
