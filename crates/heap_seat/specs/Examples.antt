@@ -74,7 +74,7 @@ not_of_class is = elim (size_is 14337 14336 is) as (λ _. ⊥) [
 ]
 
 -- a seat of a heap of two superblocks with this look at `used`, which draws this ticket next
-abbrev seat_with : Look → ℕ → View
+abbrev pub seat_with : Look → ℕ → View
 seat_with look next = record {
   held = [];
   roots = [];
@@ -96,7 +96,7 @@ seat_with look next = record {
   head_look = λ list. record { seen = 0; ticket = None; taken = 0 };
 }
 
-abbrev look_with : ℕ → ℕ → Look
+abbrev pub look_with : ℕ → ℕ → Look
 look_with seen taken = record { seen = seen; ticket = Some 7; taken = taken }
 
 -- one superblock more of which the seat took one is no less; one that only the seat took is

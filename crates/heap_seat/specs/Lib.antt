@@ -2,6 +2,8 @@ pub mod Alloc
 pub mod Calls
 pub mod Examples
 pub mod Free
+pub mod Handing
+pub mod HandingExamples
 pub mod Looks
 pub mod Rows
 pub mod Sound
