@@ -5,7 +5,7 @@ use Rattle.std.proofs.lemmas.List.{get_or-set_same}
 use Rattle.std.proofs.lemmas.List.Elements.{Contains-append_cases}
 use Rattle.heap_model.specs.Sizes.{words_of_class}
 use Rattle.heap_model.specs.Words.{large_info}
-use Rattle.heap_model.specs.Counting.{times, total}
+use Rattle.heap_model.specs.Counting.{times, total, one_if}
 use Rattle.heap_model.proofs.ListLemmas.{times_append}
 use Rattle.heap_model.proofs.MemberLemmas.{in_head, in_rest, in_none, head_or_rest}
 use Rattle.core_model.specs.Cells.{Cell, used_cell, head_cell, info_cell, anchor_cell, link_cell, root_cell, data_cell, no_cell, index_of, superblock_at}
@@ -13,7 +13,7 @@ use Rattle.core_model.specs.Memory.{Memory, memory_of, anchor, info}
 use Rattle.core_model.specs.View.{Setup, View, Batch, Span, one_if_some, of_class, times_own, times_raw, times_classed, times_large, times_block, times_within, times_in_classes}
 use Rattle.core_model.specs.Effects.{span_count}
 use Rattle.core_model.specs.Sound.{Tally, tally_of, IsInShape, Each, IsSetUp, ClaimsOf, BlocksOf, Knows, KnowsWords, HasTickets, HasLost, times_parked, empties, Good, Sound}
-use Rattle.core_model.specs.Carriers.{IsCarrier, one_block, offered, carrier_of, both_lists, either_of, accepted, AreOneLess, AreSeatsAndCarriers}
+use Rattle.core_model.specs.Carriers.{IsCarrier, IsEmptied, one_if_carrier, one_block, offered, carrier_of, both_lists, either_of, accepted, AreOneLess, AreSeatsAndCarriers}
 use Rattle.core_model.specs.Orders.{AreReordered}
 use Rattle.core_model.specs.Splitting.{chosen}
 use Rattle.core_model.proofs.StepLemmas.{IsSeat, seat_at}
@@ -307,21 +307,21 @@ module _ (k : Setup) (views : List View) (i : ℕ) (v w : View) (below : i < len
   pub same_roles : v.carries ≡ 0 → role w ≡ role v → AreSeatsAndCarriers k (set views i w)
   same_roles seat same = record {
     seats = total_same (λ (x : View). 1 - x.carries) views i v w below at (ap (λ (r : Role). 1 - r.carries) same) ∙ are.seats;
-    carriers = (let c = total_same (λ (x : View). x.carries) views i v w below at (ap (λ (r : Role). r.carries) same) in let a = total_same (λ (x : View). x.accepts) views i v w below at (ap (λ (r : Role). r.accepts) same) in
+    carriers = (let c = total_same one_if_carrier views i v w below at (ap (λ (r : Role). one_if (nat_eq r.carries 1)) same) in let a = total_same (λ (x : View). x.accepts) views i v w below at (ap (λ (r : Role). r.accepts) same) in
         let o = total_same (λ (x : View). x.offers) views i v w below at (ap (λ (r : Role). r.offers) same) in let old = are.carriers in omega arith);
-    each = λ x there. one_set views i w (λ y. (y.carries ≡ 0) ⊎ IsCarrier y) are.each (inl (ap (λ (r : Role). r.carries) same ∙ seat)) x there;
+    each = λ x there. one_set views i w (λ y. (y.carries ≡ 0) ⊎ IsCarrier y ⊎ IsEmptied y) are.each (inl (ap (λ (r : Role). r.carries) same ∙ seat)) x there;
   }
 
   -- after an offer
   pub offers_one : (block : ℕ) → v.carries ≡ 0 → w ≡ offered v block → AreSeatsAndCarriers k (set views i w ++ carrier_of v block ∷ [])
   offers_one block seat is = record {
     seats = (let t = total_behind (λ (x : View). 1 - x.carries) (set views i w) (carrier_of v block) in let s = total_same (λ (x : View). 1 - x.carries) views i v w below at (ap (λ (x : View). 1 - x.carries) is) in let old = are.seats in omega arith);
-    carriers = (let c = total_behind (λ (x : View). x.carries) (set views i w) (carrier_of v block) in let c' = total_same (λ (x : View). x.carries) views i v w below at (ap (λ (x : View). x.carries) is) in
+    carriers = (let c = total_behind one_if_carrier (set views i w) (carrier_of v block) in let c' = total_same one_if_carrier views i v w below at (ap one_if_carrier is) in
         let a = total_behind (λ (x : View). x.accepts) (set views i w) (carrier_of v block) in let a' = total_same (λ (x : View). x.accepts) views i v w below at (ap (λ (x : View). x.accepts) is) in
         let o = total_behind (λ (x : View). x.offers) (set views i w) (carrier_of v block) in let o' = total_set (λ (x : View). x.offers) views i v w below at in let more = ap (λ (x : View). x.offers) is in let old = are.carriers in omega arith);
     each = λ x there. elim (Contains-append_cases (set views i w) (carrier_of v block ∷ []) x there) [
-      | inl before ↦ one_set views i w (λ y. (y.carries ≡ 0) ⊎ IsCarrier y) are.each (inl (ap (λ (x : View). x.carries) is ∙ seat)) x before
-      | inr last ↦ elim (head_or_rest (carrier_of v block) x [] last) [ inl same ↦ inr (subst IsCarrier same (carries_block v block)) | inr none ↦ absurd (in_none x none) ]
+      | inl before ↦ one_set views i w (λ y. (y.carries ≡ 0) ⊎ IsCarrier y ⊎ IsEmptied y) are.each (inl (ap (λ (x : View). x.carries) is ∙ seat)) x before
+      | inr last ↦ elim (head_or_rest (carrier_of v block) x [] last) [ inl same ↦ inr (inl (subst IsCarrier same (carries_block v block))) | inr none ↦ absurd (in_none x none) ]
     ];
   }
 
@@ -329,8 +329,8 @@ module _ (k : Setup) (views : List View) (i : ℕ) (v w : View) (below : i < len
 pub accepts_one : (k : Setup) (old new : List View) (v u : View) → v.carries ≡ 0 → IsCarrier u → AreOneLess old new v u (accepted v u) → AreSeatsAndCarriers k old → AreSeatsAndCarriers k new
 accepts_one k old new v u seat carries less are = record {
   seats = (let s = less.sums (λ (x : View). 1 - x.carries) in let c = carries.is_one in let was = are.seats in omega arith);
-  carriers = (let c = less.sums (λ (x : View). x.carries) in let a = less.sums (λ (x : View). x.accepts) in let o = less.sums (λ (x : View). x.offers) in
-      let one = carries.is_one in let h = carries.handed in let p = h.0 in let q = h.1 in let was = are.carriers in omega arith);
+  carriers = (let c = less.sums one_if_carrier in let a = less.sums (λ (x : View). x.accepts) in let o = less.sums (λ (x : View). x.offers) in
+      let one = ap (λ n. one_if (nat_eq n 1)) carries.is_one in let h = carries.handed in let p = h.0 in let q = h.1 in let was = are.carriers in omega arith);
   each = λ x there. elim (less.members x there) [ inl same ↦ inl (ap (λ (y : View). y.carries) (sym same) ∙ seat) | inr before ↦ are.each x before ];
 }
 
@@ -338,7 +338,7 @@ accepts_one k old new v u seat carries less are = record {
 pub same_seats : (k : Setup) (old new : List View) → AreReordered old new → AreSeatsAndCarriers k old → AreSeatsAndCarriers k new
 same_seats k old new same are = record {
   seats = same.sums (λ (x : View). 1 - x.carries) ∙ are.seats;
-  carriers = (let c = same.sums (λ (x : View). x.carries) in let a = same.sums (λ (x : View). x.accepts) in let o = same.sums (λ (x : View). x.offers) in let was = are.carriers in omega arith);
+  carriers = (let c = same.sums one_if_carrier in let a = same.sums (λ (x : View). x.accepts) in let o = same.sums (λ (x : View). x.offers) in let was = are.carriers in omega arith);
   each = λ x there. are.each x (same.members x there);
 }
 
@@ -351,10 +351,11 @@ stopped_few k views are = let l = go views are.each in let s = are.seats in omeg
     by None = omega arith
     by (Some n) = omega arith
 
-  here : (x : View) → (x.carries ≡ 0) ⊎ IsCarrier x → one_if_some x.stopped ≤ 1 - x.carries
+  here : (x : View) → (x.carries ≡ 0) ⊎ IsCarrier x ⊎ IsEmptied x → one_if_some x.stopped ≤ 1 - x.carries
   here x (inl seat) = let m = one_at_most x in omega arith
-  here x (inr carrier) = let z = ap one_if_some carrier.tickets.1 in omega arith
+  here x (inr (inl carrier)) = let z = ap one_if_some carrier.tickets.1 in omega arith
+  here x (inr (inr empty)) = let z = ap one_if_some empty.was.tickets.1 in omega arith
 
-  go : (xs : List View) → ((x : View) → Contains xs x → (x.carries ≡ 0) ⊎ IsCarrier x) → total (λ (x : View). one_if_some x.stopped) xs ≤ total (λ (x : View). 1 - x.carries) xs
+  go : (xs : List View) → ((x : View) → Contains xs x → (x.carries ≡ 0) ⊎ IsCarrier x ⊎ IsEmptied x) → total (λ (x : View). one_if_some x.stopped) xs ≤ total (λ (x : View). 1 - x.carries) xs
   go [] each = omega arith
   go (x ∷ xs) each = let h = here x (each x (in_head x xs)) in let rest = go xs (λ y there. each y (in_rest x y xs there)) in omega arith

@@ -41,3 +41,4 @@ pub mod OrderLemmas
 mod ExampleLemmas
 pub mod RoleLemmas
 pub mod CarrierLemmas
+pub mod EmptiedLemmas

@@ -1,9 +1,10 @@
 -- Blocks between seats: a seat offers a held block to a carrier, and another seat, or the same, accepts it. Each uses up a ticket, and changes no word.
 use Rattle.std.specs.Prelude.{◌≡◌, ◌⊎◌, ℕ, ◌+◌, ◌-◌, false, nat_eq, List, [], ◌∷◌, ◌++◌, Contains, replicate, Option, None, Some}
-use Rattle.heap_model.specs.Counting.{total}
+use Rattle.heap_model.specs.Counting.{total, one_if}
 use Rattle.heap_model.specs.Geometry.{lists}
 use Rattle.core_model.specs.Cells.{superblock_at}
 use Rattle.core_model.specs.View.{Setup, View, no_batch, one_if_some}
+use Rattle.core_model.specs.Effects.{trimmed}
 use Rattle.core_model.specs.Guards.{IsThere}
 use Rattle.core_model.specs.Splitting.{Choice, remaining, given_off}
 
@@ -16,6 +17,16 @@ pub record IsCarrier (u : View) : Type 0 where
   pub tickets : (u.ticket ≡ None) × (u.stopped ≡ None)
   pub counts : (u.draws ≡ 0) × (u.wins ≡ 0) × (u.losses ≡ 0) × (u.taken ≡ 0) × (u.cuts ≡ 0) × (u.gives ≡ 0) × (u.moves ≡ 0)
   pub handed : (u.offers ≡ 0) × (u.accepts ≡ 0)
+
+-- a carrier whose block was accepted: it has nothing, and else is as it was
+pub record IsEmptied (u : View) : Type 0 where
+  pub is_two : u.carries ≡ 2
+  pub held : (u.small ≡ replicate lists []) × (u.large ≡ [])
+  pub was : IsCarrier (record u { carries = 1 })
+
+-- 1 of a carrier that has its block
+abbrev pub one_if_carrier : View → ℕ
+one_if_carrier v = one_if (nat_eq v.carries 1)
 
 -- the block that begins at the word, small or large, and no root
 abbrev pub one_block : ℕ → ℕ → Choice
@@ -60,6 +71,10 @@ accepted v u = record v {
   accepts = v.accepts + 1;
 }
 
+-- the carrier without its block
+abbrev pub emptied : View → View
+emptied u = trimmed (record u { small = replicate lists []; large = []; carries = 2 })
+
 -- a seat that goes on has a ticket in hand
 pub record MayHand (v : View) : Type 0 where
   pub seat : v.carries ≡ 0
@@ -71,8 +86,8 @@ pub record AreOneLess (old new : List View) (v u w : View) : Type 0 where
   pub sums : (f : View → ℕ) → total f new + f v + f u ≡ total f old + f w
   pub members : (x : View) → Contains new x → (w ≡ x) ⊎ Contains old x
 
--- the seats that the heap was opened for, and the carriers that were made and not taken in
+-- the seats that the heap was opened for, and the carriers that were made: each is there with its block, or its block was accepted
 pub record AreSeatsAndCarriers (k : Setup) (views : List View) : Type 0 where
   pub seats : total (λ (v : View). 1 - v.carries) views ≡ k.seats
-  pub carriers : total (λ (v : View). v.carries) views + total (λ (v : View). v.accepts) views ≡ total (λ (v : View). v.offers) views
-  pub each : (v : View) → Contains views v → (v.carries ≡ 0) ⊎ IsCarrier v
+  pub carriers : total one_if_carrier views + total (λ (v : View). v.accepts) views ≡ total (λ (v : View). v.offers) views
+  pub each : (v : View) → Contains views v → (v.carries ≡ 0) ⊎ IsCarrier v ⊎ IsEmptied v

@@ -83,7 +83,7 @@ pub record View : Type 0 where
   pub losses : ℕ
   pub gives : ℕ
   pub moves : ℕ
-  -- 1 of a carrier, which holds blocks between two seats and takes no step, else 0; and how many carriers a seat made, and took in
+  -- 1 of a carrier, which holds a block between two seats and takes no step, 2 of one whose block was accepted, else 0; and how many blocks a seat offered and accepted
   pub carries : ℕ
   pub offers : ℕ
   pub accepts : ℕ

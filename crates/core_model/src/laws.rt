@@ -4,7 +4,7 @@
 ghost use Rattle.std.specs.Prelude.{◌≡◌, ◌≢◌, ◌<◌, ◌≤◌, ◌*◌, ◌++◌, ◌∷◌, [], ℕ, List, get_or, set, length, slice_index, ◌↔◌, ◌+◌, Contains, Option, None};
 ghost use Rattle.heap_model.specs.declared.block.Block.{Block};
 ghost use Rattle.heap_model.specs.Geometry.{capacity_word, image_words, roots};
-ghost use Rattle.heap_model.specs.Counting.{times};
+ghost use Rattle.heap_model.specs.Counting.{times, total};
 ghost use Rattle.heap_model.specs.Rest.{IsReady};
 ghost use Rattle.core_model.specs.declared.answer.StepAnswer.{StepAnswer};
 ghost use Rattle.core_model.specs.declared.event.Event.{Event};
@@ -14,7 +14,7 @@ ghost use Rattle.core_model.specs.View.{Setup, View, times_free, times_held, tim
 ghost use Rattle.core_model.specs.Guards.{IsOwn, MayStep};
 ghost use Rattle.core_model.specs.Sound.{Each, Good, Sound};
 ghost use Rattle.core_model.specs.Steps.{Keeps, TableState, IsSoundState, Runs, words_after, seat_after};
-ghost use Rattle.core_model.specs.Carriers.{accepted, AreOneLess, AreSeatsAndCarriers, carrier_of, IsCarrier, offered};
+ghost use Rattle.core_model.specs.Carriers.{accepted, AreOneLess, AreSeatsAndCarriers, carrier_of, emptied, IsCarrier, IsEmptied, offered, one_if_carrier};
 ghost use Rattle.core_model.specs.Splitting.{Choice, remaining, given_off};
 ghost use Rattle.core_model.specs.Opening.{AreOwners, HasDoneNothing, IsOwnerOf, setup_of, opened_view, opened_state};
 ghost use Rattle.core_model.specs.Held.{AreHeldOnce, IsHeld, IsHeldBy, IsFirm, volatile_image, durable_image};
@@ -193,9 +193,11 @@ pub fn a_word_is_own_at_most_once()
         → times_held v (data_cell word) ≡ 0) }
 {}
 
-/// A seat may offer a held block to a carrier, and take in what a carrier has, whatever order the
-/// views then stand in: no word changes, and the state stays sound, with as many seats, and with the
-/// carriers that were made and not taken in.
+/// A seat may offer a held block to a carrier, and accept what a carrier has, whatever order the
+/// views then stand in: no word changes, and the state stays sound, with as many seats. The carrier
+/// goes, or stays with nothing, and then is no carrier any more. Each offer has one carrier that is
+/// left, or one accept. In each such state no block is held twice: by two seats, by two carriers,
+/// or by a seat and a carrier.
 pub fn a_block_may_go_between_seats()
     ensures offered { (k : Setup) (words : List ℕ) (views : List View) (i : ℕ) (v : View) (block : ℕ)
         → i < length views → get_or views i v ≡ v → Sound k words views
@@ -204,13 +206,28 @@ pub fn a_block_may_go_between_seats()
     ensures accepted { (k : Setup) (words : List ℕ) (old new : List View) (v u : View)
         → Contains old v → Contains old u → IsCarrier u → AreOneLess old new v u (accepted v u)
         → Sound k words old → Sound k words new }
+    ensures accepted_in_place { (k : Setup) (words : List ℕ) (views : List View) (i j : ℕ)
+        (v u : View) → j ≢ i → i < length views → get_or views i v ≡ v → j < length views
+        → get_or views j u ≡ u → IsCarrier u → Sound k words views
+        → Sound k words (set (set views i (accepted v u)) j (emptied u)) }
+    ensures emptied { (u : View) → IsCarrier u → IsEmptied (emptied u) }
+    ensures once { (u : View) → IsEmptied u → IsCarrier u → ⊥ }
     ensures offers_one { (k : Setup) (views : List View) (i : ℕ) (v : View) (block : ℕ)
         → i < length views → get_or views i v ≡ v → v.carries ≡ 0 → AreSeatsAndCarriers k views
         → AreSeatsAndCarriers k (set views i (offered v block) ++ carrier_of v block ∷ []) }
     ensures accepts_one { (k : Setup) (old new : List View) (v u : View) → v.carries ≡ 0
         → IsCarrier u → AreOneLess old new v u (accepted v u) → AreSeatsAndCarriers k old
         → AreSeatsAndCarriers k new }
+    ensures accepts_one_in_place { (k : Setup) (views : List View) (i j : ℕ) (v u : View) → j ≢ i
+        → i < length views → get_or views i v ≡ v → j < length views → get_or views j u ≡ u
+        → v.carries ≡ 0 → IsCarrier u → AreSeatsAndCarriers k views
+        → AreSeatsAndCarriers k (set (set views i (accepted v u)) j (emptied u)) }
     ensures stepped { (k : Setup) (m : Memory) (views : List View) (i : ℕ) (v : View) (event : Event)
         → i < length views → get_or views i v ≡ v → v.carries ≡ 0 → AreSeatsAndCarriers k views
         → AreSeatsAndCarriers k (set views i (seat_after m v event)) }
+    ensures counts { (k : Setup) (views : List View) → AreSeatsAndCarriers k views
+        → total one_if_carrier views + total (λ (v : View). v.accepts) views
+        ≡ total (λ (v : View). v.offers) views }
+    ensures held_once { (k : Setup) (words : List ℕ) (views : List View) → Sound k words views
+        → AreHeldOnce k.capacity views }
 {}

@@ -15,9 +15,10 @@ pub use count_laws::{
 };
 pub use event::{Event, Shift};
 pub use laws::{
-    a_crash_leaves_a_good_header, a_crash_leaves_each_held_block_named,
-    a_list_of_events_has_one_outcome, a_seat_may_be_split, a_step_works_on_a_word_of_the_table,
-    a_word_is_own_at_most_once, a_word_is_own_to_at_most_one_seat, an_opened_heap_is_sound,
+    a_block_may_go_between_seats, a_crash_leaves_a_good_header,
+    a_crash_leaves_each_held_block_named, a_list_of_events_has_one_outcome, a_seat_may_be_split,
+    a_step_works_on_a_word_of_the_table, a_word_is_own_at_most_once,
+    a_word_is_own_to_at_most_one_seat, an_opened_heap_is_sound,
     every_list_of_events_keeps_the_heap_sound, every_step_keeps_the_heap_sound,
     no_block_is_held_twice, whatever_a_crash_leaves_reaches_the_same,
 };

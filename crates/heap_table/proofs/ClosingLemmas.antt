@@ -1,14 +1,14 @@
 -- The seats of a closed table, and its words.
-use Rattle.std.proofs.Common.{◌≡◌, ◌⊎◌, inl, inr, ℕ, zero, suc, ◌+◌, ◌-◌, ◌*◌, ◌≤◌, Contains, List, [], ◌∷◌, ◌++◌, get_or, take, drop, length, length-append, length-drop, refl, ap, sym, subst, ◌∙◌, arith}
+use Rattle.std.proofs.Common.{◌≡◌, ◌⊎◌, inl, inr, ℕ, zero, suc, nat_eq, ◌+◌, ◌-◌, ◌*◌, ◌≤◌, Contains, List, [], ◌∷◌, ◌++◌, get_or, take, drop, length, length-append, length-drop, refl, ap, sym, subst, ◌∙◌, arith}
 use Rattle.std.proofs.lemmas.List.{append-nil, take-append-drop, length-take-le}
 use mathlib.Core.Option.{some, some-injective, some-ne-none}
 use lib.ListN.{get_elem?}
 use Rattle.atomic_table.specs.Table.{Final, Seen}
 use Rattle.heap_model.specs.Geometry.{image_words}
-use Rattle.heap_model.specs.Counting.{total}
+use Rattle.heap_model.specs.Counting.{total, one_if}
 use Rattle.heap_model.proofs.MemberLemmas.{in_head, in_rest}
 use Rattle.std.proofs.lemmas.List.Elements.{Contains-append_left, Contains-append_right, Contains-append_cases}
-use Rattle.core_model.specs.Carriers.{AreSeatsAndCarriers, IsCarrier}
+use Rattle.core_model.specs.Carriers.{AreSeatsAndCarriers, IsCarrier, IsEmptied, one_if_carrier}
 use Rattle.core_model.specs.View.{Setup, View}
 use Rattle.core_model.specs.Sound.{Sound}
 use Rattle.heap_table.specs.AtTable.{AreAll, IsClosedReached, IsClosedSound}
@@ -16,6 +16,7 @@ use Rattle.heap_table.specs.Reached.{IsReached}
 use Rattle.heap_table.specs.Rule.{Opening, HasAllSeats, Holds, setup_for, state_of}
 use Rattle.heap_table.specs.SeatViews.{SeatViews, all_views}
 use Rattle.heap_table.proofs.DealLemmas.{length_total, total_append}
+use Rattle.heap_table.proofs.ReachedLemmas.{opened_filled, reached_filled}
 
 none_left : (xs : List View) → length xs ≡ 0 → xs ≡ []
 none_left [] none = refl
@@ -46,22 +47,32 @@ others_of (j ∷ groups) (suc id) group at = let o = others_of groups id group a
 }
 
 -- views of which none is a seat are carriers, which offered and accepted nothing
-no_seats : (rest : List View) → ((v : View) → Contains rest v → (v.carries ≡ 0) ⊎ IsCarrier v) → total (λ (v : View). 1 - v.carries) rest ≡ 0
+no_seats : (rest : List View) → ((v : View) → Contains rest v → (v.carries ≡ 0) ⊎ IsCarrier v ⊎ IsEmptied v) → ((v : View) → Contains rest v → v.carries ≤ 1) → total (λ (v : View). 1 - v.carries) rest ≡ 0
     → (total (λ (v : View). v.carries) rest ≡ length rest) × (total (λ (v : View). v.offers) rest ≡ 0)
-no_seats [] each none = (refl, refl)
-no_seats (v ∷ rest) each none = let later = no_seats rest (λ x there. each x (in_rest v x rest there)) (omega (arith, none)) in elim (each v (in_head v rest)) [
+no_seats [] each filled none = (refl, refl)
+no_seats (v ∷ rest) each filled none = let later = no_seats rest (λ x there. each x (in_rest v x rest there)) (λ x there. filled x (in_rest v x rest there)) (omega (arith, none)) in elim (each v (in_head v rest)) [
   | inl seat ↦ absurd (omega (arith, none, seat))
-  | inr carrier ↦ let one = carrier.is_one in let o = carrier.handed.0 in let p = later.0 in let q = later.1 in (omega arith, omega arith)
+  | inr (inr empty) ↦ absurd (let f = filled v (in_head v rest) in omega (arith, f, empty.is_two))
+  | inr (inl carrier) ↦ let one = carrier.is_one in let o = carrier.handed.0 in let p = later.0 in let q = later.1 in (omega arith, omega arith)
 ]
 
+-- of views of which none is emptied, the carriers
+filled_carriers : (views : List View) → ((v : View) → Contains views v → v.carries ≤ 1) → total one_if_carrier views ≡ total (λ (v : View). v.carries) views
+filled_carriers [] filled = refl
+filled_carriers (v ∷ views) filled = let rest = filled_carriers views (λ x there. filled x (in_rest v x views there)) in let here = one v.carries (filled v (in_head v views)) in omega arith where
+  one : (n : ℕ) → n ≤ 1 → one_if (nat_eq n 1) ≡ n
+  one zero low = refl
+  one (suc zero) low = refl
+  one (suc (suc n)) low = absurd (omega (arith, low))
+
 -- where one seat of the table stands for all seats and for each carrier that is not taken in, as many views as it has are there
-as_many : (k : Setup) (groups : List SeatViews) (id : ℕ) (group : SeatViews) → get_elem? groups id ≡ some group → AreSeatsAndCarriers k (all_views groups) → AreAll k.seats group → length (all_views groups) ≡ length group
-as_many k groups id group at are all =
+as_many : (k : Setup) (groups : List SeatViews) (id : ℕ) (group : SeatViews) → get_elem? groups id ≡ some group → AreSeatsAndCarriers k (all_views groups) → ((v : View) → Contains (all_views groups) v → v.carries ≤ 1) → AreAll k.seats group → length (all_views groups) ≡ length group
+as_many k groups id group at are filled all =
     let o = others_of groups id group at in
     let s = o.sums (λ (v : View). 1 - v.carries) in let c = o.sums (λ (v : View). v.carries) in let a = o.sums (λ (v : View). v.accepts) in let f = o.sums (λ (v : View). v.offers) in
     let n = o.sums (λ (v : View). 1) in let l = length_total (all_views groups) in let l' = length_total group in let r = length_total o.rest in
-    let x = are.seats in let y = are.carriers in let z = all.seats_are in let w = all.carriers_are in
-    let none = no_seats o.rest (λ v there. are.each v (o.members v there)) (omega (arith, s, x, z)) in
+    let x = are.seats in let y = are.carriers in let e = filled_carriers (all_views groups) filled in let z = all.seats_are in let w = all.carriers_are in
+    let none = no_seats o.rest (λ v there. are.each v (o.members v there)) (λ v there. filled v (o.members v there)) (omega (arith, s, x, z)) in
     let p = none.0 in let q = none.1 in omega arith
 
 -- where one seat of the table stands for as many seats as there are, no other stands for any
@@ -97,7 +108,7 @@ module _ (o : Opening) (words slots : List ℕ) (id n : ℕ) (group : SeatViews)
   -- what the rule says of the last state is so of the parts that its words are read off in
   told : (P : List ℕ → List View → Type 0) → P final.0.words (all_views final.0.views) → P (take n words ++ (take n (drop n words) ++ (get_or (drop n (drop n words)) 0 0 ∷ []))) group
   told P p = subst (λ ws. P ws group) (three_parts words n long)
-      (subst (P words) (all_in_one final.0.views id group final.1.1 (as_many (setup_for o) final.0.views id group final.1.1 keeps.counted all)) (subst (λ ws. P ws (all_views final.0.views)) final.2 p))
+      (subst (P words) (all_in_one final.0.views id group final.1.1 (as_many (setup_for o) final.0.views id group final.1.1 keeps.counted (reached_filled (setup_for o) (state_of o) (opened_filled o) final.0.words (all_views final.0.views) keeps.reached) all)) (subst (λ ws. P ws (all_views final.0.views)) final.2 p))
 
   now_long : length (take n words) ≡ image_words (setup_for o).capacity
   now_long = length-take-le n words (omega (arith, long)) ∙ half

@@ -3,7 +3,7 @@ use Rattle.std.proofs.Common.{◌≡◌, ◌<◌, ◌≤◌, ℕ, zero, suc, ◌
 use Rattle.std.proofs.lemmas.Bool.{cases_eq}
 use Rattle.std.proofs.lemmas.List.{get_or_append_left, get_or-set_same, get_or-set_other}
 use Rattle.heap_model.specs.declared.block.Block.{Block}
-use Rattle.heap_model.specs.Counting.{times}
+use Rattle.heap_model.specs.Counting.{one_if, times}
 use Rattle.heap_model.specs.Geometry.{lists, head_word, used_word}
 use Rattle.heap_model.specs.Rest.{IsReady}
 use Rattle.heap_model.specs.Words.{full_anchor, head_first}
@@ -19,7 +19,7 @@ use Rattle.core_model.specs.Opening.{AreOwners, opened_view, unlooked}
 use Rattle.core_model.specs.Sound.{Good, Sound}
 use Rattle.core_model.specs.Steps.{TableState, found_by, memory_after, seat_after, words_after}
 use Rattle.heap_model.specs.Counting.{total}
-use Rattle.core_model.specs.Carriers.{AreSeatsAndCarriers, carrier_of, offered}
+use Rattle.core_model.specs.Carriers.{AreSeatsAndCarriers, carrier_of, offered, one_if_carrier}
 use Rattle.core_model.specs.View.{LastLook, Role, Setup, View, no_batch, times_own}
 use Rattle.core_model.proofs.RoleLemmas.{role_after}
 use Rattle.core_model.proofs.TotalLemmas.{total_at}
@@ -238,7 +238,7 @@ reached_steady k start sound counted begins _ _ (by_record words views i u word 
 reached_steady k start sound counted begins _ _ (by_offer words views i u b before below at may held) v only none = absurd (let l = ap length only in let a = length-append (set views i (offered u b.first_word)) (carrier_of u b.first_word ∷ []) in let n = length-set views i (offered u b.first_word) in omega (arith, l, a, n, below))
 reached_steady k start sound counted begins _ _ (by_accept words old new u c before has_u has_c may carries less) v only none = absurd
     (let s = less.sums (λ (x : View). x.offers) in let t = ap (total (λ (x : View). x.offers)) only in let are = reached_counted k start counted words old before in
-    let held = are.carriers in let one = total_at (λ (x : View). x.carries) old has_c.0 c has_c.1 has_c.2 in let is = carries.is_one in let h = carries.handed.0 in omega (arith, s, t, held, one, is, h, none))
+    let held = are.carriers in let one = total_at one_if_carrier old has_c.0 c has_c.1 has_c.2 in let is = ap (λ n. one_if (nat_eq n 1)) carries.is_one in let h = carries.handed.0 in omega (arith, s, t, held, one, is, h, none))
 reached_steady k start sound counted begins _ _ (in_another_order words old new before same) v only none = reached_steady k start sound counted begins words old before v
     (one_of old v (length_total old ∙ sym (same.sums (λ (u : View). 1)) ∙ sym (length_total new) ∙ ap length only) (same.members v (subst (λ l. Contains l v) (sym only) (in_head v [])))) none
 
