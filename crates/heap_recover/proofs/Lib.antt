@@ -11,6 +11,7 @@ pub mod RebuildLemmas
 pub mod KeptLemmas
 pub mod UnchangedLemmas
 pub mod LeavesLemmas
+pub mod OrderLemmas
 pub mod OutcomeLemmas
 pub mod CurrentLemmas
 mod InPlaceLemmas

@@ -3,6 +3,7 @@ pub mod Roles
 pub mod Rebuilt
 pub mod Fault
 pub mod Answer
+pub mod InOrder
 pub mod InPlace
 pub mod InPlaceExamples
 pub mod Superblock

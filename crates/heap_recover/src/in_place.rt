@@ -6,6 +6,7 @@ ghost use Rattle.heap_model.specs.Image.{Image};
 ghost use Rattle.heap_model.specs.Durability.{Mixes, IsCrashImage};
 ghost use Rattle.line_memory.specs.View.{View, word_count};
 ghost use Rattle.heap_recover.specs.InPlace.{changed_lines, differences, steps_between, HoldsDurably, IsRecoveryOf, RecoversAlike, IsBetween, IsStoredTo, IsStoppedBetween, IsStoppedAt, Differ};
+ghost use Rattle.heap_recover.specs.InOrder.{stores_from, steps_in, TakesAll, IsDoneBy, IsCutOffIn};
 
 use filter_trace::Filter;
 use line_memory::{LineMemory, Stopped};
@@ -40,6 +41,11 @@ fn store_line<M: LineMemory>(
         (differences (slice_index old.now) (slice_index new.now) (8 * line + 8)
         - differences (slice_index old.now) (slice_index new.now) (8 * line)) e.step
         (M.view memory.old) (M.view memory.new)) }
+    ensures steps { OnOk result (TakesAll M.view M.draws memory.old
+        (stores_from (slice_index old.now) (slice_index new.now) (8 * line) 8) memory.new) }
+    ensures first_steps { IfErr result (λ e. IsCutOffIn M.view M.draws
+        (stores_from (slice_index old.now) (slice_index new.now) (8 * line) 8) e.step
+        memory.old memory.new) }
 {
     let mut some = false;
     for word in LINE * line..LINE * line + LINE {
@@ -66,6 +72,11 @@ fn store_differences<M: LineMemory>(memory: &mut M, old: &[u64], new: &[u64]) ->
     ensures cut_off { IfErr result (λ e. IsStoppedBetween old.now new.now 0
         (steps_between (slice_index old.now) (slice_index new.now) (length old.now)) e.step
         (M.view memory.old) (M.view memory.new)) }
+    ensures steps { OnOk result (TakesAll M.view M.draws memory.old
+        (steps_in (slice_index old.now) (slice_index new.now) (length old.now / 8)) memory.new) }
+    ensures first_steps { IfErr result (λ e. IsCutOffIn M.view M.draws
+        (steps_in (slice_index old.now) (slice_index new.now) (length old.now / 8)) e.step
+        memory.old memory.new) }
 {
     for line in 0..old.len() / LINE {
         if store_line(memory, old, new, line)? {
@@ -90,6 +101,12 @@ fn store_image<M: LineMemory>(memory: &mut M, old: &[u64], new: &[u64]) -> Resul
     ensures drew { OnOk result ((M.view memory.new).drawn ≡ (M.view memory.old).drawn
         + steps_between (slice_index old.now) (slice_index new.now) (length old.now)) }
     ensures within { OnOk result ((M.view memory.new).drawn ≤ (M.view memory.old).budget) }
+    ensures steps { OnOk result (IsDoneBy M.view M.draws
+        (steps_in (slice_index old.now) (slice_index new.now) (length old.now / 8))
+        memory.old memory.new) }
+    ensures first_steps { IfErr result (λ e. IsCutOffIn M.view M.draws
+        (steps_in (slice_index old.now) (slice_index new.now) (length old.now / 8)) e.step
+        memory.old memory.new) }
 {
     store_differences(memory, old, new)?;
     memory.fence()
@@ -125,6 +142,15 @@ pub fn rebuild<M: LineMemory, F: Filter>(
     ensures drew { OnOk result ((M.view memory.new).drawn ≡ (M.view memory.old).drawn
         + steps_between (slice_index x.now) (slice_index to.now.words) (length x.now)) }
     ensures within { OnOk result ((M.view memory.new).drawn ≤ (M.view memory.old).budget) }
+
+    // These are its steps, in this order, and of one that is stopped the first of them: so which
+    // words are durable then is told by its stores and by the numbers drawn.
+    ensures steps { OnOk result (IsDoneBy M.view M.draws
+        (steps_in (slice_index x.now) (slice_index to.now.words) (length x.now / 8))
+        memory.old memory.new) }
+    ensures first_steps { IfErr result (λ e. IsCutOffIn M.view M.draws
+        (steps_in (slice_index x.now) (slice_index to.now.words) (length x.now / 8)) e.step
+        memory.old memory.new) }
 
     // At every exit each word is that of the image or of the heap, and recovery begun again keeps
     // the same, whatever a crash leaves.

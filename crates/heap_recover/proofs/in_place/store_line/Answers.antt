@@ -2,6 +2,8 @@ use Rattle.std.proofs.Common.{◌≡◌, ◌+◌, ◌-◌, ◌*◌, ◌/◌, sli
 use Rattle.std.proofs.lemmas.Result.{err_from_is_err_and}
 use Rattle.heap_recover.specs.InPlace.{differences, changed_lines, IsStoredTo}
 use Rattle.heap_recover.proofs.InPlaceLemmas.{stored_same, stored_more, store_draws, store_budget, store_going, refused_cut, lines_from, differ_more, differ_same, differ_from}
+use Rattle.heap_recover.specs.InOrder.{store_of, TakesAll}
+use Rattle.heap_recover.proofs.OrderLemmas.{stored_next, stored_one, stored_none, store_cut}
 use Rattle.heap_recover.proofs.in_place.store_line.Goals as goal
 use Rattle.heap_recover.proofs.in_place.store_line.Goals.{then-old-word+in_ok-store, else-old-word}
 
@@ -26,9 +28,22 @@ returns-in_err-store-clause-cut_off g c =
     let p = err_from_is_err_and c.from_residual.result c.from_residual.ensures.1 in
     rw (p.1, p.2) cut
 
+pub returns-in_err-store-clause-first_steps : goal.returns-in_err-store-clause-first_steps
+returns-in_err-store-clause-first_steps g c =
+    let view = g.M.LineMemory.view in
+    let numbers = g.M.LineMemory.draws in
+    let i = c.loop-word.invariant in
+    let low = i.low in
+    let below = c.loop-word-test.true in
+    let cut = store_cut view numbers (slice_index c.args.old.now) (slice_index c.args.new.now) (8 * c.args.line) c.loop-word.word c.in_err-store.field-0.0.step
+    c.args.memory.now c.loop-word.memory c.store.new.self low (omega arith) i.steps c.in_err-store.ensures.stopped in
+    let p = err_from_is_err_and c.from_residual.result c.from_residual.ensures.1 in
+    rw (p.1, p.2) cut
+
 pub loop-word-preserved : goal.loop-word-preserved
 loop-word-preserved g c =
     let view = g.M.LineMemory.view in
+    let numbers = g.M.LineMemory.draws in
     let i = c.loop-word.invariant in
     let old = slice_index c.args.old.now in
     let new = slice_index c.args.new.now in
@@ -55,6 +70,9 @@ loop-word-preserved g c =
             going = ap (λ m. (view m).stopped) w.memory-is
                 ∙ store_going c.loop-word.word (slice_index c.args.new.now c.loop-word.word) (view c.loop-word.memory) (view w.store.new.self) w.in_ok-store.ensures.ok ∙ i.going;
             drawn = ap (λ m. (view m).drawn + differences old new (8 * c.args.line)) w.memory-is ∙ drawn_then;
+            steps = stored_next view numbers old new (8 * c.args.line) c.loop-word.word c.args.memory.now c.loop-word.memory _ low i.steps
+                (subst (λ m. TakesAll view numbers c.loop-word.memory (store_of old new c.loop-word.word) m) (sym w.memory-is)
+                (stored_one view numbers old new c.loop-word.word c.loop-word.memory w.store.new.self w.if-old-word.true w.in_ok-store.ensures.ok));
           }
       | else-old-word w ↦
           let next = stored_same c.args.old.now c.args.new.now (8 * c.args.line) c.loop-word.word (view c.loop-word.memory) i.stored w.if-old-word.false in
@@ -69,5 +87,7 @@ loop-word-preserved g c =
             budget = ap (λ m. (view m).budget) w.memory-is ∙ i.budget;
             going = ap (λ m. (view m).stopped) w.memory-is ∙ i.going;
             drawn = ap (λ m. (view m).drawn + differences old new (8 * c.args.line)) w.memory-is ∙ drawn_then;
+            steps = stored_next view numbers old new (8 * c.args.line) c.loop-word.word c.args.memory.now c.loop-word.memory _ low i.steps
+                (stored_none view numbers old new c.loop-word.word c.loop-word.memory _ w.if-old-word.false w.memory-is);
           }
     ]
