@@ -1,5 +1,6 @@
 -- Where the view of a single seat stands among the views of all.
 use Rattle.std.proofs.Common.{◌≡◌, ℕ, zero, suc, ◌+◌, ◌<◌, List, [], ◌∷◌, ◌++◌, length, get_or, set, length-append, length-set, ap, sym, ◌∙◌, arith}
+use Rattle.std.proofs.lemmas.List.{get_or_append_left}
 use mathlib.Core.Option.{some, some-injective, some-ne-none}
 use lib.ListN.{get_elem?}
 use Rattle.core_model.specs.View.{View}
@@ -39,3 +40,16 @@ set_offset (j ∷ groups) (suc id) group v w at single = ap (λ vs. j ++ vs) (se
 -- as many seats, where one changes its view
 pub same_seats : (groups : List SeatViews) (id : ℕ) (group : SeatViews) (v w : View) → get_elem? groups id ≡ some group → IsSingle group v → length (all_views (set groups id (w ∷ []))) ≡ length (all_views groups)
 same_seats groups id group v w at single = ap length (set_offset groups id group v w at single) ∙ length-set (all_views groups) (offset id groups) w
+
+-- the views of a group stand one behind another
+pub group_below : (groups : List SeatViews) (id : ℕ) (group : SeatViews) (k : ℕ) → get_elem? groups id ≡ some group → k < length group → offset id groups + k < length (all_views groups)
+group_below [] id group k at less = absurd (some-ne-none group (sym at))
+group_below (j ∷ groups) zero group k at less = let same = ap length (some-injective j group at) in let long = length-append j (all_views groups) in omega arith
+group_below (j ∷ groups) (suc id) group k at less = let rest = group_below groups id group k at less in let long = length-append j (all_views groups) in omega arith
+
+pub group_at : (groups : List SeatViews) (id : ℕ) (group : SeatViews) (k : ℕ) (v : View) → get_elem? groups id ≡ some group → k < length group → get_or (all_views groups) (offset id groups + k) v ≡ get_or group k v
+group_at [] id group k v at less = absurd (some-ne-none group (sym at))
+group_at (j ∷ groups) zero group k v at less = ap (λ n. get_or (j ++ all_views groups) n v) (let e : 0 + k ≡ k = omega arith in e)
+    ∙ get_or_append_left j (all_views groups) v k (let same = ap length (some-injective j group at) in omega arith) ∙ ap (λ vs. get_or vs k v) (some-injective j group at)
+group_at (j ∷ groups) (suc id) group k v at less = ap (λ n. get_or (j ++ all_views groups) n v) (let e : length j + offset id groups + k ≡ length j + (offset id groups + k) = omega arith in e)
+    ∙ get_behind j (all_views groups) (offset id groups + k) v ∙ group_at groups id group k v at less

@@ -1,10 +1,10 @@
 -- What a step of a seat of the table is: one event of the core.
-use Rattle.std.specs.Prelude.{◌≡◌, ℕ, ◌<◌, List, [], ◌∷◌, get_or, set, length}
+use Rattle.std.specs.Prelude.{◌≡◌, ◌≢◌, ℕ, ◌<◌, List, [], ◌∷◌, get_or, set, length}
 use Rattle.atomic_table.specs.Table.{Me}
 use Rattle.core_model.specs.declared.event.Event.{Event}
 use Rattle.core_model.specs.Memory.{memory_of, table_index}
 use Rattle.core_model.specs.View.{View}
-use Rattle.core_model.specs.Carriers.{AreSeatsAndCarriers}
+use Rattle.core_model.specs.Carriers.{accepted, AreSeatsAndCarriers}
 use Rattle.core_model.specs.Effects.{place_of, left_there, view_after}
 use Rattle.core_model.specs.Guards.{MayStep}
 use Rattle.core_model.specs.Sound.{Sound}
@@ -82,3 +82,34 @@ pub record DidLearn (word : ℕ) (me : Me ℕ SeatViews) (found : ℕ) (me' : Me
   pub before : HasSoundState view
   pub found_is : found ≡ get_or before.words word 0
   pub has : HasSoundState (learned view word found)
+
+-- a sound state of all seats that the heap was opened for, and of carriers, in which both views stand, at two places
+pub record AreInOneState (v u : View) : Type 0 where
+  pub words : List ℕ
+  pub views : List View
+  pub sound : Sound v.setup words views
+  pub counted : AreSeatsAndCarriers v.setup views
+  pub one : ℕ
+  pub other : ℕ
+  pub apart : other ≢ one
+  pub below : one < length views
+  pub at : get_or views one v ≡ v
+  pub other_below : other < length views
+  pub other_at : get_or views other u ≡ u
+
+-- a word is read by a seat of the table that stands for two views, and nothing changes
+pub record DidReadBoth (me : Me ℕ SeatViews) (me' : Me ℕ SeatViews) : Type 0 where
+  pub same : me' ≡ me
+  pub one : View
+  pub other : View
+  pub group : me.0 ≡ other ∷ one ∷ []
+  pub together : AreInOneState one other
+
+-- a seat of the table that stood for a carrier and a seat stands for the seat that accepted
+pub record DidAccept (me : Me ℕ SeatViews) (me' : Me ℕ SeatViews) : Type 0 where
+  pub seat : View
+  pub carrier : View
+  pub group : me.0 ≡ carrier ∷ seat ∷ []
+  pub now : me' ≡ (accepted seat carrier ∷ [], me.1)
+  pub setup : carrier.setup ≡ seat.setup
+  pub has : HasSoundState (accepted seat carrier)

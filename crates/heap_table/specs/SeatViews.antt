@@ -1,7 +1,7 @@
 -- What a seat of the table stands for.
 use Rattle.std.specs.Prelude.{◌≡◌, List, [], ◌∷◌, ◌++◌, get_or}
 use Rattle.heap_model.specs.declared.block.Block.{Block}
-use Rattle.core_model.specs.Carriers.{accepted, carrier_of, offered}
+use Rattle.core_model.specs.Carriers.{carrier_of, offered}
 use Rattle.core_model.specs.View.{View}
 use Rattle.core_model.specs.Opening.{setup_of, plain_view}
 
@@ -48,7 +48,3 @@ left_by_offer b group = offered (view_in group) b.first_word ∷ []
 
 abbrev pub made_by_offer : Block → SeatViews → SeatViews
 made_by_offer b group = carrier_of (view_in group) b.first_word ∷ []
-
--- a seat that takes in what a carrier has
-abbrev pub left_by_accept : SeatViews → SeatViews → SeatViews
-left_by_accept mine theirs = accepted (view_in mine) (view_in theirs) ∷ []

@@ -7,12 +7,13 @@ ghost use Rattle.core_model.specs.Held.{IsHeld};
 ghost use Rattle.core_model.specs.View.{View};
 ghost use Rattle.heap_table.specs.SeatViews.{IsSingle, view_in};
 ghost use Rattle.heap_table.specs.AtTable.{IsAt};
+ghost use Rattle.heap_table.specs.Plays.{DidAccept};
 ghost use Rattle.heap_table.specs.Rule.{setup_for};
 
-use crate::plays::read_as;
+use crate::closing::join;
 use crate::rule::{Known, TableSeat, Words};
 use crate::shared::Shared;
-use atomic_table::{Join, Split};
+use atomic_table::{Play, Split};
 use std::marker::{Brand, PhantomData};
 use super_block::Block;
 
@@ -42,16 +43,13 @@ impl<J: ProofBlock> Split<Known> for Offering<J> {
     ghost right = { made_by_offer J.block };
 }
 
-/// A seat takes in what a carrier has, which then stands for nothing.
-pub struct Accepting;
+/// A seat that stands for a carrier and a seat stands for the seat that accepted.
+pub struct Accepts;
 
-impl Join<Known> for Accepting {
-    ghost use Rattle.std.specs.Prelude.{[]};
-    ghost use Rattle.heap_table.specs.SeatViews.{left_by_accept};
+impl Play<u8, Known> for Accepts {
+    ghost use Rattle.heap_table.specs.Plays.{DidAccept};
 
-    ghost both = { left_by_accept };
-
-    ghost spent = { [] };
+    ghost then = { λ _ me _ after. DidAccept me after };
 }
 
 /// The split that makes a carrier.
@@ -85,6 +83,18 @@ pub fn offer(shared: &Shared, seat: &mut TableSeat, block: Block) -> TableSeat
     split_as::<Brand>(&shared.table.shared, seat, block)
 }
 
+/// The load by which a seat accepts what the carrier before it has.
+pub(crate) fn accept_as(shared: &Words, seat: &mut TableSeat)
+    requires table { seat.old.table_id ≡ shared.now.table_id }
+    requires some { 0 < shared.now.table_id.words }
+    requires both { (v : View) × (u : View) × (seat.old.me.0 ≡ u ∷ v ∷ [])
+        × (v.setup ≡ setup_for shared.now.key) × MayHand v × IsCarrier u }
+    ensures did { DidAccept seat.old.me seat.new.me }
+    ensures table { seat.new.table_id ≡ seat.old.table_id }
+{
+    shared.load::<Accepts>(seat, 0);
+}
+
 /// Accepts the block of a carrier.
 pub fn accept(shared: &Shared, seat: &mut TableSeat, carrier: TableSeat)
     requires at { IsAt shared.now seat.old.table_id seat.old.me (view_in seat.old.me.0) }
@@ -94,7 +104,8 @@ pub fn accept(shared: &Shared, seat: &mut TableSeat, carrier: TableSeat)
     requires carrier_me { carrier.me ≡ (view_in carrier.me.0 ∷ [], []) }
     ensures at { IsAt shared.now seat.new.table_id seat.new.me (view_in seat.new.me.0) }
     ensures view { view_in seat.new.me.0 ≡ accepted (view_in seat.old.me.0) (view_in carrier.me.0) }
+    ensures setup { (view_in carrier.me.0).setup ≡ (view_in seat.old.me.0).setup }
 {
-    shared.table.shared.join_seat::<Accepting>(seat, carrier);
-    read_as(&shared.table.shared, seat, 0);
+    join(shared, seat, carrier);
+    accept_as(&shared.table.shared, seat);
 }

@@ -6,6 +6,7 @@ mod closing;
 mod handing;
 mod laws;
 mod opening;
+mod pairs;
 mod plays;
 mod rule;
 mod shared;
@@ -18,6 +19,7 @@ pub use laws::{
     a_superblock_that_was_never_taken_stays_as_it_was_opened, what_a_heap_comes_to_is_sound,
 };
 pub use opening::{open_table, split_first};
+pub use pairs::read_both;
 pub use rule::{Known, TableSeat};
 pub use shared::Shared;
 pub use steps::{draw, exchange, learn, look, raise, read, store};
