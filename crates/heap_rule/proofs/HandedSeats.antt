@@ -1,16 +1,15 @@
 -- What is kept of a seat, and of a carrier, after an offer or an accept.
-use Rattle.std.proofs.Common.{◌≡◌, ℕ, ◌+◌, ◌*◌, ◌<◌, ◌≤◌, true, false, None, Bool, List, [], ◌∷◌, get_or, length, refl, ap, sym, subst, ◌∙◌, arith}
+use Rattle.std.proofs.Common.{◌≡◌, ℕ, ◌*◌, ◌<◌, true, false, None, Bool, List, [], ◌∷◌, get_or, refl, ap, sym, subst, ◌∙◌, arith}
 use Rattle.std.specs.Prelude.{slice_set}
 use Rattle.heap_model.specs.declared.block.Block.{Block}
 use Rattle.heap_model.specs.Geometry.{start_word, superblock_words}
-use Rattle.heap_model.specs.Sizes.{IsClass, words_of_class}
+use Rattle.heap_model.specs.Sizes.{words_of_class}
 use Rattle.core_model.specs.Carriers.{accepted, carrier_of, offered}
 use Rattle.core_model.specs.Cells.{superblock_at}
 use Rattle.core_model.specs.Effects.{span_count}
 use Rattle.core_model.specs.Held.{IsHeld, a_small, a_large}
-use Rattle.core_model.specs.View.{View, times_block}
+use Rattle.core_model.specs.View.{View}
 use Rattle.core_model.proofs.CarrierLemmas.{carries_block}
-use Rattle.core_model.proofs.OwnerLemmas.{in_lists_total}
 use Rattle.atomic_table.specs.Seated.{TableId}
 use Rattle.atomic_table.specs.Table.{Me}
 use Rattle.seat_notes.specs.declared.notes.SeatNotes.{SeatNotes}

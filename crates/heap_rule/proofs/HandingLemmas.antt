@@ -1,5 +1,5 @@
 -- A heap whose seats have handed nothing on has no carrier.
-use Rattle.std.proofs.Common.{◌≡◌, ℕ, ◌<◌, List, [], ◌∷◌, get_or, length, Contains, ap, subst, sym, ◌∙◌, arith}
+use Rattle.std.proofs.Common.{◌≡◌, ◌<◌, List, [], ◌∷◌, get_or, length, Contains, ap, subst, sym, ◌∙◌, arith}
 use Rattle.std.proofs.lemmas.List.{get_or-map, get_or_default, length-map}
 use Rattle.heap_model.proofs.CountingLemmas.{total_none}
 use Rattle.heap_model.proofs.MemberLemmas.{in_none}

@@ -1,5 +1,5 @@
 -- What a seat keeps to tell its own words, after it offered or accepted a large block.
-use Rattle.std.proofs.Common.{◌≡◌, ℕ, ◌+◌, ◌-◌, ◌<◌, ◌≤◌, inl, inr, Bool, true, false, cond, not, nat_eq, nat_lt, List, [], ◌∷◌, ◌++◌, Contains, get_or, set, length, refl, ap, sym, subst, ◌∙◌, eqb-true, eq-eqb, ne_eqb, length-set, arith}
+use Rattle.std.proofs.Common.{◌≡◌, ℕ, ◌+◌, ◌-◌, ◌<◌, ◌≤◌, inl, inr, Bool, true, false, cond, not, nat_eq, nat_lt, List, [], ◌∷◌, ◌++◌, Contains, get_or, length, refl, ap, sym, subst, ◌∙◌, eqb-true, ne_eqb, length-set, arith}
 use Rattle.std.proofs.lemmas.Bool.{cases_eq, cases_lt}
 use Rattle.heap_model.specs.declared.block.Block.{Block}
 use Rattle.heap_model.specs.Counting.{times, total, one_if}
@@ -18,7 +18,6 @@ use Rattle.core_model.proofs.OwnerLemmas.{in_lists_total}
 use Rattle.core_model.proofs.SpanLemmas.{range_is}
 use Rattle.core_model.proofs.TotalLemmas.{total_at}
 use Rattle.heap_table.specs.Plays.{HasSoundState}
-use Rattle.heap_rule.specs.declared.owned.Ownership.{Ownership}
 use Rattle.heap_rule.specs.declared.owned.Ownership.TheVariants as ownership
 use Rattle.heap_rule.specs.declared.owned.Owned.{Owned}
 use Rattle.heap_rule.specs.Changed.{IsLargeIn}

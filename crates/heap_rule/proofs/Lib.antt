@@ -42,3 +42,5 @@ pub mod OwnedCarriers
 pub mod HandingLemmas
 pub mod LargeCarriers
 pub mod HandedSeats
+pub mod HolderLemmas
+pub mod CarrierBlocks

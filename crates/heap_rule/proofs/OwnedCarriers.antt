@@ -1,10 +1,9 @@
 -- What a seat keeps to tell its own words, after it offered or accepted a small block.
-use Rattle.std.proofs.Common.{◌≡◌, ◌≢◌, ℕ, zero, suc, ◌+◌, ◌<◌, ◌≤◌, inl, inr, Bool, true, false, cond, not, nat_eq, nat_lt, None, List, [], ◌∷◌, ◌++◌, Contains, get_or, set, length, refl, ap, sym, subst, ◌∙◌, ne_eqb, eqb-true, length-set, Vec, Global, arith}
+use Rattle.std.proofs.Common.{◌≡◌, ◌≢◌, ℕ, zero, suc, ◌+◌, ◌<◌, ◌≤◌, inl, inr, Bool, true, false, cond, not, nat_eq, nat_lt, List, [], ◌∷◌, ◌++◌, Contains, get_or, set, length, refl, ap, sym, subst, ◌∙◌, ne_eqb, eqb-true, length-set, Vec, Global, arith}
 use Rattle.std.proofs.lemmas.Bool.{cases_eq, cases_lt}
 use Rattle.std.proofs.lemmas.List.{get_or-set_same, get_or-set_other, get_or_default}
 use Rattle.heap_model.specs.declared.block.Block.{Block}
 use Rattle.heap_model.specs.Geometry.{image_words, start_word}
-use Rattle.heap_model.specs.Sizes.{IsClass, words_of_class}
 use Rattle.heap_model.specs.Counting.{times, total, one_if}
 use Rattle.heap_model.proofs.MemberLemmas.{head_or_rest, in_head, in_rest}
 use Rattle.core_model.specs.Carriers.{accepted, both_lists, carrier_of, offered}
@@ -13,22 +12,14 @@ use Rattle.core_model.specs.Memory.{Memory, memory_of, info, used}
 use Rattle.core_model.specs.Sound.{Good}
 use Rattle.core_model.specs.Splitting.{chosen, chosen_lists, chosen_spans}
 use Rattle.core_model.specs.View.{View, Span, of_class, takes, times_block, times_large}
-use Rattle.core_model.proofs.CarrierLemmas.{both_class, both_times, carries_block}
+use Rattle.core_model.proofs.CarrierLemmas.{both_class, both_times}
 use Rattle.core_model.proofs.HeldOnceLemmas.{held_once}
 use Rattle.core_model.proofs.SpanLemmas.{range_is}
 use Rattle.core_model.proofs.OwnLemmas.{one_at_most}
 use Rattle.core_model.proofs.OwnerLemmas.{in_lists_total}
 use Rattle.core_model.proofs.TotalLemmas.{total_at, total_where, eq-eqb-one, ne-eqb-none}
-use Rattle.atomic_table.specs.Seated.{TableId}
-use Rattle.atomic_table.specs.Table.{Me}
-use Rattle.core_model.specs.Held.{IsHeld, a_small}
-use Rattle.seat_notes.specs.declared.notes.SeatNotes.{SeatNotes}
-use Rattle.seat_notes.specs.Notes.{HasBatch, HasCaches}
-use Rattle.heap_table.specs.AtTable.{IsAt, SharedView}
 use Rattle.heap_table.specs.Plays.{HasSoundState}
-use Rattle.heap_table.specs.SeatViews.{SeatViews, view_in}
-use Rattle.heap_rule.specs.Seated.{IsKeptOf, IsWholeSeat}
-use Rattle.heap_rule.proofs.ViewLemmas.{block_below, block_class, block_range}
+use Rattle.heap_rule.proofs.ViewLemmas.{block_below, block_range}
 use Rattle.heap_rule.specs.Holdings.{HoldsOneSmall, HoldsSmall}
 use Rattle.heap_rule.specs.declared.owned.Owned.{Owned}
 use Rattle.heap_rule.specs.Owned.{AreClasses, HasOwned, IsMarking, parts_of, times_had}

@@ -1,5 +1,12 @@
 //! A block between two seats of a shared heap.
 
+ghost use Rattle.std.specs.Prelude.{◌≡◌};
+ghost use Rattle.core_model.specs.Carriers.{IsCarrier};
+ghost use Rattle.core_model.specs.Held.{IsHeld};
+ghost use Rattle.heap_model.specs.declared.block.Block.{Block};
+ghost use Rattle.heap_rule.specs.Holdings.{HoldsAlone};
+ghost use Rattle.heap_rule.specs.declared.owned.Holding.{Holding};
+
 use crate::owned::Holding;
 use heap_table::TableSeat;
 use std::marker::Model;
@@ -29,4 +36,16 @@ impl Model for Carrier {
     } };
 
     ghost invariant = { λ a. IsWholeCarrier a.table_seat.me a.block a.holding };
+}
+
+impl Carrier {
+    /// It holds its block, once, and no other.
+    pub fn holds_its_block(&self)
+        ensures carrier { IsCarrier self.now.view }
+        ensures alone { (h : Holding) × HoldsAlone self.now.view self.now.block h }
+        ensures held { IsHeld self.now.view self.now.block }
+        ensures only { (b : Block) → IsHeld self.now.view b → b ≡ self.now.block }
+    {
+        let _block = self.block;
+    }
 }

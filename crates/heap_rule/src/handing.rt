@@ -1,7 +1,7 @@
 //! A seat offers a held block to a carrier, and accepts the block of one.
 //!
-//! Linearization point: the split of the seat of the table, or the join with the carrier's. Neither
-//! changes a word, and neither can be lost.
+//! Linearization point: of an offer the split of the seat of the table; of an accept the load by the
+//! seat of the table once it stands for both. Neither changes a word, and neither can be lost.
 
 ghost use Rattle.std.specs.Prelude.{◌≡◌};
 ghost use Rattle.core_model.specs.Carriers.{accepted, carrier_of, MayHand, offered};
@@ -48,6 +48,8 @@ impl Seat {
         ensures seat { IsSeatOf shared.now self.new }
         ensures stores { KeepsStores self.old self.new }
         ensures block { result ≡ carrier.block }
+        ensures setup { carrier.view.setup ≡ self.old.view.setup }
+        ensures held { IsHeld self.new.view result }
     {
         let Carrier {
             table_seat,

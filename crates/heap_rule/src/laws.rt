@@ -18,6 +18,7 @@ ghost use Rattle.heap_table.specs.SeatViews.{SeatViews, all_views};
 ghost use Rattle.heap_table.specs.Plays.{HasSoundState, IsEvent};
 ghost use Rattle.heap_table.specs.Rule.{HasAllSeats, Opening, setup_for};
 ghost use Rattle.heap_table.specs.AtTable.{IsClosedSound};
+ghost use Rattle.heap_rule.specs.Held.{IsHeldByOne};
 ghost use Rattle.heap_rule.specs.Shown.{Shows};
 
 /// What a step tells of the heap: in the state in which it was taken, each mixed image names each
@@ -66,12 +67,20 @@ pub fn a_closed_heap_names_each_held_block()
         → header_fault limit (8 * image_words k.capacity) image ≡ None }
 {}
 
-/// No block is held twice: of the seats of a shared heap between any two steps of any of them, of
-/// each sound state in which a seat has its view, and of the seats of a closed heap.
+/// No block is held twice: by the seats and the carriers of a shared heap between any two steps of
+/// any seat, by those of each sound state in which a seat has its view, and by those of a closed
+/// heap. The list of all views has the seats and the carriers. Between any two steps one of them
+/// holds each held block, and each mixture of the volatile and the durable words names it.
 pub fn no_block_is_held_twice()
     ensures shared { (o : Opening) (words : List ℕ) (joints : List SeatViews)
         → HasAllSeats o words joints
         → AreHeldOnce (setup_for o).capacity (all_views joints) }
+    ensures holder { (o : Opening) (words : List ℕ) (joints : List SeatViews)
+        → HasAllSeats o words joints
+        → (b : Block) → IsHeldBy (all_views joints) b → IsHeldByOne (all_views joints) b }
+    ensures firm { (o : Opening) (words : List ℕ) (joints : List SeatViews)
+        → HasAllSeats o words joints
+        → IsFirm (setup_for o).capacity words (all_views joints) }
     ensures state { (v : View) → (has : HasSoundState v)
         → AreHeldOnce v.setup.capacity has.views }
     ensures closed { (k : Setup) (now kept : List ℕ) (views : List View)

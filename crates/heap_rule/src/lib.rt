@@ -1,5 +1,6 @@
-//! A lock-free heap that threads share, each through a handle of its own, a seat, whose calls are
-//! atomic steps; each of them is one event of the core.
+//! A lock-free heap that threads share, each through a handle of its own, a seat, whose calls take
+//! atomic steps: most are one event of the core, a draw by chance and a fence are a row of them, and
+//! an offer or an accept moves a held block.
 #![tactic(auto)]
 
 mod carrier;
@@ -21,6 +22,7 @@ mod opening;
 mod own_words;
 mod owned;
 mod owned_opening;
+mod pairs;
 mod reads;
 mod seat;
 mod shifts;
@@ -50,6 +52,7 @@ pub use laws::{
     a_closed_heap_names_each_held_block, a_step_tells_of_the_heap, no_block_is_held_twice,
 };
 pub use opening::open_shared;
+pub use pairs::held_at_once;
 pub use seat::Seat;
 pub use step_laws::{
     a_draw_leaves_its_change_or_a_stop, a_lost_exchange_answers_the_word_that_it_found,

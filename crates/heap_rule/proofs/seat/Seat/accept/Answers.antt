@@ -1,7 +1,10 @@
 use Rattle.std.proofs.Common.{sym, subst}
+use Rattle.core_model.specs.Held.{IsHeld}
+use Rattle.core_model.specs.View.{View}
 use Rattle.heap_table.specs.Plays.{HasSoundState}
 use Rattle.heap_table.specs.SeatViews.{view_in}
 use Rattle.heap_rule.specs.Holdings.{CanGain, HasGained}
+use Rattle.heap_rule.proofs.CarrierBlocks.{acceptor_holds}
 use Rattle.heap_rule.proofs.HandedSeats.{accepted_seat, can_gain}
 use Rattle.heap_rule.proofs.seat.Seat.accept.Goals as goal
 
@@ -15,3 +18,7 @@ invariant_of-self c =
     accepted_seat c.args.shared.now c.accept.new.seat.table_id c.self.inside.table_seat.me c.accept.new.seat.me c.self.inside.notes c.self.inside.owned c.gain.new.self c.self.inside.pending c.self.inside.geometry.capacity
     c.self.inside.budget (view_in c.carrier.inside.table_seat.me.0) c.carrier.inside.block c.carrier.inside.holding c.carrier.invariant.alone c.self.invariant c.accept.ensures.at c.accept.ensures.view
     (subst (λ n. HasGained c.carrier.inside.block c.carrier.inside.holding n c.self.inside.owned c.gain.new.self) c.self.invariant.seat.capacity_is c.gain.ensures)
+
+pub returns-clause-held : goal.returns-clause-held
+returns-clause-held c = subst (λ (v : View). IsHeld v c.carrier.inside.block) (sym c.accept.ensures.view)
+    (acceptor_holds (view_in c.self.inside.table_seat.me.0) (view_in c.carrier.inside.table_seat.me.0) c.carrier.inside.block c.carrier.inside.holding c.carrier.invariant.alone c.accept.ensures.setup)
