@@ -39,6 +39,7 @@ pub mod OpenedHeldLemmas
 pub mod SplittingLemmas
 pub mod OrderLemmas
 mod ExampleLemmas
+mod GuardExampleLemmas
 pub mod RoleLemmas
 pub mod CarrierLemmas
 pub mod EmptiedLemmas

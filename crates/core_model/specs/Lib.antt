@@ -11,3 +11,4 @@ pub mod Opening
 pub mod Orders
 pub mod Splitting
 pub mod Carriers
+pub mod CarrierExamples
