@@ -43,3 +43,4 @@ mod GuardExampleLemmas
 pub mod RoleLemmas
 pub mod CarrierLemmas
 pub mod EmptiedLemmas
+pub mod HandingLemmas

@@ -12,3 +12,4 @@ pub mod Orders
 pub mod Splitting
 pub mod Carriers
 pub mod CarrierExamples
+pub mod Handing

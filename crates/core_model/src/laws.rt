@@ -15,6 +15,7 @@ ghost use Rattle.core_model.specs.Guards.{IsOwn, MayStep};
 ghost use Rattle.core_model.specs.Sound.{Each, Good, Sound};
 ghost use Rattle.core_model.specs.Steps.{Keeps, TableState, IsSoundState, Runs, words_after, seat_after};
 ghost use Rattle.core_model.specs.Carriers.{accepted, AreOneLess, AreSeatsAndCarriers, carrier_of, emptied, IsCarrier, IsEmptied, offered, one_if_carrier};
+ghost use Rattle.core_model.specs.Handing.{AcceptsTo, OffersTo};
 ghost use Rattle.core_model.specs.Splitting.{Choice, remaining, given_off};
 ghost use Rattle.core_model.specs.Opening.{AreOwners, HasDoneNothing, IsOwnerOf, setup_of, opened_view, opened_state};
 ghost use Rattle.core_model.specs.Held.{AreHeldOnce, IsHeld, IsHeldBy, IsFirm, volatile_image, durable_image};
@@ -230,4 +231,21 @@ pub fn a_block_may_go_between_seats()
         ≡ total (λ (v : View). v.offers) views }
     ensures held_once { (k : Setup) (words : List ℕ) (views : List View) → Sound k words views
         → AreHeldOnce k.capacity views }
+{}
+
+/// Whatever a seat's offer or accept answers, the state stays sound, with as many seats, and each
+/// offer has one carrier that is left, or one accept.
+pub fn offers_and_accepts_keep_the_heap_sound()
+    ensures offer { (k : Setup) (s : TableState) (i word : ℕ) (answer : StepAnswer)
+        (s' : TableState) → i < length s.views → OffersTo s i word answer s' → IsSoundState k s
+        → IsSoundState k s' }
+    ensures accept { (k : Setup) (s : TableState) (i j : ℕ) (answer : StepAnswer)
+        (s' : TableState) → i < length s.views → AcceptsTo s i j answer s' → IsSoundState k s
+        → IsSoundState k s' }
+    ensures offer_counts { (k : Setup) (s : TableState) (i word : ℕ) (answer : StepAnswer)
+        (s' : TableState) → i < length s.views → OffersTo s i word answer s' → AreSeatsAndCarriers k s.views
+        → AreSeatsAndCarriers k s'.views }
+    ensures accept_counts { (k : Setup) (s : TableState) (i j : ℕ) (answer : StepAnswer)
+        (s' : TableState) → i < length s.views → AcceptsTo s i j answer s' → AreSeatsAndCarriers k s.views
+        → AreSeatsAndCarriers k s'.views }
 {}

@@ -20,5 +20,6 @@ pub use laws::{
     a_step_works_on_a_word_of_the_table, a_word_is_own_at_most_once,
     a_word_is_own_to_at_most_one_seat, an_opened_heap_is_sound,
     every_list_of_events_keeps_the_heap_sound, every_step_keeps_the_heap_sound,
-    no_block_is_held_twice, whatever_a_crash_leaves_reaches_the_same,
+    no_block_is_held_twice, offers_and_accepts_keep_the_heap_sound,
+    whatever_a_crash_leaves_reaches_the_same,
 };

@@ -69,7 +69,7 @@ module _ (c : CoreState) (k : Setup) (views : List View) (i : ℕ) (v : View) (t
       (λ b none. let o = kept.blocks b in let more = cached_more b in record { held = o.held; cached = (let h = o.cached in omega arith); batched = o.batched })
 
   pub blocks_theirs : (owners : List BlockOwner) → HasNewOwner c.blocks.items owners bs (record { seat = i; place = place.Cached })
-      → (j : ℕ) (s : SeatNotes) (u : View) → j ≢ i → j < length views → get_or views j u ≡ u → IsKept c j s u → HasBlocksOf owners j u.small u.caches u.batch.blocks
-  blocks_theirs owners given j s u other below_j at_u h = given_theirs c.blocks.items owners i j bs place.Cached (λ b p. IsPlace b p u.small u.caches u.batch.blocks) other given
-      (λ b some. no_place b (place_for j (get_or c.blocks.items b no_block)) u.small u.caches u.batch.blocks (h.blocks b) (let nobody = (free b some).1 in let theirs = total_at (times_block b) views j u below_j at_u in omega arith))
+      → (j : ℕ) (s : SeatNotes) (u : View) → j ≢ i → HasNoMore views u → IsKept c j s u → HasBlocksOf owners j u.small u.caches u.batch.blocks
+  blocks_theirs owners given j s u other most h = given_theirs c.blocks.items owners i j bs place.Cached (λ b p. IsPlace b p u.small u.caches u.batch.blocks) other given
+      (λ b some. no_place b (place_for j (get_or c.blocks.items b no_block)) u.small u.caches u.batch.blocks (h.blocks b) (let nobody = (free b some).1 in let theirs = most b in omega arith))
       h.blocks

@@ -116,7 +116,7 @@ module _ (c : CoreState) (k : Setup) (views : List View) (i : ℕ) (v : View) (t
         superblocks = kept.superblocks;
         roots = kept.roots;
       };
-      others = λ j s u other less_j at_u h. record {
+      others = λ j s u other most h. record {
         notes = h.notes;
         caches = h.caches;
         batch = h.batch;

@@ -184,7 +184,7 @@ module _ (c : CoreState) (k : Setup) (views : List View) (i : ℕ) (v : View) (t
               claims_none list (as_free l is_zero claimed empty) o = let a = o.is_raw in let b = o.is_split in let e = o.is_cutting in let f = o.is_classed in let g = claimed.claimed in absurd (omega arith)
               claims_none list (of_its_class l apart classed class_is state_now) o = let f = o.is_classed in absurd (omega arith)
 
-        theirs : (j : ℕ) (s : SeatNotes) (u : View) → j ≢ i → j < length views → get_or views j u ≡ u → IsKept c j s u → IsKept c' j s u
+        theirs : (j : ℕ) (s : SeatNotes) (u : View) → j ≢ i → HasNoMore views u → IsKept c j s u → IsKept c' j s u
         theirs j s u other b a h = record {
           notes = h.notes;
           caches = h.caches;

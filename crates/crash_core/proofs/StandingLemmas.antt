@@ -35,7 +35,7 @@ pub stands_after : (c c' : CoreState) (k : Setup) (views : List View) (i : ℕ) 
     → get_or c.seats.items i t ≡ t → MayStep (memory_in c k) v event
     → c'.words.items ≡ words_after k c.words.items v event → c'.seats.items ≡ set c.seats.items i t' → IsSameHeap c c'
     → IsKept c' i t' (seat_after (memory_in c k) v event)
-    → ((j : ℕ) (s : SeatNotes) (u : View) → j ≢ i → j < length views → get_or views j u ≡ u → IsKept c j s u → IsKept c' j s u)
+    → ((j : ℕ) (s : SeatNotes) (u : View) → j ≢ i → HasNoMore views u → IsKept c j s u → IsKept c' j s u)
     → StandsFor c' k (state_after k (state_of c views) i v event)
 stands_after c c' k views i v t t' event keeps below at at_t may words seats same mine others = record {
   words = words;
@@ -74,7 +74,7 @@ pub step_done : (c c' : CoreState) (k : Setup) (views : List View) (i : ℕ) (v 
     → (seat_after (memory_in c k) v event).stopped ≡ None
     → c'.words.items ≡ words_after k c.words.items v event → c'.seats.items ≡ set c.seats.items i t' → IsSameHeap c c'
     → IsKept c' i t' (seat_after (memory_in c k) v event)
-    → ((j : ℕ) (s : SeatNotes) (u : View) → j ≢ i → j < length views → get_or views j u ≡ u → IsKept c j s u → IsKept c' j s u)
+    → ((j : ℕ) (s : SeatNotes) (u : View) → j ≢ i → HasNoMore views u → IsKept c j s u → IsKept c' j s u)
     → Steps c c' k views i v event Done
 step_done c c' k views i v t t' event keeps below at at_t going ticket ready seen on words seats same mine others =
     let may = may_step (memory_in c k) v event going ticket ready in
@@ -93,7 +93,7 @@ pub step_noted : (c : CoreState) (k : Setup) (views : List View) (i : ℕ) (v : 
     → Steps c (record c { words = words; seats = with_item c.seats i t' }) k views i v event Done
 step_noted c k views i v t t' words event keeps below at at_t going ticket ready seen on words_are notes caches batch same =
     step_done c (record c { words = words; seats = with_item c.seats i t' }) k views i v t t' event keeps below at at_t going ticket ready seen on words_are refl
-    (record { capacity = refl; budget = refl; blocks = refl; superblocks = refl; roots = refl })
+    (record { capacity = refl; budget = refl; opened = refl; blocks = refl; superblocks = refl; roots = refl })
     (let old = keeps.each i t v below at_t at in record {
       notes = notes;
       caches = subst (λ l. HasCaches l (seat_after (memory_in c k) v event).caches) (sym caches) (subst (λ (p : Parts). HasCaches t.caches p.caches) (sym same) old.caches);
@@ -102,7 +102,7 @@ step_noted c k views i v t t' words event keeps below at at_t going ticket ready
       superblocks = subst (λ (p : Parts). HasSuperblocks c.superblocks.items i p.raw p.split p.cutting p.classed p.large) (sym same) old.superblocks;
       roots = subst (λ (p : Parts). HasRoots c.roots.items i p.roots) (sym same) old.roots;
     })
-    (λ j s u other less at_u h. record { notes = h.notes; caches = h.caches; batch = h.batch; blocks = h.blocks; superblocks = h.superblocks; roots = h.roots })
+    (λ j s u other most h. record { notes = h.notes; caches = h.caches; batch = h.batch; blocks = h.blocks; superblocks = h.superblocks; roots = h.roots })
 
 -- the capacity of a seat is the core's
 pub seat_capacity : (c : CoreState) (k : Setup) (views : List View) (i : ℕ) (v : View) → KeepsViews c k views → i < length views → get_or views i v ≡ v → v.setup.capacity ≡ c.geometry.capacity

@@ -112,7 +112,7 @@ module _ (c : CoreState) (k : Setup) (views : List View) (i : ℕ) (v : View) (t
   stop_with going past = steps_stopped ticket (record { may = may_step (memory_in c k) v (Tick (Some shift)) going tt may; as_seen = tt })
       (ap (λ (y : View). y.stopped) at_end ∙ ap Some found)
       (stands_after c c' k views i v t t' (Tick (Some shift)) keeps below at at_t (may_step (memory_in c k) v (Tick (Some shift)) going tt may) (drawn_more c k views keeps at_word ticket here is) refl
-      (record { capacity = refl; budget = refl; blocks = refl; superblocks = refl; roots = refl })
+      (record { capacity = refl; budget = refl; opened = refl; blocks = refl; superblocks = refl; roots = refl })
       (subst (IsKept c' i t') (sym at_end) (record {
         notes = (let n = kept.notes in record { ticket = refl; stopped = ap Some found; seen_used = n.seen_used; seen_head = n.seen_head; seen_link = n.seen_link; seen_anchor = n.seen_anchor });
         caches = kept.caches;
@@ -121,7 +121,7 @@ module _ (c : CoreState) (k : Setup) (views : List View) (i : ℕ) (v : View) (t
         superblocks = kept.superblocks;
         roots = kept.roots;
       }))
-      (λ j s u other less at_u h. record { notes = h.notes; caches = h.caches; batch = h.batch; blocks = h.blocks; superblocks = h.superblocks; roots = h.roots })) where
+      (λ j s u other most h. record { notes = h.notes; caches = h.caches; batch = h.batch; blocks = h.blocks; superblocks = h.superblocks; roots = h.roots })) where
         t' : SeatNotes
         t' = record t { ticket = None; stopped = Some ticket }
 
@@ -139,7 +139,7 @@ module _ (c : CoreState) (k : Setup) (views : List View) (i : ℕ) (v : View) (t
       (ap (λ l. set l i t') moved.seats ∙ set_twice c.seats.items i moved.after t')
       (record { capacity = ap (λ (g : Geometry). g.capacity) moved.geometry; budget = moved.budget; blocks = moved.blocks; superblocks = moved.superblocks; roots = moved.roots })
       (subst (IsKept c' i t') (sym drawn) (kept_with new c' i changed (memory_in c k) v shift (memory_in c k).drawn ticket refl refl refl found (subst (λ s. IsKept new i s (shifted (memory_in c k) v (Some shift))) (sym is_after) moved.mine)))
-      (λ j s u other less_j at_u h. let o = moved.others j s u other less_j at_u h in record { notes = o.notes; caches = o.caches; batch = o.batch; blocks = o.blocks; superblocks = o.superblocks; roots = o.roots }) where
+      (λ j s u other most h. let o = moved.others j s u other most h in record { notes = o.notes; caches = o.caches; batch = o.batch; blocks = o.blocks; superblocks = o.superblocks; roots = o.roots }) where
         t' : SeatNotes
         t' = record changed { ticket = Some ticket }
 

@@ -71,7 +71,7 @@ module _ (c : CoreState) (k : Setup) (views : List View) (i : ℕ) (v : View) (t
   settle word at_word found own here is = step_done c (record c { words = with_item c.words at_word found }) k views i v t t (Settle word) keeps below at at_t going tt own tt going
       (ap₂ (λ n x. set c.words.items n x) (let e = own_index word own in let g = keeps.capacity in omega arith) found_is)
       (sym (ap (set c.seats.items i) (sym at_t) ∙ set-get_or c.seats.items i t))
-      (record { capacity = refl; budget = refl; blocks = refl; superblocks = refl; roots = refl })
+      (record { capacity = refl; budget = refl; opened = refl; blocks = refl; superblocks = refl; roots = refl })
       (record {
         notes = (let n = kept.notes in record { ticket = n.ticket; stopped = n.stopped; seen_used = n.seen_used; seen_head = n.seen_head; seen_link = n.seen_link; seen_anchor = n.seen_anchor });
         caches = kept.caches;
@@ -80,7 +80,7 @@ module _ (c : CoreState) (k : Setup) (views : List View) (i : ℕ) (v : View) (t
         superblocks = kept.superblocks;
         roots = kept.roots;
       })
-      (λ j s u other less at_u h. record { notes = h.notes; caches = h.caches; batch = h.batch; blocks = h.blocks; superblocks = h.superblocks; roots = h.roots }) where
+      (λ j s u other most h. record { notes = h.notes; caches = h.caches; batch = h.batch; blocks = h.blocks; superblocks = h.superblocks; roots = h.roots }) where
         found_is : found ≡ (memory_in c k).volatile (cell_at v.setup.capacity word)
         found_is = is ∙ entry_is c.words.items word found 0 (let l = keeps.sound.long in let b = own_below word own in let g = keeps.capacity in omega arith)
             ∙ ap (λ n. get_or c.words.items n 0) (sym (own_index word own)) ∙ sym (read_is k.capacity c.words.items (volatile_at (cell_at v.setup.capacity word)) (own_cell k (memory_in c k) views i v below at good word own))
@@ -104,7 +104,7 @@ module _ (c : CoreState) (k : Setup) (views : List View) (i : ℕ) (v : View) (t
     stop past = steps_stopped ticket (record { may = may_step (memory_in c k) v (Tick None) going tt tt; as_seen = tt })
         (ap (λ (y : View). y.stopped) at_end ∙ ap Some found)
         (stands_after c c' k views i v t t' (Tick None) keeps below at at_t (may_step (memory_in c k) v (Tick None) going tt tt) (drawn_more c k views keeps at_word ticket here is) refl
-        (record { capacity = refl; budget = refl; blocks = refl; superblocks = refl; roots = refl })
+        (record { capacity = refl; budget = refl; opened = refl; blocks = refl; superblocks = refl; roots = refl })
         (subst (IsKept c' i t') (sym at_end) (record {
           notes = (let n = kept.notes in record { ticket = refl; stopped = ap Some found; seen_used = n.seen_used; seen_head = n.seen_head; seen_link = n.seen_link; seen_anchor = n.seen_anchor });
           caches = kept.caches;
@@ -113,7 +113,7 @@ module _ (c : CoreState) (k : Setup) (views : List View) (i : ℕ) (v : View) (t
           superblocks = kept.superblocks;
           roots = kept.roots;
         }))
-        (λ j s u other less at_u h. record { notes = h.notes; caches = h.caches; batch = h.batch; blocks = h.blocks; superblocks = h.superblocks; roots = h.roots })) where
+        (λ j s u other most h. record { notes = h.notes; caches = h.caches; batch = h.batch; blocks = h.blocks; superblocks = h.superblocks; roots = h.roots })) where
           t' : SeatNotes
           t' = record t { ticket = None; stopped = Some ticket }
 
