@@ -1,15 +1,18 @@
 -- What is kept of a seat, and of a carrier, after an offer or an accept.
-use Rattle.std.proofs.Common.{◌≡◌, ℕ, ◌*◌, ◌<◌, true, false, None, Bool, List, [], ◌∷◌, get_or, refl, ap, sym, subst, ◌∙◌, arith}
+use Rattle.std.proofs.Common.{◌≡◌, ℕ, ◌+◌, ◌*◌, ◌<◌, ◌≤◌, true, false, None, Some, Option, Bool, cond, nat_lt, ltb-true, List, [], ◌∷◌, get_or, length, refl, ap, sym, subst, ◌∙◌, arith}
 use Rattle.std.specs.Prelude.{slice_set}
 use Rattle.heap_model.specs.declared.block.Block.{Block}
 use Rattle.heap_model.specs.Geometry.{start_word, superblock_words}
 use Rattle.heap_model.specs.Sizes.{words_of_class}
 use Rattle.core_model.specs.Carriers.{accepted, carrier_of, offered}
-use Rattle.core_model.specs.Cells.{superblock_at}
-use Rattle.core_model.specs.Effects.{span_count}
+use Rattle.core_model.specs.Cells.{cell_at, superblock_at}
+use Rattle.core_model.specs.Effects.{only_own, span_count}
 use Rattle.core_model.specs.Held.{IsHeld, a_small, a_large}
-use Rattle.core_model.specs.View.{View}
+use Rattle.core_model.specs.Memory.{table_length}
+use Rattle.core_model.specs.View.{View, times_block, times_own}
 use Rattle.core_model.proofs.CarrierLemmas.{carries_block}
+use Rattle.core_model.proofs.OwnLemmas.{only_at}
+use Rattle.core_model.proofs.OwnerLemmas.{in_lists_total}
 use Rattle.atomic_table.specs.Seated.{TableId}
 use Rattle.atomic_table.specs.Table.{Me}
 use Rattle.seat_notes.specs.declared.notes.SeatNotes.{SeatNotes}
@@ -17,7 +20,8 @@ use Rattle.seat_notes.specs.Notes.{HasBatch, HasCaches}
 use Rattle.heap_table.specs.AtTable.{IsAt, SharedView}
 use Rattle.heap_table.specs.Plays.{HasSoundState}
 use Rattle.heap_table.specs.SeatViews.{SeatViews, view_in}
-use Rattle.heap_rule.specs.Carried.{IsWholeCarrier}
+use Rattle.heap_rule.specs.Carried.{Carries, IsWholeCarrier, KnowsItsOwn}
+use Rattle.heap_rule.specs.Fences.{Owns}
 use Rattle.heap_rule.specs.declared.owned.Holding.{Holding}
 use Rattle.heap_rule.specs.declared.owned.Holding.TheVariants as holding
 use Rattle.heap_rule.specs.declared.owned.Owned.{Owned}
@@ -133,6 +137,30 @@ accepted_seat shared table me me' notes owned owned' marks capacity budget u b h
       own = subst (λ (x : View). HasOwned owned' (parts_of x)) (sym view_is) (gained_owned v u b h alone has owned owned' whole.own gained);
     }
 
+-- a carrier knows of its own words alone
+known_own : (u : View) (values : List (Option ℕ)) (word value : ℕ) → get_or (only_own u 0 values) word None ≡ Some value → Owns u word
+known_own u values word value is = by_test (nat_lt 0 (times_own u (cell_at u.setup.capacity (0 + word)))) refl where
+  by_test : (t : Bool) → nat_lt 0 (times_own u (cell_at u.setup.capacity (0 + word))) ≡ t → Owns u word
+  by_test true own = subst (λ n. 0 < times_own u (cell_at u.setup.capacity n)) (let e : 0 + word ≡ word = omega arith in e) (ltb-true 0 (times_own u (cell_at u.setup.capacity (0 + word))) own)
+  by_test false other = absurd (let none : None ≡ Some value = ap (λ t. cond t (get_or values word None) None) (sym other) ∙ sym (only_at u 0 word values) ∙ is in cc)
+
+carrier_knows : (v : View) (block : ℕ) → KnowsItsOwn (carrier_of v block)
+carrier_knows v block = record {
+  volatile = λ word value is. known_own (carrier_of v block) v.volatile word value is;
+  durable = λ word value is. known_own (carrier_of v block) v.durable word value is;
+}
+
 -- the carrier
-pub whole_carrier : (v : View) (s : HasSoundState v) (b : Block) (h : Holding) → Holds v b h → (me : Me ℕ SeatViews) → me ≡ (carrier_of v b.first_word ∷ [], []) → IsWholeCarrier me b h
-whole_carrier v s b h held me me_is = subst (λ m. IsWholeCarrier m b h) (sym me_is) (record { me_is = refl; carrier = carries_block v b.first_word; alone = carried_alone v s b h held })
+pub whole_carrier : (v : View) (s : HasSoundState v) (b : Block) (h : Holding) → Holds v b h → (table : TableId) → table.words ≡ table_length v.setup.capacity → (me : Me ℕ SeatViews) → me ≡ (carrier_of v b.first_word ∷ [], [])
+    → IsWholeCarrier table me b h
+whole_carrier v s b h held table long me me_is = subst (λ m. IsWholeCarrier table m b h) (sym me_is) (record { me_is = refl; long = long; carrier = carries_block v b.first_word; alone = carried_alone v s b h held; knows = carrier_knows v b.first_word })
+
+-- what it is for a seat of its heap
+pub whole_carries : (table : TableId) (me : Me ℕ SeatViews) (b : Block) (h : Holding) → IsWholeCarrier table me b h → (capacity : ℕ) → table.words ≡ table_length capacity → Carries capacity (view_in me.0) b
+whole_carries table me b h whole capacity long = record {
+  capacity_is = let mine = whole.long in omega arith;
+  carrier = whole.carrier;
+  holding = h;
+  alone = whole.alone;
+  knows = whole.knows;
+}

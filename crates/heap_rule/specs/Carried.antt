@@ -1,14 +1,16 @@
 -- What contracts see of a carrier, and what it keeps; and all that a heap is closed with.
-use Rattle.std.specs.Prelude.{◌≡◌, ℕ, ◌+◌, ◌-◌, List, [], ◌∷◌, Contains, length, map}
+use Rattle.std.specs.Prelude.{◌≡◌, ℕ, ◌+◌, ◌-◌, List, [], ◌∷◌, Contains, get_or, length, map, None, Some}
 use Rattle.heap_model.specs.declared.block.Block.{Block}
 use Rattle.heap_model.specs.Counting.{total}
 use Rattle.atomic_table.specs.Seated.{TableId}
 use Rattle.atomic_table.specs.Table.{Me}
 use Rattle.core_model.specs.Carriers.{IsCarrier}
+use Rattle.core_model.specs.Memory.{table_length}
 use Rattle.core_model.specs.View.{View}
 use Rattle.heap_table.specs.AtTable.{SharedView}
 use Rattle.heap_table.specs.SeatViews.{SeatViews, view_in}
 use Rattle.heap_rule.specs.declared.owned.Holding.{Holding}
+use Rattle.heap_rule.specs.Fences.{Owns}
 use Rattle.heap_rule.specs.Holdings.{HoldsAlone}
 use Rattle.heap_rule.specs.Seated.{SeatView}
 use Rattle.heap_rule.specs.Seats.{AreSeatsOf, views_of}
@@ -19,11 +21,26 @@ pub record CarrierView : Type 0 where
   pub view : View
   pub block : Block
 
--- a seat of the table that stands for a carrier, which holds this block alone
-pub record IsWholeCarrier (me : Me ℕ SeatViews) (b : Block) (holding : Holding) : Type 0 where
+-- it knows of no word but its own
+pub record KnowsItsOwn (u : View) : Type 0 where
+  pub volatile : (word value : ℕ) → get_or u.volatile word None ≡ Some value → Owns u word
+  pub durable : (word value : ℕ) → get_or u.durable word None ≡ Some value → Owns u word
+
+-- a carrier of a heap of this capacity: it holds this block alone, and knows of no word but the block's
+pub record Carries (capacity : ℕ) (u : View) (b : Block) : Type 0 where
+  pub capacity_is : u.setup.capacity ≡ capacity
+  pub carrier : IsCarrier u
+  pub holding : Holding
+  pub alone : HoldsAlone u b holding
+  pub knows : KnowsItsOwn u
+
+-- a seat of the table that stands for such a carrier
+pub record IsWholeCarrier (table : TableId) (me : Me ℕ SeatViews) (b : Block) (holding : Holding) : Type 0 where
   pub me_is : me ≡ (view_in me.0 ∷ [], [])
+  pub long : table.words ≡ table_length (view_in me.0).setup.capacity
   pub carrier : IsCarrier (view_in me.0)
   pub alone : HoldsAlone (view_in me.0) b holding
+  pub knows : KnowsItsOwn (view_in me.0)
 
 abbrev pub carried_views : List CarrierView → List View
 carried_views carriers = map (λ (c : CarrierView). c.view) carriers

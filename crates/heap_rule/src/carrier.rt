@@ -35,7 +35,8 @@ impl Model for Carrier {
       block = a.block;
     } };
 
-    ghost invariant = { λ a. IsWholeCarrier a.table_seat.me a.block a.holding };
+    ghost invariant = { λ a. IsWholeCarrier a.table_seat.table_id
+        a.table_seat.me a.block a.holding };
 }
 
 impl Carrier {

@@ -6,6 +6,7 @@
 ghost use Rattle.std.specs.Prelude.{◌≡◌};
 ghost use Rattle.core_model.specs.Carriers.{accepted, carrier_of, MayHand, offered};
 ghost use Rattle.core_model.specs.Held.{IsHeld};
+ghost use Rattle.heap_rule.specs.Carried.{Carries};
 ghost use Rattle.heap_rule.specs.Holdings.{Holds};
 ghost use Rattle.heap_rule.specs.Seated.{IsSeatOf, KeepsStores};
 
@@ -27,7 +28,9 @@ impl Seat {
         ensures carrier_table { result.table ≡ shared.now.table }
         ensures carrier { result.view ≡ carrier_of self.old.view block.first_word }
         ensures block { result.block ≡ block }
+        ensures carries { Carries self.old.view.setup.capacity result.view block }
     {
+        shared.has_its_length();
         let holding = self.holding_of(block);
         let table_seat = offer(shared, &mut self.table_seat, block);
         self.notes.ticket = None;
@@ -50,7 +53,9 @@ impl Seat {
         ensures block { result ≡ carrier.block }
         ensures setup { carrier.view.setup ≡ self.old.view.setup }
         ensures held { IsHeld self.new.view result }
+        ensures carries { Carries self.old.view.setup.capacity carrier.view carrier.block }
     {
+        shared.has_its_length();
         let Carrier {
             table_seat,
             block,

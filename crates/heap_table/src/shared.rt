@@ -28,3 +28,15 @@ impl Model for Shared {
     ghost invariant = { λ a. a.table.shared.table_id.words
         ≡ table_length (setup_for a.table.shared.key).capacity };
 }
+
+impl Shared {
+    ghost use Rattle.core_model.specs.Memory.{table_length};
+    ghost use Rattle.heap_table.specs.Rule.{setup_for};
+
+    /// The table is as long as the heap that it was opened with needs.
+    pub fn has_its_length(&self)
+        ensures { self.now.table.words ≡ table_length (setup_for self.now.opening).capacity }
+    {
+        let _table = &self.table;
+    }
+}
