@@ -2,6 +2,7 @@
 use Rattle.std.specs.Prelude.{◌≡◌, ◌∷◌, [], cond, nat_eq, refl}
 use Rattle.heap_model.specs.Image.{Image}
 use Rattle.heap_recover.specs.InPlace.{changed_lines, differences, steps_between}
+use Rattle.heap_recover.specs.InOrder.{Step, store, write_back, steps_in}
 
 abbrev zeros : Image
 zeros word = 0
@@ -19,3 +20,7 @@ lines_that_differ = refl
 -- three stores, two write-backs and a fence; of the first two lines two stores and one write-back; of the same image the fence alone
 steps : steps_between zeros three_others 24 ∷ steps_between zeros three_others 16 ∷ steps_between zeros zeros 24 ∷ [] ≡ 6 ∷ 4 ∷ 1 ∷ []
 steps = refl
+
+-- these steps, in their order: a line is written back behind its last store, and one without a store is left alone
+steps_are : steps_in zeros three_others 3 ≡ store 1 5 ∷ store 7 6 ∷ write_back 0 ∷ store 16 7 ∷ write_back 2 ∷ []
+steps_are = refl

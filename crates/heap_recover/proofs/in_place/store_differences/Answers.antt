@@ -2,6 +2,8 @@ use Rattle.std.proofs.Common.{◌∙◌, ◌≡◌, ◌+◌, ◌-◌, ◌*◌, �
 use Rattle.std.proofs.lemmas.Result.{err_from_is_err_and}
 use Rattle.heap_recover.specs.InPlace.{Differ, differences, changed_lines, steps_between, IsStoredTo}
 use Rattle.heap_recover.proofs.InPlaceLemmas.{line_written, line_same, line_more, line_none, lines_from, none_differ, write_back_draws, write_back_budget, write_back_going, refused_cut, cut_later, differ_from}
+use Rattle.heap_recover.specs.InOrder.{steps_in, TakesAll}
+use Rattle.heap_recover.proofs.OrderLemmas.{line_next, line_skipped, line_cut, write_back_cut}
 use Rattle.heap_recover.proofs.in_place.store_differences.Goals as goal
 use Rattle.heap_recover.proofs.in_place.store_differences.Goals.{then-branch+in_ok-write_back, else-branch}
 
@@ -38,9 +40,26 @@ returns-in_err-write_back-clause-cut_off g c =
     let p = err_from_is_err_and c.from_residual-in_err-write_back.result c.from_residual-in_err-write_back.ensures.1 in
     rw (p.1, p.2) cut
 
+pub returns-in_err-store_line-clause-first_steps : goal.returns-in_err-store_line-clause-first_steps
+returns-in_err-store_line-clause-first_steps g c =
+    let cut = line_cut g.M.LineMemory.view g.M.LineMemory.draws (slice_index c.args.old.now) (slice_index c.args.new.now) c.loop-line.line (length c.args.old.now / 8)
+    c.in_err-store_line.field-0.0.step c.args.memory.now c.loop-line.memory c.store_line.new.memory c.loop-line-test.true c.loop-line.invariant.steps
+    c.in_err-store_line.ensures.first_steps in
+    let p = err_from_is_err_and c.from_residual.result c.from_residual.ensures.1 in
+    rw (p.1, p.2) cut
+
+pub returns-in_err-write_back-clause-first_steps : goal.returns-in_err-write_back-clause-first_steps
+returns-in_err-write_back-clause-first_steps g c =
+    let cut = write_back_cut g.M.LineMemory.view g.M.LineMemory.draws (slice_index c.args.old.now) (slice_index c.args.new.now) c.loop-line.line (length c.args.old.now / 8)
+    c.in_err-write_back.field-0.0.step c.args.memory.now c.loop-line.memory c.store_line.new.memory c.write_back.new.self c.loop-line-test.true c.loop-line.invariant.steps
+    c.in_ok-store_line.ensures.steps c.in_err-write_back.ensures.stopped in
+    let p = err_from_is_err_and c.from_residual-in_err-write_back.result c.from_residual-in_err-write_back.ensures.1 in
+    rw (p.1, p.2) cut
+
 pub loop-line-preserved : goal.loop-line-preserved
 loop-line-preserved g c =
     let view = g.M.LineMemory.view in
+    let numbers = g.M.LineMemory.draws in
     let old = slice_index c.args.old.now in
     let new = slice_index c.args.new.now in
     let before = c.loop-line.invariant.drawn in
@@ -65,6 +84,9 @@ loop-line-preserved g c =
             going = ap (λ m. (view m).stopped) w.memory-is ∙ write_back_going c.loop-line.line (view c.store_line.new.memory) (view w.write_back.new.self) w.in_ok-write_back.ensures.ok
                 ∙ c.in_ok-store_line.ensures.going ∙ c.loop-line.invariant.going;
             drawn = ap (λ m. (view m).drawn) w.memory-is ∙ all;
+            steps = subst (λ m. TakesAll view numbers c.args.memory.now (steps_in old new (c.loop-line.line + 1)) m) (sym w.memory-is)
+                (line_next view numbers c.args.old.now c.args.new.now c.loop-line.line c.args.memory.now c.loop-line.memory c.store_line.new.memory w.write_back.new.self
+                some c.loop-line.invariant.steps c.in_ok-store_line.ensures.steps w.in_ok-write_back.ensures.ok);
           }
       | else-branch w ↦
           let same_words : Differ c.args.old.now c.args.new.now (8 * c.loop-line.line) (8 * c.loop-line.line + 8) → ⊥ =
@@ -81,5 +103,8 @@ loop-line-preserved g c =
             budget = ap (λ m. (view m).budget) w.memory-is ∙ c.store_line.ensures.budget ∙ c.loop-line.invariant.budget;
             going = ap (λ m. (view m).stopped) w.memory-is ∙ c.in_ok-store_line.ensures.going ∙ c.loop-line.invariant.going;
             drawn = ap (λ m. (view m).drawn) w.memory-is ∙ all;
+            steps = subst (λ m. TakesAll view numbers c.args.memory.now (steps_in old new (c.loop-line.line + 1)) m) (sym w.memory-is)
+                (line_skipped view numbers c.args.old.now c.args.new.now c.loop-line.line c.args.memory.now c.loop-line.memory c.store_line.new.memory
+                same_words c.loop-line.invariant.steps c.in_ok-store_line.ensures.steps);
           }
     ]
