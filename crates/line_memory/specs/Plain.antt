@@ -13,6 +13,14 @@ view_of m = lines_view m.lines
 abbrev pub Gives : Type 0 → Type 1
 Gives C = C → ℕ → C → Type 0
 
+-- its source of chance
+abbrev pub chance_of : {C : Type 0} → PlainMemory C → C
+chance_of m = m.chance
+
+-- the number that its source gave between the one memory and the other
+abbrev pub DrawsBy : {C : Type 0} → Gives C → PlainMemory C → PlainMemory C → ℕ → Type 0
+DrawsBy gives m n number = gives m.chance number n.chance
+
 -- it takes the step, with a number that its source gave
 abbrev pub PlainTakes : {C : Type 0} → Gives C → (View → View → Type 0) → PlainMemory C → PlainMemory C → Type 0
 PlainTakes gives step m n = TakesBy (λ r. gives m.chance r n.chance) step (view_of m) (view_of n)

@@ -3,7 +3,7 @@ ghost use Rattle.std.specs.Prelude.{◌≡◌, ◌<◌, OnOk, IfOk, IfErr, IsSom
 ghost use Rattle.line_memory.specs.View.{opened, word_count, HasLine};
 ghost use Rattle.line_memory.specs.Steps.{IsLoad, IsStore, IsWriteBack, IsFence};
 ghost use Rattle.line_memory.specs.ClosedWords.{volatile_words, durable_words};
-ghost use Rattle.line_memory.specs.Plain.{view_of, PlainTakes, PlainRefuses};
+ghost use Rattle.line_memory.specs.Plain.{view_of, chance_of, DrawsBy, PlainTakes, PlainRefuses};
 ghost use Rattle.line_memory.specs.Sound.{lines_sound};
 
 use crate::chance::Chance;
@@ -28,7 +28,7 @@ impl<C: Chance> PlainMemory<C> {
         chance: C,
     ) -> Result<PlainMemory<C>, AllocError>
         ensures ok { IfOk result (λ m. view_of m ≡ opened words.items budget) }
-        ensures chance { IfOk result (λ m. m.chance ≡ chance) }
+        ensures chance { IfOk result (λ m. chance_of m ≡ chance) }
     {
         Ok(PlainMemory {
             lines: Lines::new(alloc, words, budget)?,
@@ -61,7 +61,7 @@ impl<C: Chance> PlainMemory<C> {
 impl<C: Chance> LineMemory for PlainMemory<C> {
     ghost view = { view_of };
 
-    ghost draws = { λ m n number. C.draw_gives m.chance number n.chance };
+    ghost draws = { DrawsBy C.draw_gives };
 
     fn load(&mut self, word: u64) -> Result<u64, Stopped>
         requires { word < word_count (view_of self.old) }
