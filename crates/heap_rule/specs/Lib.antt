@@ -15,5 +15,6 @@ pub mod Fences
 pub mod Examples
 pub mod LeftExamples
 pub mod SeatExamples
+pub mod HandedExamples
 pub mod Stacks
 pub mod Carried
