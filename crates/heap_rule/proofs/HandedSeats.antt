@@ -1,5 +1,5 @@
 -- What is kept of a seat, and of a carrier, after an offer or an accept.
-use Rattle.std.proofs.Common.{◌≡◌, ℕ, ◌+◌, ◌*◌, ◌<◌, ◌≤◌, true, false, None, Some, Option, Bool, cond, nat_lt, ltb-true, List, [], ◌∷◌, get_or, length, refl, ap, sym, subst, ◌∙◌, arith}
+use Rattle.std.proofs.Common.{◌≡◌, ℕ, ◌+◌, ◌*◌, ◌<◌, true, false, None, Some, Option, Bool, cond, nat_lt, ltb-true, List, [], ◌∷◌, get_or, refl, ap, sym, subst, ◌∙◌, arith}
 use Rattle.std.specs.Prelude.{slice_set}
 use Rattle.heap_model.specs.declared.block.Block.{Block}
 use Rattle.heap_model.specs.Geometry.{start_word, superblock_words}
@@ -9,10 +9,9 @@ use Rattle.core_model.specs.Cells.{cell_at, superblock_at}
 use Rattle.core_model.specs.Effects.{only_own, span_count}
 use Rattle.core_model.specs.Held.{IsHeld, a_small, a_large}
 use Rattle.core_model.specs.Memory.{table_length}
-use Rattle.core_model.specs.View.{View, times_block, times_own}
+use Rattle.core_model.specs.View.{View, times_own}
 use Rattle.core_model.proofs.CarrierLemmas.{carries_block}
 use Rattle.core_model.proofs.OwnLemmas.{only_at}
-use Rattle.core_model.proofs.OwnerLemmas.{in_lists_total}
 use Rattle.atomic_table.specs.Seated.{TableId}
 use Rattle.atomic_table.specs.Table.{Me}
 use Rattle.seat_notes.specs.declared.notes.SeatNotes.{SeatNotes}

@@ -1,9 +1,9 @@
 -- Worked examples by computation: how a block is held, by a seat and by a carrier alone, in a heap of two superblocks.
-use Rattle.std.specs.Prelude.{◌≡◌, ℕ, [], ◌∷◌, set, length, refl}
+use Rattle.std.specs.Prelude.{[], ◌∷◌, set, length, refl}
 use Rattle.std.proofs.Common.{ap, arith}
 use Rattle.heap_model.specs.declared.block.Block.{Block}
-use Rattle.heap_model.specs.Sizes.{words_of_class}
-use Rattle.core_model.specs.View.{Span, View}
+use Rattle.heap_model.specs.Sizes.{class_sizes, words_of_class}
+use Rattle.core_model.specs.View.{View}
 use Rattle.heap_rule.specs.declared.owned.Holding.TheVariants as holding
 use Rattle.heap_rule.specs.Examples.{seat}
 use Rattle.heap_rule.specs.Holdings.{Holds, HoldsAlone}
@@ -22,7 +22,7 @@ abbrev pub with_large : View
 with_large = record seat { large = record { first = 1; count = 1 } ∷ [] }
 
 pub holds_small : Holds with_small small_block (holding.Small 1)
-unfolding words_of_class
+unfolding words_of_class class_sizes
 holds_small = record { is = record { is_class = record { some = omega arith; last = omega arith }; words = refl }; held = omega arith }
 
 pub holds_large : Holds with_large large_block (holding.Large 1 1)
