@@ -43,12 +43,12 @@ within_append : (words word : ℕ) (xs ys : List ℕ) → times_within words wor
 within_append words word [] ys = omega arith
 within_append words word (x ∷ xs) ys = let rest = within_append words word xs ys in omega arith
 
-both_within : (word class : ℕ) (xss yss : List (List ℕ)) → times_in_classes word class (both_lists xss yss) ≡ times_in_classes word class xss + times_in_classes word class yss
+pub both_within : (word class : ℕ) (xss yss : List (List ℕ)) → times_in_classes word class (both_lists xss yss) ≡ times_in_classes word class xss + times_in_classes word class yss
 both_within word class [] yss = omega arith
 both_within word class (xs ∷ xss) [] = omega arith
 both_within word class (xs ∷ xss) (ys ∷ yss) = let here = within_append (words_of_class class) word xs ys in let rest = both_within word (class + 1) xss yss in omega arith
 
-large_append : (d : ℕ) (xs ys : List Span) → times_large d (xs ++ ys) ≡ times_large d xs + times_large d ys
+pub large_append : (d : ℕ) (xs ys : List Span) → times_large d (xs ++ ys) ≡ times_large d xs + times_large d ys
 large_append d [] ys = omega arith
 large_append d (x ∷ xs) ys = let rest = large_append d xs ys in omega arith
 

@@ -29,7 +29,7 @@ chosen_both test n (x ∷ xs) = by_test (test x) (chosen_both test n xs) where
   by_test true rest = omega arith
   by_test false rest = omega arith
 
-chosen_less : (test : ℕ → Bool) (n : ℕ) (xs : List ℕ) → times n (chosen test xs) ≤ times n xs
+pub chosen_less : (test : ℕ → Bool) (n : ℕ) (xs : List ℕ) → times n (chosen test xs) ≤ times n xs
 chosen_less test n [] = omega arith
 chosen_less test n (x ∷ xs) = by_test (test x) (chosen_less test n xs) where
   by_test : (t : Bool) → times n (chosen test xs) ≤ times n xs → times n (cond t (x ∷ chosen test xs) (chosen test xs)) ≤ one_if (nat_eq x n) + times n xs
@@ -57,7 +57,7 @@ spans_both test d (span ∷ spans) = by_test (test span.first) (spans_both test 
   by_test true rest = omega arith
   by_test false rest = omega arith
 
-spans_less : (test : ℕ → Bool) (d : ℕ) (spans : List Span) → times_large d (chosen_spans test spans) ≤ times_large d spans
+pub spans_less : (test : ℕ → Bool) (d : ℕ) (spans : List Span) → times_large d (chosen_spans test spans) ≤ times_large d spans
 spans_less test d [] = omega arith
 spans_less test d (span ∷ spans) = by_test (test span.first) (spans_less test d spans) where
   by_test : (t : Bool) → times_large d (chosen_spans test spans) ≤ times_large d spans → times_large d (cond t (span ∷ chosen_spans test spans) (chosen_spans test spans)) ≤ one_if (takes d span) + times_large d spans

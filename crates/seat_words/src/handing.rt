@@ -1,11 +1,11 @@
 //! A seat offers a held block to a carrier, or accepts the block of one, each with its ticket.
 
-ghost use Rattle.std.specs.Prelude.{◌≡◌, IfErr, IfOk, OnErr};
+ghost use Rattle.std.specs.Prelude.{◌≡◌, ◌<◌, None, IfErr, IfOk, OnErr, OnOk};
 ghost use Rattle.core_model.specs.Held.{IsHeld};
 ghost use Rattle.heap_rule.specs.Seated.{IsSeatOf};
 ghost use Rattle.seat_rows.specs.Costs.{one_draw};
-ghost use Rattle.seat_rows.specs.Rows.{Row, Stops};
-ghost use Rattle.seat_words.specs.Handed.{HasAccepted, HasOffered};
+ghost use Rattle.seat_rows.specs.Rows.{Row, SameLooks, Stops, next_of};
+ghost use Rattle.seat_words.specs.Handed.{AcceptRow, ComesWith, GoesWith, HasAccepted, HasOffered, OfferRow};
 
 use heap_rule::{Carrier, Seat, Shared};
 use line_memory::{Chance, Stopped};
@@ -23,8 +23,14 @@ pub fn offer<C: Chance>(
     requires held { IsHeld seat.old.view block }
     ensures offered { IfOk result (λ carrier. HasOffered block carrier shared.now.table
         seat.old.view seat.new.view) }
+    ensures sent { IfOk result (λ carrier. GoesWith carrier.view seat.old.view) }
+    ensures row { OnOk result (OfferRow seat.old seat.new) }
     ensures stopped { IfErr result (λ e. Stops e.step seat.old.view seat.new.view) }
     ensures none { OnErr result (Row one_draw seat.old seat.new) }
+    ensures drew { seat.old.view.stopped ≡ None
+        → next_of seat.old.view < next_of seat.new.view }
+    ensures looks { SameLooks seat.old.view seat.new.view }
+    ensures losses { seat.new.view.losses ≡ seat.old.view.losses }
     ensures seat { IsSeatOf shared.now seat.new }
 {
     draw(seat, shared, chance)?;
@@ -43,15 +49,23 @@ pub fn accept<C: Chance>(
     requires carrier { carrier.table ≡ shared.now.table }
     ensures accepted { IfOk result (λ block. HasAccepted block carrier
         seat.old.view seat.new.view) }
+    ensures brought { OnOk result (ComesWith carrier.view seat.new.view) }
+    ensures row { OnOk result (AcceptRow seat.old seat.new) }
     ensures stopped { IfErr result (λ e. Stops e.0.step seat.old.view seat.new.view
         × (e.1 ≡ carrier)) }
     ensures none { OnErr result (Row one_draw seat.old seat.new) }
+    ensures drew { seat.old.view.stopped ≡ None
+        → next_of seat.old.view < next_of seat.new.view }
+    ensures looks { SameLooks seat.old.view seat.new.view }
+    ensures losses { seat.new.view.losses ≡ seat.old.view.losses }
     ensures seat { IsSeatOf shared.now seat.new }
 {
     match draw(seat, shared, chance) {
         Ok(()) => {
             seat.has_a_sound_state();
-            Ok(seat.accept(shared, carrier))
+            let block = seat.accept(shared, carrier);
+            seat.has_a_sound_state();
+            Ok(block)
         }
         Err(stopped) => Err((stopped, carrier)),
     }

@@ -1,3 +1,7 @@
+use Rattle.std.proofs.Common.{subst}
+use Rattle.core_model.specs.View.{View}
+use Rattle.heap_rule.specs.Carried.{Carries}
+use Rattle.seat_words.proofs.HandedRows.{offer_row, offer_sent}
 use Rattle.seat_words.proofs.HandedLemmas.{holds_still, may_hand}
 use Rattle.seat_words.proofs.handing.offer.Goals as goal
 
@@ -15,4 +19,11 @@ returns-clause-offered g c = record {
   at_table = c.offer.ensures.carrier_table;
   carried = c.offer.ensures.carrier;
   block = c.offer.ensures.block;
+  carries = subst (λ (u : View). Carries u.setup.capacity c.offer.result.view c.args.block) c.in_ok-draw.ensures.drawn.left c.offer.ensures.carries;
 }
+
+pub returns-clause-sent : goal.returns-clause-sent
+returns-clause-sent g c = offer_sent c.args.seat.now.view c.draw.new.seat.view c.args.block.first_word c.offer.result.view c.draw.ensures.row.view c.in_ok-draw.ensures.drawn c.offer.ensures.carrier
+
+pub returns-clause-row : goal.returns-clause-row
+returns-clause-row g c = offer_row c.args.seat.now c.draw.new.seat c.offer.new.self c.args.block c.draw.ensures.row c.in_ok-draw.ensures.drawn c.draw.ensures.stores c.offer.ensures.view c.offer.ensures.stores
