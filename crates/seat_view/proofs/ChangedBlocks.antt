@@ -34,7 +34,7 @@ use Rattle.seat_view.proofs.HeldLemmas.{block_word, decided, contains_cons, held
 use Rattle.seat_view.proofs.ListedBlocks.{listed, small_in}
 
 -- a block by its fields
-as_block : (a : Block) (words : ℕ) → a.words ≡ words → record { first_word = a.first_word; words = words } ≡ a
+pub as_block : (a : Block) (words : ℕ) → a.words ≡ words → record { first_word = a.first_word; words = words } ≡ a
 as_block a words is = same_fields (record { first_word = a.first_word; words = words }) a refl (sym is)
 
 -- small blocks, where those of one class change
@@ -73,7 +73,7 @@ both_sides xs ys xs' ys' a left right c = elim (Contains-append_cases xs ys a c)
 ]
 
 -- the words of a held block are held, and no word is so twice
-word_once : (v : View) → HasSoundState v → (word : ℕ) → times_held v (data_cell word) ≤ 1
+pub word_once : (v : View) → HasSoundState v → (word : ℕ) → times_held v (data_cell word) ≤ 1
 word_once v s word = let most = held_own v (data_cell word) in let once = own_once v s word in omega arith
 
 first_in : (b : Block) → 1 ≤ b.words → IsIn b b.first_word

@@ -149,6 +149,13 @@ may_of : (o : Option ℕ) (x : ℕ) → ((value : ℕ) → o ≡ Some value → 
 may_of None x is = tt
 may_of (Some y) x is = is y refl
 
+-- the words of held blocks are so for the core
+pub word_of_block : (v : View) (b : Block) → IsHeld v b → (word : ℕ) → IsIn b word → 0 < times_held v (data_cell word)
+word_of_block v b (a_small class first there) word within = let from = within.from in let until = within.until in
+    let own = in_classes_word word first 0 class v.small from (let e = ap words_of_class (let p : class ≡ 0 + class = omega arith in p) in omega arith) there in omega arith
+word_of_block v b (a_large d n some count) word within = let from = within.from in let until = within.until in
+    let own = span_covers d (superblock_at v.setup.capacity word) v.large (omega arith) (omega arith) (omega arith) in omega arith
+
 module _ (v : View) (s : HasSoundState v) where
   pub held_is : (b : Block) → Contains (held_blocks v) b → IsHeld v b
   held_is b c = elim (Contains-append_cases (small_blocks 0 v.small) (large_blocks v.setup.capacity v.large) b c) [
@@ -169,12 +176,8 @@ module _ (v : View) (s : HasSoundState v) where
   pub root_below : (i : ℕ) → Contains v.roots i → i < roots
   root_below i c = (s.sound.good.set_up s.seat v s.below s.at).roots i (contains_times v.roots i c)
 
-  -- the words of held blocks are so for the core
   pub block_word : (b : Block) → IsHeld v b → (word : ℕ) → IsIn b word → 0 < times_held v (data_cell word)
-  block_word b (a_small class first there) word within = let from = within.from in let until = within.until in
-      let own = in_classes_word word first 0 class v.small from (let e = ap words_of_class (let p : class ≡ 0 + class = omega arith in p) in omega arith) there in omega arith
-  block_word b (a_large d n some count) word within = let from = within.from in let until = within.until in
-      let own = span_covers d (superblock_at v.setup.capacity word) v.large (omega arith) (omega arith) (omega arith) in omega arith
+  block_word b held word within = word_of_block v b held word within
 
   pub word_held : (word : ℕ) → IsOwnWord (held_blocks v) v.roots word → IsHeldWord v word
   word_held word (in_block b w c within) = let placed = held_placed v s b (held_is b c) in let low = placed.from in let high = placed.until in let most = placed.low in let from = within.from in let until = within.until in

@@ -1,3 +1,4 @@
 pub mod HeldLemmas
 pub mod ListedBlocks
 pub mod ChangedBlocks
+pub mod HandedBlocks
