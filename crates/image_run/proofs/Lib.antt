@@ -1,4 +1,5 @@
 pub mod EntryLemmas
+mod SettledLemmas
 pub mod TextLemmas
 pub mod RecoveredLemmas
 pub mod CarryLemmas

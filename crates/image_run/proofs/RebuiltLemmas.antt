@@ -1,5 +1,5 @@
 -- What recovery made in place leaves, done or stopped, and the report on it.
-use Rattle.std.proofs.Common.{◌≡◌, ◌⊎◌, ℕ, ◌+◌, ◌*◌, ◌≤◌, inl, inr, Bool, true, false, List, length, slice_index, Some, None, refl, sym, ap, subst, ◌∙◌, arith}
+use Rattle.std.proofs.Common.{◌≡◌, ◌⊎◌, ℕ, ◌+◌, ◌*◌, ◌/◌, ◌≤◌, inl, inr, Bool, true, false, List, length, slice_index, Some, None, refl, sym, ap, subst, ◌∙◌, arith}
 use Rattle.heap_model.specs.declared.block.Block.{Block}
 use Rattle.heap_model.specs.Geometry.{state_word, capacity_word}
 use Rattle.heap_model.specs.Header.{capacity_of, header_fault}
@@ -8,10 +8,13 @@ use Rattle.heap_model.specs.Durability.{Mixes, IsCrashImage, IsTransient}
 use Rattle.heap_model.specs.Recovery.{in_header}
 use Rattle.heap_model.proofs.HeaderLemmas.{no_fault}
 use Rattle.heap_recover.specs.InPlace.{steps_between, IsRecoveryOf, RecoversAlike, IsBetween, HoldsDurably, IsStoppedAt}
-use Rattle.line_memory.specs.View.{View}
+use Rattle.heap_recover.specs.InOrder.{steps_in, IsDoneBy, IsCutOffIn}
+use Rattle.line_memory.specs.View.{View, opened}
+use Rattle.line_memory.specs.Plain.{Gives, view_of, chance_of, DrawsBy}
+use Rattle.line_memory.specs.declared.plain.PlainMemory.{PlainMemory}
 use Rattle.dict_model.specs.Links.{dict_links, kind_count}
 use Rattle.worker_run.specs.Left.{AreWholeImage}
-use Rattle.image_run.specs.Rebuilding.{IsRebuilt, Rebuilds}
+use Rattle.image_run.specs.Rebuilding.{IsRebuilt, IsLeftBySteps, Rebuilds}
 use Rattle.image_run.specs.Reporting.{fault_of, image_in}
 use Rattle.image_run.proofs.PutLemmas.{image_in_words, good_bytes}
 
@@ -86,6 +89,49 @@ module _ (old new : List ℕ) (held : List Block) (is : IsRecoveryOf (Some kind_
               | inr e ↦ inr (same ∙ e)
             ];
       }
+
+-- what a memory left that took the steps of a rebuild, done
+pub left_done : {One : Type 0} (gives : Gives One) (chance : One) (old new left : List ℕ) (held : List Block) (budget : ℕ) (before after : PlainMemory One)
+    → IsRecoveryOf (Some kind_count) old dict_links new held → view_of before ≡ opened old budget → chance_of before ≡ chance
+    → IsDoneBy view_of (DrawsBy gives) (steps_in (slice_index old) (slice_index new) (length old / 8)) before after → HoldsDurably new (view_of after) → left ≡ (view_of after).volatile
+    → IsLeftBySteps gives chance (slice_index old) budget false left
+left_done gives chance old new left held budget before after is opens has steps holds seen = record {
+  words = old;
+  long = sym (ap (λ (ws : List ℕ). length ws) (seen ∙ holds.volatile) ∙ is.long);
+  are_old = λ word. refl;
+  new = slice_index new;
+  recovered = is.words_are;
+  before = before;
+  is_opened = opens;
+  has_chance = has;
+  after = after;
+  done = λ _. steps;
+  seen = λ _. seen;
+  cut_off = λ e. absurd (cc);
+  durable = λ e. absurd (cc);
+}
+
+-- and stopped
+pub left_cut : {One : Type 0} (gives : Gives One) (chance : One) (old new kept left : List ℕ) (held : List Block) (budget ticket : ℕ) (before after : PlainMemory One)
+    → IsRecoveryOf (Some kind_count) old dict_links new held → view_of before ≡ opened old budget → chance_of before ≡ chance
+    → IsCutOffIn view_of (DrawsBy gives) (steps_in (slice_index old) (slice_index new) (length old / 8)) ticket before after
+    → (view_of after).durable ≡ kept → length kept ≡ length old → IsCrashImage (slice_index kept) (slice_index left) → length left ≡ length kept
+    → IsLeftBySteps gives chance (slice_index old) budget true left
+left_cut gives chance old new kept left held budget ticket before after is opens has steps kept_is count crash long = record {
+  words = old;
+  long = sym (long ∙ count);
+  are_old = λ word. refl;
+  new = slice_index new;
+  recovered = is.words_are;
+  before = before;
+  is_opened = opens;
+  has_chance = has;
+  after = after;
+  done = λ e. absurd (cc);
+  seen = λ e. absurd (cc);
+  cut_off = λ _. (ticket, steps);
+  durable = λ _. subst (λ (ws : List ℕ). IsCrashImage (slice_index ws) (slice_index left)) (sym kept_is) crash;
+}
 
 -- an image with a good header has no fault
 pub good_header : (image : Image) (count budget : ℕ) (stopped : Bool) (left : List ℕ) → IsRebuilt image count budget stopped left

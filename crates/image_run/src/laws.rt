@@ -1,9 +1,10 @@
 //! What follows of runs, rebuilds and replays, as functions with nothing to run.
-ghost use Rattle.std.specs.Prelude.{◌≡◌, ℕ, ◌+◌, ◌<◌, ◌≤◌, false, List, Some, None, length, slice_index};
+ghost use Rattle.std.specs.Prelude.{◌≡◌, ◌≢◌, ℕ, ◌+◌, ◌%◌, ◌<◌, ◌≤◌, true, false, List, Some, None, length, slice_index};
 ghost use Rattle.std.specs.BTreeMap.{BTreeMap};
 ghost use Rattle.heap_model.specs.declared.block.Block.{Block};
 ghost use Rattle.heap_model.specs.Geometry.{start_word, superblocks_end};
 ghost use Rattle.heap_model.specs.Image.{Image};
+ghost use Rattle.heap_model.specs.Durability.{IsCrashImage};
 ghost use Rattle.heap_model.specs.Header.{capacity_of, used_of};
 ghost use Rattle.heap_recover.specs.InPlace.{RecoversAlike};
 ghost use Rattle.core_model.specs.declared.answer.StepAnswer.{StepAnswer};
@@ -18,8 +19,10 @@ ghost use Rattle.run_model.specs.Opened.{HasMaps};
 ghost use Rattle.worker_run.specs.Said.{replies_of};
 ghost use Rattle.image_run.specs.Reporting.{fault_of, image_in, PointsOutside, Recovers};
 ghost use Rattle.image_run.specs.Running.{Options, RunsRequests};
-ghost use Rattle.image_run.specs.Rebuilding.{Rebuilds};
+ghost use Rattle.image_run.specs.Rebuilding.{IsLeftBySteps, Rebuilds};
 ghost use Rattle.image_run.specs.Replaying.{IsReplayed, Replays, LeavesOutside};
+
+use line_memory::Chance;
 
 /// A run over what recovery leaves of an image is one over the image itself.
 pub fn a_run_over_what_recovery_leaves_is_one_over_the_image()
@@ -118,6 +121,16 @@ pub fn what_a_rebuild_puts_can_be_recovered()
     ensures alike { (image : Image) (count budget : ℕ) (put text : List ℕ)
         → Rebuilds image count budget put text
         → RecoversAlike (Some kind_count) (length put) image (image_in put) dict_links }
+{}
+
+/// Where its chance gives even numbers alone, a rebuild that is stopped leaves the image as it was,
+/// but for its state and the words that a crash leaves with any value. All else waits for the
+/// fence, which comes last.
+pub fn a_stopped_rebuild_settles_words_by_chance_alone<C: Chance>()
+    ensures { ((old new : C) (number : ℕ) → C.draw_gives old number new → number % 2 ≢ 1)
+        → (chance : C) (image : Image) (budget : ℕ) (left : List ℕ)
+        → IsLeftBySteps C.draw_gives chance image budget true left
+        → IsCrashImage image (slice_index left) }
 {}
 
 /// A replay of a schedule has one outcome, whatever a crash then leaves at random: each event has

@@ -16,7 +16,7 @@ mod running;
 pub use fault::ReplayFault;
 pub use laws::{
     a_replay_has_one_outcome, a_run_over_what_recovery_leaves_is_one_over_the_image,
-    a_run_without_a_refusal_is_that_of_one_thread,
+    a_run_without_a_refusal_is_that_of_one_thread, a_stopped_rebuild_settles_words_by_chance_alone,
     a_superblock_that_a_run_never_took_stays_as_it_was, an_image_is_recovered_in_one_way,
     enough_budget_and_room_are_known, runs_without_a_refusal_are_alike,
     what_a_rebuild_puts_can_be_recovered, what_a_run_puts_can_be_run_again,

@@ -1,11 +1,9 @@
 //! Recovers an image in place over a line memory, and makes what is put and printed.
 ghost use Rattle.std.specs.Prelude.{◌≡◌, ◌++◌, length, slice_index, IfOk, IsSomeAnd, Some};
-ghost use Rattle.heap_model.specs.Header.{capacity_of};
 ghost use Rattle.heap_recover.specs.InPlace.{IsRecoveryOf};
 ghost use Rattle.dict_model.specs.Links.{dict_links, kind_count};
 ghost use Rattle.tool_ports.specs.Chances.{ComesFrom, ComesFromSeed};
-ghost use Rattle.shared_run.specs.Dealt.{HaveAsked};
-ghost use Rattle.image_run.specs.Rebuilding.{IsRebuilt, RebuildAsks, Rebuilds, rebuilt_line};
+ghost use Rattle.image_run.specs.Rebuilding.{IsRebuilt, RebuildAsks, RebuildDraws, Rebuilds, rebuilt_line};
 
 use crate::left::recover_inside;
 use crate::product::Product;
@@ -42,8 +40,8 @@ pub fn rebuild_image<C: Chances>(
     ensures seeded { ComesFromSeed C.seed_gives C.chance_gives C.word_gives
         chances.old seed chances.new }
     ensures asked { IfOk result (λ product. IsSomeAnd product.image (λ image. RebuildAsks
-        C.seed_gives C.chance_gives C.word_gives (slice_index words.now) seed image product.text
-        chances.old chances.new)) }
+        C.seed_gives C.chance_gives C.One.draw_gives C.word_gives (slice_index words.now)
+        budget seed image product.text chances.old chances.new)) }
 {
     chances.seed(seed);
     let rebuilt = rebuild_words(alloc, words, heap, budget, chances)?;
@@ -69,8 +67,8 @@ fn rebuild_words<C: Chances>(
     ensures ok { IfOk result (λ rebuilt. IsRebuilt (slice_index words.now) (length words.now)
         budget rebuilt.stopped rebuilt.words.items) }
     ensures chances { ComesFrom C.chance_gives C.word_gives chances.old chances.new }
-    ensures asked { IfOk result (λ rebuilt. HaveAsked C.chance_gives C.word_gives 1
-        rebuilt.stopped (capacity_of (slice_index words.now)) (slice_index rebuilt.words.items)
+    ensures asked { IfOk result (λ rebuilt. RebuildDraws C.chance_gives C.One.draw_gives
+        C.word_gives (slice_index words.now) budget rebuilt.stopped rebuilt.words.items
         chances.old chances.new) }
 {
     let copy = Vec::from_slice(alloc, words)?;

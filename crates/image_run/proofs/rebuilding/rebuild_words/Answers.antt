@@ -1,13 +1,13 @@
-use Rattle.std.proofs.Common.{ℕ, List, ◌∙◌, refl, sym, ap, subst, map, slice_index, length}
+use Rattle.std.proofs.Common.{rules, ◌≡◌, ℕ, List, ◌∙◌, refl, sym, ap, subst, map, slice_index, length}
 use Rattle.crash_image.specs.Crash.{GivesAll, transient_words}
 use Rattle.heap_model.specs.Header.{capacity_of}
-use Rattle.line_memory.specs.View.{View}
+use Rattle.line_memory.specs.View.{View, opened}
 use Rattle.line_memory.specs.Plain.{view_of}
 use Rattle.line_memory.specs.ClosedWords.{volatile_words, durable_words}
 use Rattle.tool_ports.specs.Chances.{unasked, by_chance}
 use Rattle.tool_ports.proofs.ChanceLemmas.{comes_then}
 use Rattle.worker_run.specs.Left.{AreWholeImage}
-use Rattle.image_run.proofs.RebuiltLemmas.{durable_capacity, durable_whole, capacity_new, rebuilt_done, rebuilt_cut}
+use Rattle.image_run.proofs.RebuiltLemmas.{durable_capacity, durable_whole, capacity_new, rebuilt_done, rebuilt_cut, left_done, left_cut}
 use Rattle.image_run.proofs.rebuilding.rebuild_words.Goals as goal
 
 pub returns-in-Ok-clause-ok : goal.returns-in-Ok-clause-ok
@@ -59,18 +59,32 @@ pub returns-in-Err-clause-chances : goal.returns-in-Err-clause-chances
 returns-in-Err-clause-chances g c = comes_then _ _ _ _ _ (by_chance _ _ 0 _ unasked c.chance.ensures) c.left_by_crash.ensures.chances
 
 pub returns-in-Ok-clause-asked : goal.returns-in-Ok-clause-asked
-returns-in-Ok-clause-asked g c = record {
-  dealt = c.chance.new.self;
-  workers_first = (c.chance.result, c.chance.new.self, c.chance.ensures, refl);
-  then_nothing = λ _. refl;
-  then_words = λ e. absurd (cc);
-}
+returns-in-Ok-clause-asked g c =
+    let copied : c.in_ok-copy.copy.items ≡ c.args.words.now = search rules in
+    record {
+      chance = c.chance.result;
+      dealt = c.chance.new.self;
+      given = c.chance.ensures;
+      by_steps = left_done _ c.chance.result c.args.words.now c.args.heap.now.words c.now.inside.now.items c.args.heap.now.held c.args.budget
+          c.in_ok-memory.memory c.rebuild-end.new.memory c.requires (c.in_ok-memory.ensures.ok ∙ ap (λ (ws : List ℕ). opened ws c.args.budget) copied) c.in_ok-memory.ensures.chance c.in-Ok.ensures.steps c.in-Ok.ensures.ok
+          (ap volatile_words c.now.view_is ∙ c.finish.ensures.volatile);
+      then_nothing = λ _. refl;
+      then_words = λ e. absurd (cc);
+    }
 
 pub returns-in-Err-clause-asked : goal.returns-in-Err-clause-asked
-returns-in-Err-clause-asked g c = record {
-  dealt = c.chance.new.self;
-  workers_first = (c.chance.result, c.chance.new.self, c.chance.ensures, refl);
-  then_nothing = λ e. absurd (cc);
-  then_words = λ _. subst (λ n. GivesAll g.C.Chances.word_gives c.chance.new.self (map (slice_index c.left_by_crash.result.items) (transient_words n)) c.left_by_crash.new.chances)
-      (c.geometry-geometry.ensures ∙ capacity_new c.args.words.now c.args.heap.now.words c.args.heap.now.held c.requires) c.left_by_crash.ensures.drawn;
-}
+returns-in-Err-clause-asked g c =
+    let copied : c.in_ok-copy.copy.items ≡ c.args.words.now = search rules in
+    record {
+      chance = c.chance.result;
+      dealt = c.chance.new.self;
+      given = c.chance.ensures;
+      by_steps = left_cut _ c.chance.result c.args.words.now c.args.heap.now.words c.now.inside.kept.items c.left_by_crash.result.items c.args.heap.now.held
+          c.args.budget c.in-Err.field-0.step c.in_ok-memory.memory c.rebuild-end.new.memory c.requires (c.in_ok-memory.ensures.ok ∙ ap (λ (ws : List ℕ). opened ws c.args.budget) copied) c.in_ok-memory.ensures.chance c.in-Err.ensures.first_steps
+          (sym c.finish.ensures.durable ∙ sym (ap durable_words c.now.view_is))
+          (c.now.invariant ∙ ap (λ (ws : List ℕ). length ws) (ap volatile_words c.now.view_is ∙ c.finish.ensures.volatile) ∙ c.in-Err.ensures.between.count)
+          c.left_by_crash.ensures.image c.left_by_crash.ensures.long;
+      then_nothing = λ e. absurd (cc);
+      then_words = λ _. subst (λ n. GivesAll g.C.Chances.word_gives c.chance.new.self (map (slice_index c.left_by_crash.result.items) (transient_words n)) c.left_by_crash.new.chances)
+          (c.geometry-geometry.ensures ∙ capacity_new c.args.words.now c.args.heap.now.words c.args.heap.now.held c.requires) c.left_by_crash.ensures.drawn;
+    }
