@@ -64,15 +64,15 @@ module _ (contents : Contents) (name words : List ℕ) (recovered : Recovered) (
         (subst (λ (i : Image). Rebuilds i (length words) budget image text) (sym same) rebuilds);
   }
 
-  pub rebuild_asks : {C One : Type 0} (seed_gives : C → ℕ → C → Type 0) (chance_gives : C → ℕ → One → C → Type 0) (word_gives : C → ℕ → C → Type 0)
-      (seed : ℕ) (old new : C) (put : Option (List ℕ)) (text : List ℕ)
-      → IsSomeAnd put (λ image. RebuildAsks seed_gives chance_gives word_gives (slice_index words) seed image text old new)
-      → NamedRebuildAsks seed_gives chance_gives word_gives contents name seed old new put text
-  rebuild_asks seed_gives chance_gives word_gives seed old new None text asks = absurd asks
-  rebuild_asks seed_gives chance_gives word_gives seed old new (Some image) text asks = record {
+  pub rebuild_asks : {C One : Type 0} (seed_gives : C → ℕ → C → Type 0) (chance_gives : C → ℕ → One → C → Type 0) (draw_gives : One → ℕ → One → Type 0) (word_gives : C → ℕ → C → Type 0)
+      (budget seed : ℕ) (old new : C) (put : Option (List ℕ)) (text : List ℕ)
+      → IsSomeAnd put (λ image. RebuildAsks seed_gives chance_gives draw_gives word_gives (slice_index words) budget seed image text old new)
+      → NamedRebuildAsks seed_gives chance_gives draw_gives word_gives contents name budget seed old new put text
+  rebuild_asks seed_gives chance_gives draw_gives word_gives budget seed old new None text asks = absurd asks
+  rebuild_asks seed_gives chance_gives draw_gives word_gives budget seed old new (Some image) text asks = record {
     bytes = is.image.bytes;
     is_there = is.image.is_there;
     image = image;
     put_is = refl;
-    asks = subst (λ (i : Image). RebuildAsks seed_gives chance_gives word_gives i seed image text old new) (sym same) asks;
+    asks = subst (λ (i : Image). RebuildAsks seed_gives chance_gives draw_gives word_gives i budget seed image text old new) (sym same) asks;
   }

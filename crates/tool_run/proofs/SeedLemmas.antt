@@ -34,11 +34,11 @@ module _ {C One : Type 0} (seed_gives : C → ℕ → C → Type 0) (chance_give
   by_its_seed begun = subst (λ (c : Command). BeginBy seed_gives chance_gives word_gives (seed_of c) old new) (one_command words command other asked asks) begun
 
   -- and so for what is asked
-  pub by_its_command : (before after : Contents) (left taken taken' : Option (List ℕ))
-      → IsDoneWith (image_name command) before after taken taken' (AsksOf seed_gives chance_gives word_gives command before left old new)
-      → IsDoneWith (image_name other) before after taken taken' (AsksOf seed_gives chance_gives word_gives other before left old new)
-  by_its_command before after left taken taken' asks_so =
-      subst (λ (c : Command). IsDoneWith (image_name c) before after taken taken' (AsksOf seed_gives chance_gives word_gives c before left old new))
+  pub by_its_command : (draw_gives : One → ℕ → One → Type 0) (before after : Contents) (left taken taken' : Option (List ℕ))
+      → IsDoneWith (image_name command) before after taken taken' (AsksOf seed_gives chance_gives draw_gives word_gives command before left old new)
+      → IsDoneWith (image_name other) before after taken taken' (AsksOf seed_gives chance_gives draw_gives word_gives other before left old new)
+  by_its_command draw_gives before after left taken taken' asks_so =
+      subst (λ (c : Command). IsDoneWith (image_name c) before after taken taken' (AsksOf seed_gives chance_gives draw_gives word_gives c before left old new))
       (one_command words command other asked asks) asks_so
 
   -- also where the result was cut off

@@ -67,8 +67,8 @@ pub fn make<R: Threads + Sync, I: ImageStore, T: Source, G: Gate + Sync, C: Chan
         ≡ with_making (command_of command.entry) (I.calls images.old) }
     ensures seeded { OnOk result (BeginBy C.seed_gives C.chance_gives C.word_gives
         (seed_of (command_of command.entry)) chances.old chances.new) }
-    ensures asked { IfOk result (λ product. AsksOf C.seed_gives C.chance_gives C.word_gives
-        (command_of command.entry) (I.contents images.old) (T.left trace.old)
+    ensures asked { IfOk result (λ product. AsksOf C.seed_gives C.chance_gives C.One.draw_gives
+        C.word_gives (command_of command.entry) (I.contents images.old) (T.left trace.old)
         chances.old chances.new product.image product.text) }
     ensures no_chance { IfErr result (λ fault. IsBeforeSeeding (command_of command.entry) fault
         → chances.new ≡ chances.old) }

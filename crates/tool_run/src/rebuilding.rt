@@ -38,8 +38,8 @@ pub fn rebuild_named<I: ImageStore, C: Chances>(
     ensures seeded { IfOk result (λ _. ComesFromSeed C.seed_gives C.chance_gives C.word_gives
         chances.old seed chances.new) }
     ensures asked { IfOk result (λ product. NamedRebuildAsks C.seed_gives C.chance_gives
-        C.word_gives (I.contents images.old) name.now seed chances.old chances.new
-        product.image product.text) }
+        C.One.draw_gives C.word_gives (I.contents images.old) name.now budget seed
+        chances.old chances.new product.image product.text) }
     ensures no_chance { IfErr result (λ fault. IsBeforeSeeding (rebuild_image name.now budget seed)
         fault → chances.new ≡ chances.old) }
 {

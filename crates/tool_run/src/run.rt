@@ -130,8 +130,9 @@ pub fn run_tool<R: Threads + Sync, I: ImageStore, T: Source, O: Sink, G: Gate + 
 
     // By which seed the chances begin, where a result was made, and for what they are asked behind
     // that, at 0: where a run or rebuild was stopped, the image that is put has the words that they
-    // gave for what a crash leaves at random. They are as they were where there is no seed; so they
-    // are where there is no result, but for want of memory and a replay at 8.
+    // gave for what a crash leaves at random. What else a rebuild leaves is by the numbers that its
+    // chance gave. They are as they were where there is no seed; so they are where there is no
+    // result, but for want of memory and a replay at 8.
     ensures seeded { (command : Command) → Asks (texts words.now) command
         → (result ≡ done) ⊎ (result ≡ write_fault)
         → BeginBy C.seed_gives C.chance_gives C.word_gives (seed_of command)
@@ -139,8 +140,8 @@ pub fn run_tool<R: Threads + Sync, I: ImageStore, T: Source, O: Sink, G: Gate + 
     ensures asked { (command : Command) → Asks (texts words.now) command → result ≡ done
         → IsDoneWith (image_name command) (I.contents images.old) (I.contents images.new)
         (O.taken out.old) (O.taken out.new)
-        (AsksOf C.seed_gives C.chance_gives C.word_gives command (I.contents images.old)
-        (T.left trace.old) chances.old chances.new) }
+        (AsksOf C.seed_gives C.chance_gives C.One.draw_gives C.word_gives command
+        (I.contents images.old) (T.left trace.old) chances.old chances.new) }
     ensures no_chance { LeavesChances result
         → (result ≡ outside → (name : List ℕ) → ¬ (AsksForReplay (texts words.now) name))
         → chances.new ≡ chances.old }
@@ -253,8 +254,9 @@ fn carry_out<R: Threads + Sync, I: ImageStore, T: Source, O: Sink, G: Gate + Syn
         (seed_of (command_of command.entry)) chances.old chances.new) }
     ensures asked { OnOk result (IsDoneWith (image_name (command_of command.entry))
         (I.contents images.old) (I.contents images.new) (O.taken out.old) (O.taken out.new)
-        (AsksOf C.seed_gives C.chance_gives C.word_gives (command_of command.entry)
-        (I.contents images.old) (T.left trace.old) chances.old chances.new)) }
+        (AsksOf C.seed_gives C.chance_gives C.One.draw_gives C.word_gives
+        (command_of command.entry) (I.contents images.old) (T.left trace.old)
+        chances.old chances.new)) }
     ensures no_chance { IfErr result (λ fault. IsBeforeSeeding (command_of command.entry) fault
         → chances.new ≡ chances.old) }
     ensures never_asked { seed_of (command_of command.entry) ≡ None → chances.new ≡ chances.old }

@@ -26,9 +26,9 @@ returns-clause-asked g c =
     let both = c.in_ok-words in
     let product = c.in_ok-product.product in
     rebuild_asks (g.I.ImageStore.contents c.args.images.now) c.args.name.now both.words.items both.recovered both.ensures.ok
-    g.C.Chances.seed_gives g.C.Chances.chance_gives g.C.Chances.word_gives c.args.seed _ _ product.image product.text
-    (subst (λ (ws : List ℕ). IsSomeAnd product.image (λ image. RebuildAsks g.C.Chances.seed_gives g.C.Chances.chance_gives g.C.Chances.word_gives
-    (slice_index ws) c.args.seed image product.text c.args.chances.now c.rebuild_image.new.chances))
+    g.C.Chances.seed_gives g.C.Chances.chance_gives g.C.One.Chance.draw_gives g.C.Chances.word_gives c.args.budget c.args.seed _ _ product.image product.text
+    (subst (λ (ws : List ℕ). IsSomeAnd product.image (λ image. RebuildAsks g.C.Chances.seed_gives g.C.Chances.chance_gives g.C.One.Chance.draw_gives g.C.Chances.word_gives
+    (slice_index ws) c.args.budget c.args.seed image product.text c.args.chances.now c.rebuild_image.new.chances))
     c.deref.ensures.value c.in_ok-product.ensures.asked)
 
 pub returns-in_err-words-clause-store_steady : goal.returns-in_err-words-clause-store_steady

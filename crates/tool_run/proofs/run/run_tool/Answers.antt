@@ -30,7 +30,7 @@ returns-in-Err-Usage-clause-seeded g c command asks = absurd (c.parse.ensures.er
 pub returns-in-Ok-carry_out-clause-asked : goal.returns-in-Ok-carry_out-clause-asked
 returns-in-Ok-carry_out-clause-asked g c other asks ended =
     by_its_command g.C.Chances.seed_gives g.C.Chances.chance_gives g.C.Chances.word_gives _ _ other c.args.chances.now c.carry_out.new.chances c.in-Ok.ensures.ok asks
-    _ _ _ _ _ c.in-Ok-carry_out.ensures.asked
+    _ _ _ _ _ _ c.in-Ok-carry_out.ensures.asked
 
 pub returns-in-Err-clause-asked : goal.returns-in-Err-clause-asked
 returns-in-Err-clause-asked g c other asks ended = absurd (never_done c.in-Err.fault (sym c.tell-in-Err.ensures.status ∙ ended))
