@@ -57,7 +57,7 @@ abbrev pub HoldsAlone : View → Block → Holding → Type 0
 HoldsAlone u b (holding.Small class) = HoldsOneSmall u b class
 HoldsAlone u b (holding.Large d n) = HoldsOneLarge u b d n
 
--- the words, the superblocks that tell of the block are there
+-- the lists are long enough for what tells of the block
 abbrev pub CanLose : Block → Holding → Owned → Type 0
 CanLose b (holding.Small class) o = b.first_word < length o.blocks
 CanLose b (holding.Large d n) o = d + n ≤ length o.ownerships.items
