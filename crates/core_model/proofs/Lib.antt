@@ -44,3 +44,4 @@ pub mod RoleLemmas
 pub mod CarrierLemmas
 pub mod EmptiedLemmas
 pub mod HandingLemmas
+pub mod OpenedSeats

@@ -13,12 +13,12 @@ use Rattle.core_model.specs.Memory.{volatile_at, next}
 use Rattle.core_model.specs.View.{Setup, View, of_class, times_block}
 use Rattle.core_model.specs.Effects.{chain, first_of}
 use Rattle.core_model.specs.Sound.{IsCutBlock}
-use Rattle.crash_core.specs.Standing.{place_for, no_block, IsPlace, HasBlocksOf, HasNewOwner, IsKept, KeepsViews}
+use Rattle.crash_core.specs.Standing.{IsAmong, IsSeatAt, place_for, no_block, IsPlace, HasBlocksOf, HasNewOwner, IsKept, KeepsViews}
 use Rattle.seat_notes.specs.Notes.{HasCaches}
 use Rattle.core_model.proofs.TotalLemmas.{total_at}
 use Rattle.core_model.proofs.PlaceLemmas.{and_is}
 use Rattle.core_model.proofs.BlockLemmas.{walks_chain, total_lists}
-use Rattle.crash_core.proofs.StandingLemmas.{memory_in}
+use Rattle.crash_core.proofs.StandingLemmas.{among_most, memory_in}
 use Rattle.seat_notes.proofs.CacheLemmas.{cache_set}
 use Rattle.crash_core.proofs.BlockPlaces.{no_place}
 use Rattle.crash_core.proofs.GivenLemmas.{given_mine, given_theirs, walks_other}
@@ -49,7 +49,7 @@ module _ (c : CoreState) (k : Setup) (views : List View) (keeps : KeepsViews c k
 
 -- blocks that were nobody's come into an empty cache
 module _ (c : CoreState) (k : Setup) (views : List View) (i : ℕ) (v : View) (t : SeatNotes) (keeps : KeepsViews c k views) (below : i < length views) (at : get_or views i v ≡ v)
-    (at_t : get_or c.seats.items i t ≡ t) (class : ℕ) (less : class < lists) (bs : List ℕ) (empty : of_class v.caches class ≡ [])
+    (at_t : IsSeatAt c i t) (class : ℕ) (less : class < lists) (bs : List ℕ) (empty : of_class v.caches class ≡ [])
     (free : (b : ℕ) → 0 < times b bs → (times b bs ≡ 1) × (total (times_block b) views ≡ 0)) where
   kept : IsKept c i t v
   kept = keeps.each i t v below at_t at
@@ -69,7 +69,7 @@ module _ (c : CoreState) (k : Setup) (views : List View) (i : ℕ) (v : View) (t
       (λ b none. let o = kept.blocks b in let more = cached_more b in record { held = o.held; cached = (let h = o.cached in omega arith); batched = o.batched })
 
   pub blocks_theirs : (owners : List BlockOwner) → HasNewOwner c.blocks.items owners bs (record { seat = i; place = place.Cached })
-      → (j : ℕ) (s : SeatNotes) (u : View) → j ≢ i → HasNoMore views u → IsKept c j s u → HasBlocksOf owners j u.small u.caches u.batch.blocks
+      → (j : ℕ) (s : SeatNotes) (u : View) → j ≢ i → IsAmong views j u → IsKept c j s u → HasBlocksOf owners j u.small u.caches u.batch.blocks
   blocks_theirs owners given j s u other most h = given_theirs c.blocks.items owners i j bs place.Cached (λ b p. IsPlace b p u.small u.caches u.batch.blocks) other given
-      (λ b some. no_place b (place_for j (get_or c.blocks.items b no_block)) u.small u.caches u.batch.blocks (h.blocks b) (let nobody = (free b some).1 in let theirs = most b in omega arith))
+      (λ b some. no_place b (place_for j (get_or c.blocks.items b no_block)) u.small u.caches u.batch.blocks (h.blocks b) (let nobody = (free b some).1 in let theirs = among_most (times_block b) views j u most (λ none. none.blocks b) in omega arith))
       h.blocks

@@ -24,13 +24,13 @@ use Rattle.core_model.specs.Guards.{MayCut}
 use Rattle.core_model.specs.Sound.{tally_of, times_cut, IsCutBlock, Good}
 use Rattle.seat_notes.specs.Superblocks.{usage_for, no_superblock, cutting_in, IsUsage, HasSuperblocks}
 use Rattle.seat_notes.specs.Notes.{HasCaches, snapshot}
-use Rattle.crash_core.specs.Standing.{HasBlocksOf, HasNewOwner, IsKept, IsCore, KeepsViews, IsMoved, Decides, memory_at}
+use Rattle.crash_core.specs.Standing.{IsSeatAt, HasBlocksOf, HasNewOwner, IsKept, IsCore, KeepsViews, IsMoved, Decides, memory_at}
 use Rattle.core_model.proofs.TotalLemmas.{total_at}
 use Rattle.heap_model.proofs.ListLemmas.{one_at_most, without_at}
 use Rattle.core_model.proofs.CountLemmas.{length_steps, block_once}
 use Rattle.core_model.proofs.BlockLemmas.{superblock_is}
 use Rattle.core_model.proofs.SpanLemmas.{block_of}
-use Rattle.crash_core.proofs.StandingLemmas.{memory_in}
+use Rattle.crash_core.proofs.StandingLemmas.{among, memory_in}
 use Rattle.seat_notes.proofs.UsageLemmas.{usages_mine, usages_theirs, usage_alone}
 use Rattle.seat_notes.proofs.CountLemmas.{without_off}
 use Rattle.seat_notes.proofs.NewSeat.{no_cache}
@@ -102,7 +102,7 @@ cut_given_up owners i d raw split cutting classed large less some old =
       gone (usage.Large count) o = absurd (let a = o.is_cutting in omega arith)
 
 module _ (c : CoreState) (k : Setup) (views : List View) (i : ℕ) (v : View) (t : SeatNotes) (keeps : KeepsViews c k views) (below : i < length views) (at : get_or views i v ≡ v)
-    (at_t : get_or c.seats.items i t ≡ t) (d : ℕ) where
+    (at_t : IsSeatAt c i t) (d : ℕ) where
   kept : IsKept c i t v
   kept = keeps.each i t v below at_t at
 
@@ -234,6 +234,7 @@ module _ (c : CoreState) (k : Setup) (views : List View) (i : ℕ) (v : View) (t
         words = refl;
         geometry = refl;
         budget = refl;
+        carriers = refl;
         blocks = given.long;
         superblocks = length-set c.superblocks.items d (record { seat = i; usage = usage.Nothing });
         roots = refl;
@@ -246,11 +247,11 @@ module _ (c : CoreState) (k : Setup) (views : List View) (i : ℕ) (v : View) (t
           superblocks = cut_given_up c.superblocks.items i d v.raw v.split v.cutting v.classed v.large long may.cutting kept.superblocks;
           roots = kept.roots;
         };
-        others = λ j r u other b a h. record {
+        others = λ j r u other most h. record {
           notes = h.notes;
           caches = h.caches;
           batch = h.batch;
-          blocks = blocks_theirs c k views i v t keeps below at at_t class less_class cs empty free blocks.items given_cs j r u other b a h;
+          blocks = blocks_theirs c k views i v t keeps below at at_t class less_class cs empty free blocks.items given_cs j r u other most h;
           superblocks = usages_theirs c.superblocks.items i j d usage.Nothing (λ e y. IsUsage e y u.raw u.split u.cutting u.classed u.large) long other (usage_alone i j (get_or c.superblocks.items d no_superblock) other mine_usage) h.superblocks;
           roots = h.roots;
         };
@@ -288,14 +289,14 @@ pub record CutFits (c : CoreState) (d class : ℕ) : Type 0 where
 
 pub cut_below : (c : CoreState) (i d : ℕ) → IsCore c → i < length c.seats.items → Decides c i (λ m v. MayCut m v d) true → d < c.geometry.capacity
 cut_below c i d core less decides =
-    let below : i < length core.views = subst (λ n. i < n) (sym core.keeps.seats) less in
+    let below : i < length core.views = among core.keeps less in
     let here = entry_there core.views i below in
     let may = (decides core.setup core.views here.0 core.keeps below here.1).0 refl in
     let l = may.durable in let q = core.keeps.sound.good.shaped.durable.behind in let r = core.keeps.sound.good.shaped.durable.room in let g = core.keeps.capacity in omega arith
 
-pub cut_fits : (c : CoreState) (i d : ℕ) (t : SeatNotes) (class : ℕ) → IsCore c → i < length c.seats.items → get_or c.seats.items i t ≡ t → Decides c i (λ m v. MayCut m v d) true → class ≡ info (memory_at c) d → CutFits c d class
+pub cut_fits : (c : CoreState) (i d : ℕ) (t : SeatNotes) (class : ℕ) → IsCore c → i < length c.seats.items → IsSeatAt c i t → Decides c i (λ m v. MayCut m v d) true → class ≡ info (memory_at c) d → CutFits c d class
 cut_fits c i d t class core less at_t decides class_is =
-    let below : i < length core.views = subst (λ n. i < n) (sym core.keeps.seats) less in
+    let below : i < length core.views = among core.keeps less in
     let here = entry_there core.views i below in
     let may = (decides core.setup core.views here.0 core.keeps below here.1).0 refl in record {
       is_class = cut_class c core.setup core.views i here.0 t core.keeps below here.1 at_t d class class_is may;

@@ -10,8 +10,10 @@ use Rattle.core_model.specs.View.{Setup, View, one_if_some}
 use Rattle.core_model.specs.Guards.{HasTicketFor}
 use Rattle.core_model.specs.Memory.{memory_of}
 use Rattle.core_model.specs.Steps.{TableState, StepsTo, is_done, stops, not_now, has_stopped, state_after, seat_after}
-use Rattle.crash_core.specs.Standing.{IsCore, KeepsViews, StandsFor, HasTicketAt, Takes, Follows, Steps, steps_done, steps_stopped, steps_not, state_of}
+use Rattle.crash_core.specs.Standing.{IsSeatAt, IsCore, KeepsViews, AreInOrder, IsStanding, KeepsState, StandsFor, HasTicketAt, Takes, Follows, Steps, steps_done, steps_stopped, steps_not, state_of}
+use Rattle.crash_core.proofs.OrderSteps.{event_order}
 use Rattle.seat_notes.proofs.WordLemmas.{entry_is, entry_there}
+use Rattle.crash_core.proofs.StandingLemmas.{among}
 
 -- what a seat has by its ticket
 ticket_for : (v : View) (ticket : Option ℕ) (event : Event) → v.ticket ≡ ticket → HasTicketAt ticket event → HasTicketFor v event
@@ -53,51 +55,51 @@ stated c k s stands = ap (λ ws. let r : TableState = record { words = ws; views
 abbrev pub Next : CoreState → Setup → TableState → ℕ → Event → StepAnswer → Type 0
 Next new k s i event answer = (next : TableState) × StepsTo k s i event answer next × StandsFor new k next
 
-of_steps : (c new : CoreState) (k : Setup) (views : List View) (i : ℕ) (v : View) (event : Event) (answer : StepAnswer) → KeepsViews c k views → get_or views i v ≡ v → v.stopped ≡ None
-    → Steps c new k views i v event answer → Next new k (state_of c views) i event answer
-of_steps c new k views i v event Done keeps at going (steps_done may on stands) = (state_after k (state_of c views) i v event, is_done v at may on, stands)
-of_steps c new k views i v event (Stopped ticket) keeps at going (steps_stopped step may at_end stands) = (state_after k (state_of c views) i v event, stops v step at may at_end, stands)
-of_steps c new k views i v event NotNow keeps at going (steps_not refused same) = (state_of c views, not_now v at going refused, subst (λ x. StandsFor x k (state_of c views)) (sym same) (record { words = refl; keeps = keeps }))
+in_order : (c : CoreState) (k : Setup) (s : TableState) → KeepsState c k s → AreInOrder k s.views → StandsFor c k s
+in_order c k s keeps order = record { words = keeps.words; keeps = keeps.keeps; order = order }
 
-module _ (c : CoreState) (i : ℕ) (t : SeatNotes) (event : Event) (less : i < length c.seats.items) (at_t : get_or c.seats.items i t ≡ t) where
-  by_views : (new : CoreState) (answer : StepAnswer) → ((k : Setup) (views : List View) → KeepsViews c k views → Next new k (state_of c views) i event answer) → Follows c i event answer new
-  by_views new answer next = λ k s stands. subst (λ x. Next new k x i event answer) (sym (stated c k s stands)) (next k s.views stands.keeps)
+of_steps : (c new : CoreState) (k : Setup) (views : List View) (i : ℕ) (v : View) (event : Event) (answer : StepAnswer) → KeepsViews c k views → AreInOrder k views → i < k.seats → i < length views → get_or views i v ≡ v → v.stopped ≡ None
+    → Steps c new k views i v event answer → Next new k (state_of c views) i event answer
+of_steps c new k views i v event Done keeps order seat below at going (steps_done may on stands) = (state_after k (state_of c views) i v event, is_done v at may on, in_order new k _ stands (event_order k (memory_of k.capacity c.words.items) views i v event below at seat order))
+of_steps c new k views i v event (Stopped ticket) keeps order seat below at going (steps_stopped step may at_end stands) =
+    (state_after k (state_of c views) i v event, stops v step at may at_end, in_order new k _ stands (event_order k (memory_of k.capacity c.words.items) views i v event below at seat order))
+of_steps c new k views i v event NotNow keeps order seat below at going (steps_not refused same) =
+    (state_of c views, not_now v at going refused, subst (λ x. StandsFor x k (state_of c views)) (sym same) (record { words = refl; keeps = keeps; order = order }))
+
+module _ (c : CoreState) (i : ℕ) (t : SeatNotes) (event : Event) (at_t : IsSeatAt c i t) where
+  by_views : (new : CoreState) (answer : StepAnswer) → ((k : Setup) (views : List View) → KeepsViews c k views → AreInOrder k views → Next new k (state_of c views) i event answer) → Follows c i event answer new
+  by_views new answer next = λ k s stands. subst (λ x. Next new k x i event answer) (sym (stated c k s stands)) (next k s.views stands.keeps stands.order)
 
   seat_there : (k : Setup) (views : List View) → KeepsViews c k views → (v : View) × (get_or views i v ≡ v)
-  seat_there k views keeps = entry_there views i (subst (λ n. i < n) (sym keeps.seats) less)
+  seat_there k views keeps = entry_there views i (among keeps at_t.less)
 
   pub follows_stopped : (step : ℕ) → t.stopped ≡ Some step → Follows c i event (Stopped step) c
-  follows_stopped step some = by_views c (Stopped step) (λ k views keeps.
+  follows_stopped step some = by_views c (Stopped step) (λ k views keeps order.
       let v = seat_there k views keeps in
-      (state_of c views, has_stopped v.0 step v.1 ((keeps.each i t v.0 (subst (λ n. i < n) (sym keeps.seats) less) at_t v.1).notes.stopped ∙ some), record { words = refl; keeps = keeps }))
+      (state_of c views, has_stopped v.0 step v.1 ((keeps.each i t v.0 (among keeps at_t.less) at_t v.1).notes.stopped ∙ some), record { words = refl; keeps = keeps; order = order }))
 
   pub follows_not : t.stopped ≡ None → (HasTicketAt t.ticket event → ⊥) → Follows c i event NotNow c
-  follows_not going none = by_views c NotNow (λ k views keeps.
-      let v = seat_there k views keeps in let notes = (keeps.each i t v.0 (subst (λ n. i < n) (sym keeps.seats) less) at_t v.1).notes in
-      (state_of c views, not_now v.0 v.1 (notes.stopped ∙ going) (λ may. none (ticket_of v.0 t.ticket event notes.ticket may.may.ticket)), record { words = refl; keeps = keeps }))
+  follows_not going none = by_views c NotNow (λ k views keeps order.
+      let v = seat_there k views keeps in let notes = (keeps.each i t v.0 (among keeps at_t.less) at_t v.1).notes in
+      (state_of c views, not_now v.0 v.1 (notes.stopped ∙ going) (λ may. none (ticket_of v.0 t.ticket event notes.ticket may.may.ticket)), record { words = refl; keeps = keeps; order = order }))
 
   pub follows_taken : t.stopped ≡ None → HasTicketAt t.ticket event → (new : CoreState) (answer : StepAnswer) → Takes c i event answer new → Follows c i event answer new
-  follows_taken going has new answer takes = by_views new answer (λ k views keeps.
-      let v = seat_there k views keeps in let below : i < length views = subst (λ n. i < n) (sym keeps.seats) less in let notes = (keeps.each i t v.0 below at_t v.1).notes in
-      of_steps c new k views i v.0 event answer keeps v.1 (notes.stopped ∙ going)
+  follows_taken going has new answer takes = by_views new answer (λ k views keeps order.
+      let v = seat_there k views keeps in let below = among keeps at_t.less in let notes = (keeps.each i t v.0 below at_t v.1).notes in
+      of_steps c new k views i v.0 event answer keeps order (subst (λ n. i < n) (sym keeps.opened) at_t.less) below v.1 (notes.stopped ∙ going)
       (takes k views v.0 keeps below v.1 (notes.stopped ∙ going) (ticket_for v.0 t.ticket event notes.ticket has)))
 
--- a step leaves as many seats
-views_after : (k : Setup) (s : TableState) (i : ℕ) (event : Event) (answer : StepAnswer) (next : TableState) → StepsTo k s i event answer next → length next.views ≡ length s.views
-views_after k s i event Done next (is_done v at may on) = length-set s.views i (seat_after (memory_of k.capacity s.words) v event)
-views_after k s i event (Stopped ticket) next (stops v step at may on) = length-set s.views i (seat_after (memory_of k.capacity s.words) v event)
-views_after k s i event NotNow next (not_now v at going refused) = refl
-views_after k s i event (Stopped ticket) next (has_stopped v step at some) = refl
+-- a core that stands for a state keeps one
+pub core_of : (c : CoreState) → IsStanding c → IsCore c
+core_of c core = record { setup = core.setup; views = core.state.views; keeps = core.stands.keeps }
 
-pub seats_after : (c new : CoreState) (i : ℕ) (event : Event) (answer : StepAnswer) → IsCore c → Follows c i event answer new → length new.seats.items ≡ length c.seats.items
-seats_after c new i event answer core follows = let next = follows core.setup (state_of c core.views) (record { words = refl; keeps = core.keeps }) in
-    sym next.2.keeps.seats ∙ views_after core.setup (state_of c core.views) i event answer next.0 next.1 ∙ core.keeps.seats
+pub seats_after : (c new : CoreState) (i : ℕ) (event : Event) (answer : StepAnswer) → IsStanding c → Follows c i event answer new → length new.seats.items ≡ length c.seats.items
+seats_after c new i event answer core follows = let next = follows core.setup core.state core.stands in sym next.2.keeps.opened ∙ core.stands.keeps.opened
 
 -- the core after a step stands for a state again
-pub core_after : (c new : CoreState) (i : ℕ) (event : Event) (answer : StepAnswer) → IsCore c → Follows c i event answer new → IsCore new
-core_after c new i event answer core follows = let next = follows core.setup (state_of c core.views) (record { words = refl; keeps = core.keeps }) in
-    record { setup = core.setup; views = next.0.views; keeps = next.2.keeps }
+pub core_after : (c new : CoreState) (i : ℕ) (event : Event) (answer : StepAnswer) → IsStanding c → Follows c i event answer new → IsStanding new
+core_after c new i event answer core follows = let next = follows core.setup core.state core.stands in record { setup = core.setup; state = next.0; stands = next.2 }
 
-pub same_ticket : (c : CoreState) (i : ℕ) (t : SeatNotes) (event : Event) → get_or c.seats.items i t ≡ t → i < length c.seats.items → HasTicketAt t.ticket event
+pub same_ticket : (c : CoreState) (i : ℕ) (t : SeatNotes) (event : Event) → IsSeatAt c i t → i < length c.seats.items → HasTicketAt t.ticket event
     → (s : SeatNotes) → get_or c.seats.items i s ≡ s → HasTicketAt s.ticket event
-same_ticket c i t event at_t less has s at_s = subst (λ (x : SeatNotes). HasTicketAt x.ticket event) (sym at_t ∙ entry_is c.seats.items i t s less ∙ at_s) has
+same_ticket c i t event at_t less has s at_s = subst (λ (x : SeatNotes). HasTicketAt x.ticket event) (sym at_t.at ∙ entry_is c.seats.items i t s less ∙ at_s) has

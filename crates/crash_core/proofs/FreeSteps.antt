@@ -16,7 +16,7 @@ use Rattle.core_model.specs.View.{Setup, View, of_class, times_block}
 use Rattle.core_model.specs.Effects.{first_of, after_free}
 use Rattle.core_model.specs.Guards.{MayFree}
 use Rattle.core_model.specs.Sound.{Good}
-use Rattle.crash_core.specs.Standing.{place_for, no_block, held_in, cached_in, batched_in, IsPlace, IsKept, KeepsViews, IsMoved, memory_at}
+use Rattle.crash_core.specs.Standing.{IsSeatAt, place_for, no_block, held_in, cached_in, batched_in, IsPlace, IsKept, KeepsViews, IsMoved, memory_at}
 use Rattle.core_model.proofs.TotalLemmas.{total_at, eq-eqb-one, ne-eqb-none}
 use Rattle.core_model.proofs.BlockLemmas.{total_lists}
 use Rattle.core_model.proofs.OwnerLemmas.{in_lists_total, which_class}
@@ -35,7 +35,7 @@ held_only place.Cached some = absurd (omega arith)
 held_only place.Batched some = absurd (omega arith)
 
 module _ (c : CoreState) (k : Setup) (views : List View) (i : ℕ) (v : View) (t : SeatNotes) (keeps : KeepsViews c k views) (below : i < length views) (at : get_or views i v ≡ v)
-    (at_t : get_or c.seats.items i t ≡ t) where
+    (at_t : IsSeatAt c i t) where
   kept : IsKept c i t v
   kept = keeps.each i t v below at_t at
 
@@ -145,6 +145,7 @@ module _ (c : CoreState) (k : Setup) (views : List View) (i : ℕ) (v : View) (t
         words = refl;
         geometry = refl;
         budget = refl;
+        carriers = refl;
         blocks = length-set c.blocks.items block (record { seat = i; place = place.Cached });
         superblocks = refl;
         roots = refl;

@@ -19,19 +19,19 @@ use Rattle.core_model.specs.Guards.{IsThere}
 use Rattle.core_model.specs.Sound.{Good}
 use Rattle.core_model.specs.Steps.{seat_after}
 use Rattle.seat_notes.specs.Superblocks.{usage_for, no_superblock, IsUsage, IsRange}
-use Rattle.crash_core.specs.Standing.{IsKept, KeepsViews, Steps}
+use Rattle.crash_core.specs.Standing.{IsAmong, IsSeatAt, IsKept, KeepsViews, Steps}
 use Rattle.seat_notes.specs.Notes.{snapshot}
 use Rattle.core_model.proofs.TotalLemmas.{total_at}
 use Rattle.core_model.proofs.FrameLemmas.{below_is, below_not, times_steps}
 use Rattle.heap_model.proofs.ListLemmas.{times_append}
 use Rattle.core_model.proofs.PlaceLemmas.{pick}
-use Rattle.crash_core.proofs.StandingLemmas.{step_done, step_not, memory_in}
+use Rattle.crash_core.proofs.StandingLemmas.{among_most, step_done, step_not, memory_in}
 use Rattle.seat_notes.proofs.UsageLemmas.{no_usage}
 use Rattle.seat_notes.proofs.RangeLemmas.{range_mine, range_theirs}
 use Rattle.seat_notes.proofs.WordLemmas.{entry_is}
 
 module _ (c : CoreState) (k : Setup) (views : List View) (i : ℕ) (v : View) (t : SeatNotes) (keeps : KeepsViews c k views) (below_i : i < length views) (at : get_or views i v ≡ v)
-    (at_t : get_or c.seats.items i t ≡ t) where
+    (at_t : IsSeatAt c i t) where
   kept : IsKept c i t v
   kept = keeps.each i t v below_i at_t at
 
@@ -66,7 +66,7 @@ module _ (c : CoreState) (k : Setup) (views : List View) (i : ℕ) (v : View) (t
         (record { is_seen = ap one_if_some saw; some = some_n; room = (let e = ap seen saw in let cap : v.setup.capacity ≡ k.capacity = ap (λ (s : Setup). s.capacity) (good.set_up i v below_i at).setup in omega arith) }) as_seen
         (ap (λ (y : View). y.stopped) won_it ∙ going)
         (ap (λ y. set c.words.items 8 y) (word_is ∙ sym (pick (nat_eq (used (memory_in c k)) (seen v.seen_used)) (used (memory_in c k) + n) (used (memory_in c k)) test ∙ (let e = as_seen in let f = ap seen saw in let z : used (memory_in c k) + n ≡ mark + n = omega arith in z))))
-        refl (record { capacity = refl; budget = refl; blocks = refl; superblocks = range.long; roots = refl })
+        refl (record { capacity = refl; budget = refl; carriers = refl; blocks = refl; superblocks = range.long; roots = refl })
         (subst (IsKept c' i t') (sym won_it) (record {
           notes = (let o = kept.notes in record {
             ticket = refl;
@@ -80,7 +80,7 @@ module _ (c : CoreState) (k : Setup) (views : List View) (i : ℕ) (v : View) (t
           batch = kept.batch;
           blocks = kept.blocks;
           superblocks = range_mine c.superblocks.items owners.items i u n usage.Raw (λ d y. IsUsage d y (v.raw ++ steps u 1 n) v.split v.cutting v.classed v.large) range_u
-              (λ d low high. let o = subst (λ y. IsUsage d y v.raw v.split v.cutting v.classed v.large) (fresh d low i t v below_i at kept) (kept.superblocks d) in record {
+              (λ d low high. let o = subst (λ y. IsUsage d y v.raw v.split v.cutting v.classed v.large) (fresh d low i t v (inl (below_i, at)) kept) (kept.superblocks d) in record {
                 is_raw = (let a = times_append d v.raw (steps u 1 n) in let b = times_steps d u n in let low_is = below_not d u low in let high_is = below_is d (u + n) high in let r = o.is_raw in omega arith);
                 is_split = o.is_split;
                 is_cutting = o.is_cutting;
@@ -100,12 +100,12 @@ module _ (c : CoreState) (k : Setup) (views : List View) (i : ℕ) (v : View) (t
               });
           roots = kept.roots;
         }))
-        (λ j s w other b a h. record {
+        (λ j s w other most h. record {
           notes = h.notes;
           caches = h.caches;
           batch = h.batch;
           blocks = h.blocks;
-          superblocks = range_theirs c.superblocks.items owners.items i j u n usage.Raw (λ d y. IsUsage d y w.raw w.split w.cutting w.classed w.large) other range_u (λ d low high. fresh d low j s w b a h) h.superblocks;
+          superblocks = range_theirs c.superblocks.items owners.items i j u n usage.Raw (λ d y. IsUsage d y w.raw w.split w.cutting w.classed w.large) other range_u (λ d low high. fresh d low j s w most h) h.superblocks;
           roots = h.roots;
         })
       where
@@ -127,9 +127,9 @@ module _ (c : CoreState) (k : Setup) (views : List View) (i : ℕ) (v : View) (t
         won_it : seat_after (memory_in c k) v (TakeFresh n) ≡ taken_fresh v n
         won_it = pick (nat_eq (used (memory_in c k)) (seen v.seen_used)) (taken_fresh v n) (record (lost v (used (memory_in c k))) { seen_used = None }) test
 
-        fresh : (d : ℕ) → u ≤ d → (j : ℕ) (s : SeatNotes) (w : View) → j < length views → get_or views j w ≡ w → IsKept c j s w → usage_for j (get_or c.superblocks.items d no_superblock) ≡ usage.Nothing
-        fresh d low j s w b a h = let p = good.shaped.placed.one_place d in let e = as_seen in let none = below_not d (used (memory_in c k)) (omega arith) in
-            let raw = total_at (times_raw d) views j w b a in let classed = total_at (λ (x : View). times_classed d x.classed) views j w b a in let large = total_at (λ (x : View). times_large d x.large) views j w b a in
+        fresh : (d : ℕ) → u ≤ d → (j : ℕ) (s : SeatNotes) (w : View) → IsAmong views j w → IsKept c j s w → usage_for j (get_or c.superblocks.items d no_superblock) ≡ usage.Nothing
+        fresh d low j s w most h = let p = good.shaped.placed.one_place d in let e = as_seen in let none = below_not d (used (memory_in c k)) (omega arith) in
+            let raw = among_most (times_raw d) views j w most (λ none. (none.superblocks d).0) in let classed = among_most (λ (x : View). times_classed d x.classed) views j w most (λ none. (none.superblocks d).1) in let large = among_most (λ (x : View). times_large d x.large) views j w most (λ none. (none.superblocks d).2) in
             no_usage d (usage_for j (get_or c.superblocks.items d no_superblock)) w.raw w.split w.cutting w.classed w.large (h.superblocks d) (omega arith) (omega arith) (omega arith)
 
         none_there : (d : ℕ) → (u ≤ d → d < u + n → ⊥) → times d (steps u 1 n) ≡ 0

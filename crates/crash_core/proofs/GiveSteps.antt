@@ -26,12 +26,12 @@ use Rattle.core_model.specs.Guards.{IsThere, MayGive}
 use Rattle.core_model.specs.Sound.{tally_of, times_cut, IsCutBlock, Good}
 use Rattle.core_model.specs.Steps.{seat_after}
 use Rattle.seat_notes.specs.Superblocks.{usage_for, no_superblock, listed, IsUsage}
-use Rattle.crash_core.specs.Standing.{no_block, batched_in, IsPlace, HasBlocksOf, HasNewOwner, IsKept, IsCore, KeepsViews, Steps, Decides, memory_at}
+use Rattle.crash_core.specs.Standing.{IsAmong, IsSeatAt, no_block, batched_in, IsPlace, HasBlocksOf, HasNewOwner, IsKept, IsCore, KeepsViews, Steps, Decides, memory_at}
 use Rattle.core_model.proofs.TotalLemmas.{total_at}
 use Rattle.core_model.proofs.SoundLemmas.{batched}
 use Rattle.core_model.proofs.PlaceLemmas.{pick}
 use Rattle.core_model.proofs.BlockLemmas.{first_there}
-use Rattle.crash_core.proofs.StandingLemmas.{step_done, step_not, memory_in}
+use Rattle.crash_core.proofs.StandingLemmas.{among, step_done, step_not, memory_in}
 use Rattle.seat_notes.proofs.UsageLemmas.{no_usage, usages_theirs}
 use Rattle.crash_core.proofs.BlockPlaces.{place_alone}
 use Rattle.crash_core.proofs.ClaimLemmas.{claimed_kept}
@@ -57,7 +57,7 @@ trimmed_kept c i t v h = record {
 }
 
 module _ (c : CoreState) (k : Setup) (views : List View) (i : ℕ) (v : View) (t : SeatNotes) (keeps : KeepsViews c k views) (below : i < length views) (at : get_or views i v ≡ v)
-    (at_t : get_or c.seats.items i t ≡ t) where
+    (at_t : IsSeatAt c i t) where
   kept : IsKept c i t v
   kept = keeps.each i t v below at_t at
 
@@ -225,7 +225,7 @@ module _ (c : CoreState) (k : Setup) (views : List View) (i : ℕ) (v : View) (t
               pub give_kept : v.stopped ≡ None → found ≢ full_anchor
                   → Steps c (record c { words = with_item c.words at_word left; blocks = blocks; seats = with_item c.seats i (record t { ticket = None; seen_anchor = None; batch = empty_batch }) }) k views i v (Give d) Done
               give_kept going part = step_done c c' k views i v t t' (Give d) keeps below at at_t going ticket may as_seen (ap (λ (y : View). y.stopped) is ∙ going) words_are
-                  refl (record { capacity = refl; budget = refl; blocks = given_chain.long; superblocks = refl; roots = refl })
+                  refl (record { capacity = refl; budget = refl; carriers = refl; blocks = given_chain.long; superblocks = refl; roots = refl })
                   (subst (IsKept c' i t') (sym is) (trimmed_kept c' i t' w0 (record {
                     notes = (let n = kept.notes in record { ticket = refl; stopped = n.stopped; seen_used = n.seen_used; seen_head = n.seen_head; seen_link = n.seen_link; seen_anchor = refl });
                     caches = kept.caches;
@@ -234,7 +234,7 @@ module _ (c : CoreState) (k : Setup) (views : List View) (i : ℕ) (v : View) (t
                     superblocks = kept.superblocks;
                     roots = kept.roots;
                   })))
-                  (λ j s u other b a h. record { notes = h.notes; caches = h.caches; batch = h.batch; blocks = blocks_theirs j s u other h; superblocks = h.superblocks; roots = h.roots }) where
+                  (λ j s u other most h. record { notes = h.notes; caches = h.caches; batch = h.batch; blocks = blocks_theirs j s u other h; superblocks = h.superblocks; roots = h.roots }) where
                     c' : CoreState
                     c' = record c { words = with_item c.words at_word left; blocks = blocks; seats = with_item c.seats i t' }
 
@@ -245,17 +245,17 @@ module _ (c : CoreState) (k : Setup) (views : List View) (i : ℕ) (v : View) (t
               pub give_full : v.stopped ≡ None → found ≡ full_anchor → (x : SuperblockUsage) → x ≡ listed t.batch.class
                   → Steps c (record c { words = with_item c.words at_word left; blocks = blocks; superblocks = with_item c.superblocks d (record { seat = i; usage = x }); seats = with_item c.seats i (record t { ticket = None; seen_anchor = None; batch = empty_batch }) }) k views i v (Give d) Done
               give_full going full x x_is = step_done c c' k views i v t t' (Give d) keeps below at at_t going ticket may as_seen (ap (λ (y : View). y.stopped) is ∙ claimed_going w0 d class ∙ going) words_are
-                  refl (record { capacity = refl; budget = refl; blocks = given_chain.long; superblocks = length-set c.superblocks.items d (record { seat = i; usage = x }); roots = refl })
+                  refl (record { capacity = refl; budget = refl; carriers = refl; blocks = given_chain.long; superblocks = length-set c.superblocks.items d (record { seat = i; usage = x }); roots = refl })
                   (subst (IsKept c' i t') (sym is) (trimmed_kept c' i t' (claimed w0 d class)
-                  (claimed_kept c' i t' w0 c.superblocks.items d class x (x_is ∙ ap listed (sym kept.batch.class)) refl long (nothing i t v below at kept) kept.superblocks
+                  (claimed_kept c' i t' w0 c.superblocks.items d class x (x_is ∙ ap listed (sym kept.batch.class)) refl long (nothing i t v (inl (below, at)) kept) kept.superblocks
                   (let n = kept.notes in record { ticket = refl; stopped = n.stopped; seen_used = n.seen_used; seen_head = n.seen_head; seen_link = n.seen_link; seen_anchor = refl })
                   kept.caches (record { descriptor = refl; class = refl; first = refl; last = refl; count = refl; linked = refl }) blocks_mine kept.roots)))
-                  (λ j s u other b a h. record {
+                  (λ j s u other most h. record {
                     notes = h.notes;
                     caches = h.caches;
                     batch = h.batch;
                     blocks = blocks_theirs j s u other h;
-                    superblocks = usages_theirs c.superblocks.items i j d x (λ e y. IsUsage e y u.raw u.split u.cutting u.classed u.large) long other (nothing j s u b a h) h.superblocks;
+                    superblocks = usages_theirs c.superblocks.items i j d x (λ e y. IsUsage e y u.raw u.split u.cutting u.classed u.large) long other (nothing j s u most h) h.superblocks;
                     roots = h.roots;
                   }) where
                     c' : CoreState
@@ -267,8 +267,9 @@ module _ (c : CoreState) (k : Setup) (views : List View) (i : ℕ) (v : View) (t
                     long : d < length c.superblocks.items
                     long = let l = d_less in let n = keeps.superblocks in omega arith
 
-                    nothing : (j : ℕ) (s : SeatNotes) (u : View) → j < length views → get_or views j u ≡ u → IsKept c j s u → usage_for j (get_or c.superblocks.items d no_superblock) ≡ usage.Nothing
-                    nothing j s u b a h = let none = on_anchor.not_here k (memory_in c k) views i v below at good d (batch_anchor v d) cut_d j u b a in
+                    nothing : (j : ℕ) (s : SeatNotes) (u : View) → IsAmong views j u → IsKept c j s u → usage_for j (get_or c.superblocks.items d no_superblock) ≡ usage.Nothing
+                    nothing j s u (inr none) h = let z = none.superblocks d in no_usage d (usage_for j (get_or c.superblocks.items d no_superblock)) u.raw u.split u.cutting u.classed u.large (h.superblocks d) (let r = z.0 in omega arith) z.1 z.2
+                    nothing j s u (inl (b, a)) h = let none = on_anchor.not_here k (memory_in c k) views i v below at good d (batch_anchor v d) cut_d j u b a in
                         no_usage d (usage_for j (get_or c.superblocks.items d no_superblock)) u.raw u.split u.cutting u.classed u.large (h.superblocks d) (let z = none.0 in omega arith)
                         (elim (cases_lt 0 (times_classed d u.classed)) [
                           | inl claimed_it ↦ absurd (let l = ((good.claims j u b a).is_classed d claimed_it).2 in let e = ap anchor_state (now ∙ full) in let two : anchor_state 2 ≡ 2 = refl in omega arith)
@@ -285,10 +286,10 @@ pub record GiveFits (c : CoreState) (t : SeatNotes) (d found : ℕ) : Type 0 whe
   pub count : t.batch.count + anchor_count found ≤ blocks_of t.batch.class
   pub inside : (b : ℕ) → 0 < times b (chain (λ n. get_or c.words.items n 0) t.batch.first t.batch.count) → (b < length c.blocks.items) × (b < length c.words.items)
 
-pub give_fits : (c : CoreState) (i d : ℕ) (t : SeatNotes) (word : Seen) (found : ℕ) → IsCore c → i < length c.seats.items → get_or c.seats.items i t ≡ t → IsThere t.ticket → t.seen_anchor ≡ Some word → Decides c i (λ m v. MayGive m v d) true
+pub give_fits : (c : CoreState) (i d : ℕ) (t : SeatNotes) (word : Seen) (found : ℕ) → IsCore c → i < length c.seats.items → IsSeatAt c i t → IsThere t.ticket → t.seen_anchor ≡ Some word → Decides c i (λ m v. MayGive m v d) true
     → found ≡ anchor (memory_at c) d → found ≡ word.word → GiveFits c t d found
 give_fits c i d t word found core less at_t ticket some decides found_is as_it_was =
-    let below : i < length core.views = subst (λ n. i < n) (sym core.keeps.seats) less in
+    let below : i < length core.views = among core.keeps less in
     let here = entry_there core.views i below in
     let may = (decides core.setup core.views here.0 core.keeps below here.1).0 refl in
     let its : IsThere here.0.ticket = ap one_if_some (core.keeps.each i t here.0 below at_t here.1).notes.ticket ∙ ticket in
@@ -308,9 +309,9 @@ pub record BatchFits (c : CoreState) (t : SeatNotes) : Type 0 where
   pub below : t.batch.descriptor < c.geometry.capacity
   pub last : (start_word c.geometry.capacity 0 ≤ t.batch.last) × (t.batch.last < superblocks_end c.geometry.capacity)
 
-pub batch_fits : (c : CoreState) (i : ℕ) (t : SeatNotes) → IsCore c → i < length c.seats.items → get_or c.seats.items i t ≡ t → t.batch.count ≢ 0 → BatchFits c t
+pub batch_fits : (c : CoreState) (i : ℕ) (t : SeatNotes) → IsCore c → i < length c.seats.items → IsSeatAt c i t → t.batch.count ≢ 0 → BatchFits c t
 batch_fits c i t core less at_t some =
-    let below : i < length core.views = subst (λ n. i < n) (sym core.keeps.seats) less in
+    let below : i < length core.views = among core.keeps less in
     let here = entry_there core.views i below in record {
       is_class = batch_class c core.setup core.views i here.0 t core.keeps below here.1 at_t some;
       below = batch_below c core.setup core.views i here.0 t core.keeps below here.1 at_t some;
@@ -319,7 +320,7 @@ batch_fits c i t core less at_t some =
 
 pub give_below : (c : CoreState) (i d : ℕ) → IsCore c → i < length c.seats.items → Decides c i (λ m v. MayGive m v d) true → d < c.geometry.capacity
 give_below c i d core less decides =
-    let below : i < length core.views = subst (λ n. i < n) (sym core.keeps.seats) less in
+    let below : i < length core.views = among core.keeps less in
     let here = entry_there core.views i below in
     let may = (decides core.setup core.views here.0 core.keeps below here.1).0 refl in
     let b = batched core.setup (memory_in c core.setup) core.views i here.0 below here.1 core.keeps.sound.good d may.batch may.some in let g = core.keeps.capacity in omega arith

@@ -10,7 +10,7 @@ use Rattle.core_model.specs.Memory.{info, anchor, durable_used, durable_info, me
 use Rattle.core_model.specs.View.{Setup, View}
 use Rattle.core_model.specs.Guards.{MayHoldLarge}
 use Rattle.seat_notes.specs.Superblocks.{usage_for, no_superblock, raw_in, split_in}
-use Rattle.crash_core.specs.Standing.{IsKept, IsCore, KeepsViews, MayJoin, memory_at}
+use Rattle.crash_core.specs.Standing.{IsSeatAt, IsKept, IsCore, KeepsViews, MayJoin, memory_at}
 use Rattle.core_model.proofs.PlaceLemmas.{pick, skip, not-eq}
 use Rattle.crash_core.proofs.StandingLemmas.{memory_in}
 
@@ -18,7 +18,7 @@ pub mark_low : (c : CoreState) → IsCore c → durable_used (memory_at c) ≤ c
 mark_low c core = subst (λ n. durable_used (memory_of n c.words.items) ≤ n) core.keeps.capacity (let g = core.keeps.sound.good.shaped.durable in let a = g.behind in let b = g.room in omega arith)
 
 module _ (c : CoreState) (k : Setup) (views : List View) (i : ℕ) (v : View) (t : SeatNotes) (keeps : KeepsViews c k views) (below_i : i < length views) (at : get_or views i v ≡ v)
-    (at_t : get_or c.seats.items i t ≡ t) (d n : ℕ) where
+    (at_t : IsSeatAt c i t) (d n : ℕ) where
   kept : IsKept c i t v
   kept = keeps.each i t v below_i at_t at
 

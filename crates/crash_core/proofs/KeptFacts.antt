@@ -11,16 +11,17 @@ use Rattle.core_model.specs.Memory.{memory_of, table_length}
 use Rattle.core_model.specs.View.{Setup, View, one_if_some}
 use Rattle.core_model.specs.Effects.{seen_word, seen_of}
 use Rattle.core_model.specs.Guards.{IsThere}
-use Rattle.crash_core.specs.Standing.{IsKept, IsCore, KeepsViews}
+use Rattle.crash_core.specs.Standing.{IsSeatAt, IsKept, IsCore, KeepsViews}
 use Rattle.seat_notes.specs.Notes.{snapshot}
 use Rattle.core_model.proofs.QuietLemmas.{not_there}
 use Rattle.core_model.proofs.TotalLemmas.{total_at}
 use Rattle.core_model.proofs.ListLemmas.{number_once}
 use Rattle.seat_notes.proofs.WordLemmas.{entry_there}
 use Rattle.seat_notes.proofs.CountLemmas.{total_member}
+use Rattle.crash_core.proofs.StandingLemmas.{among}
 
 module _ (c : CoreState) (k : Setup) (views : List View) (i : ℕ) (v : View) (t : SeatNotes) (keeps : KeepsViews c k views) (below : i < length views) (at : get_or views i v ≡ v)
-    (at_t : get_or c.seats.items i t ≡ t) where
+    (at_t : IsSeatAt c i t) where
   pub kept : IsKept c i t v
   kept = keeps.each i t v below at_t at
 
@@ -55,9 +56,9 @@ pub record HeadFits (c : CoreState) (head : Seen) : Type 0 where
   pub long : length c.words.items ≡ table_length c.geometry.capacity
   pub superblocks : length c.superblocks.items ≡ c.geometry.capacity
 
-pub head_fits : (c : CoreState) (i : ℕ) (t : SeatNotes) (head : Seen) → IsCore c → i < length c.seats.items → get_or c.seats.items i t ≡ t → t.seen_head ≡ Some head → HeadFits c head
+pub head_fits : (c : CoreState) (i : ℕ) (t : SeatNotes) (head : Seen) → IsCore c → i < length c.seats.items → IsSeatAt c i t → t.seen_head ≡ Some head → HeadFits c head
 head_fits c i t head core less at_t some =
-    let below : i < length core.views = subst (λ n. i < n) (sym core.keeps.seats) less in
+    let below : i < length core.views = among core.keeps less in
     let here = entry_there core.views i below in
     let is = saw c core.setup core.views i here.0 t core.keeps below here.1 at_t head some in
     let knows = (core.keeps.sound.good.knows i here.0 below here.1).seen_head (ap one_if_some is) in
@@ -75,9 +76,9 @@ pub record PopFits (head : Seen) : Type 0 where
   pub some : head_first head.word ≢ 0
   pub pops : head_pops head.word < 1099511627775
 
-pub pop_fits : (c : CoreState) (i : ℕ) (t : SeatNotes) (head : Seen) (link : ℕ) → IsCore c → i < length c.seats.items → get_or c.seats.items i t ≡ t → t.seen_head ≡ Some head → t.seen_link ≡ Some link → IsThere t.ticket → PopFits head
+pub pop_fits : (c : CoreState) (i : ℕ) (t : SeatNotes) (head : Seen) (link : ℕ) → IsCore c → i < length c.seats.items → IsSeatAt c i t → t.seen_head ≡ Some head → t.seen_link ≡ Some link → IsThere t.ticket → PopFits head
 pop_fits c i t head link core less at_t some some_link ticket =
-    let below : i < length core.views = subst (λ n. i < n) (sym core.keeps.seats) less in
+    let below : i < length core.views = among core.keeps less in
     let here = entry_there core.views i below in
     let is = saw c core.setup core.views i here.0 t core.keeps below here.1 at_t head some in
     let notes = (core.keeps.each i t here.0 below at_t here.1).notes in

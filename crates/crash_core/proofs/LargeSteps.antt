@@ -14,11 +14,11 @@ use Rattle.core_model.specs.Effects.{cleared, span_count, without_range, after_l
 use Rattle.core_model.specs.Guards.{MayHoldLarge}
 use Rattle.core_model.specs.Sound.{Good}
 use Rattle.seat_notes.specs.Superblocks.{usage_for, no_superblock, raw_in, split_in, cutting_in, classed_in, class_in, large_in, count_in, IsUsage, IsRange}
-use Rattle.crash_core.specs.Standing.{IsKept, IsCore, KeepsViews, IsMoved, Decides}
+use Rattle.crash_core.specs.Standing.{IsSeatAt, IsKept, IsCore, KeepsViews, IsMoved, Decides}
 use Rattle.seat_notes.specs.Notes.{snapshot}
 use Rattle.core_model.proofs.PlaceLemmas.{pick, skip, not-eq}
 use Rattle.core_model.proofs.SpanLemmas.{range_is, range_not, without_range_in, without_range_out, cases_range}
-use Rattle.crash_core.proofs.StandingLemmas.{memory_in}
+use Rattle.crash_core.proofs.StandingLemmas.{among, memory_in}
 use Rattle.seat_notes.proofs.UsageLemmas.{usage_own, usage_theirs, usage_alone, usages_mine, usages_theirs}
 use Rattle.seat_notes.proofs.RangeLemmas.{range_theirs}
 use Rattle.seat_notes.proofs.WordLemmas.{entry_there}
@@ -32,7 +32,7 @@ claimed_only (usage.Classed class) some = absurd (omega arith)
 claimed_only (usage.Large count) some = absurd (omega arith)
 
 module _ (c : CoreState) (k : Setup) (views : List View) (i : ℕ) (v : View) (t : SeatNotes) (keeps : KeepsViews c k views) (below_i : i < length views) (at : get_or views i v ≡ v)
-    (at_t : get_or c.seats.items i t ≡ t) (d n : ℕ) (may : MayHoldLarge (memory_in c k) v d n) where
+    (at_t : IsSeatAt c i t) (d n : ℕ) (may : MayHoldLarge (memory_in c k) v d n) where
   kept : IsKept c i t v
   kept = keeps.each i t v below_i at_t at
 
@@ -70,6 +70,7 @@ module _ (c : CoreState) (k : Setup) (views : List View) (i : ℕ) (v : View) (t
     words = refl;
     geometry = refl;
     budget = refl;
+    carriers = refl;
     blocks = refl;
     superblocks = length-set owners.items d (record { seat = i; usage = usage.Large n }) ∙ range.long;
     roots = refl;
@@ -117,8 +118,8 @@ module _ (c : CoreState) (k : Setup) (views : List View) (i : ℕ) (v : View) (t
           })
     ]
 
-pub large_all_fits : (c : CoreState) (i d n : ℕ) (t : SeatNotes) → IsCore c → i < length c.seats.items → get_or c.seats.items i t ≡ t → Decides c i (λ m v. MayHoldLarge m v d n) true → (1 ≤ n) × (d + n ≤ length c.superblocks.items)
+pub large_all_fits : (c : CoreState) (i d n : ℕ) (t : SeatNotes) → IsCore c → i < length c.seats.items → IsSeatAt c i t → Decides c i (λ m v. MayHoldLarge m v d n) true → (1 ≤ n) × (d + n ≤ length c.superblocks.items)
 large_all_fits c i d n t core less at_t may =
-    let below_i : i < length core.views = subst (λ m. i < m) (sym core.keeps.seats) less in
+    let below_i : i < length core.views = among core.keeps less in
     let here = entry_there core.views i below_i in
     large_fits c core.setup core.views i here.0 t core.keeps below_i here.1 at_t d n ((may core.setup core.views here.0 core.keeps below_i here.1).0 refl)

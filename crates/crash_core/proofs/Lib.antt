@@ -24,6 +24,7 @@ pub mod TakeAllSteps
 pub mod CutSteps
 pub mod GiveSteps
 pub mod TickSteps
+pub mod OrderSteps
 pub mod EventSteps
 pub mod RunSteps
 pub mod OpenedBlocks

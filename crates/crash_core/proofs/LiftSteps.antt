@@ -12,7 +12,7 @@ use Rattle.core_model.specs.View.{Setup, View, of_class}
 use Rattle.core_model.specs.Effects.{first_of, last_of, rest_of, after_lift}
 use Rattle.core_model.specs.Guards.{MayAlloc, MayLift}
 use Rattle.core_model.specs.Sound.{Good}
-use Rattle.crash_core.specs.Standing.{no_block, IsPlace, IsKept, KeepsViews, IsMoved, Decides, memory_at}
+use Rattle.crash_core.specs.Standing.{IsSeatAt, no_block, IsPlace, IsKept, KeepsViews, IsMoved, Decides, memory_at}
 use Rattle.core_model.proofs.TotalLemmas.{eq-eqb-one, ne-eqb-none}
 use Rattle.heap_model.proofs.ListLemmas.{times_append}
 use Rattle.core_model.proofs.BlockLemmas.{total_lists}
@@ -24,7 +24,7 @@ use Rattle.crash_core.proofs.MoveSteps as moves
 use Rattle.seat_notes.proofs.EndLemmas.{first_append, last_append, length_append, last_there}
 
 module _ (c : CoreState) (k : Setup) (views : List View) (i : ℕ) (v : View) (t : SeatNotes) (keeps : KeepsViews c k views) (below : i < length views) (at : get_or views i v ≡ v)
-    (at_t : get_or c.seats.items i t ≡ t) where
+    (at_t : IsSeatAt c i t) where
   kept : IsKept c i t v
   kept = keeps.each i t v below at_t at
 
@@ -88,6 +88,7 @@ module _ (c : CoreState) (k : Setup) (views : List View) (i : ℕ) (v : View) (t
       words = refl;
       geometry = refl;
       budget = refl;
+      carriers = refl;
       blocks = length-set c.blocks.items e.first (record { seat = i; place = place.Batched });
       superblocks = refl;
       roots = refl;
@@ -135,5 +136,5 @@ module _ (c : CoreState) (k : Setup) (views : List View) (i : ℕ) (v : View) (t
       long_caches : class < length v.caches
       long_caches = moves.long_caches c k views i v t keeps below at at_t class may
 
-pub lift_allocs : (c : CoreState) (i class : ℕ) (t : SeatNotes) → i < length c.seats.items → get_or c.seats.items i t ≡ t → Decides c i (λ m v. MayLift m v class) true → Decides c i (λ m v. MayAlloc v class) true
+pub lift_allocs : (c : CoreState) (i class : ℕ) (t : SeatNotes) → i < length c.seats.items → IsSeatAt c i t → Decides c i (λ m v. MayLift m v class) true → Decides c i (λ m v. MayAlloc v class) true
 lift_allocs c i class t less at_t may = λ k views v keeps below at. (λ e. lift_alloc c k views i v t keeps below at at_t class ((may k views v keeps below at).0 refl), λ a. refl)

@@ -20,13 +20,13 @@ use Rattle.core_model.specs.Guards.{IsThere, MayPush, MayList, as_free, of_its_c
 use Rattle.core_model.specs.Sound.{Good, KnowsHead}
 use Rattle.core_model.specs.Steps.{seat_after}
 use Rattle.seat_notes.specs.Superblocks.{usage_for, no_superblock, listed, IsUsage}
-use Rattle.crash_core.specs.Standing.{IsKept, KeepsViews, Steps}
+use Rattle.crash_core.specs.Standing.{IsAmong, IsSeatAt, IsKept, KeepsViews, Steps}
 use Rattle.seat_notes.specs.Notes.{snapshot}
 use Rattle.core_model.proofs.TotalLemmas.{total_at}
 use Rattle.heap_model.proofs.ListLemmas.{one_at_most}
 use Rattle.core_model.proofs.ListLemmas.{in_lists_at, before_is}
 use Rattle.core_model.proofs.PlaceLemmas.{pick, skip}
-use Rattle.crash_core.proofs.StandingLemmas.{step_done, step_not, memory_in}
+use Rattle.crash_core.proofs.StandingLemmas.{among_most, step_done, step_not, memory_in}
 use Rattle.crash_core.proofs.KeptFacts as facts
 use Rattle.seat_notes.proofs.UsageLemmas.{no_usage, usage_alone, usages_theirs}
 use Rattle.crash_core.proofs.ClaimLemmas.{claimed_kept, raw_given_up, class_given_up}
@@ -37,7 +37,7 @@ claimed_going base d zero = refl
 claimed_going base d (suc n) = refl
 
 module _ (c : CoreState) (k : Setup) (views : List View) (i : ℕ) (v : View) (t : SeatNotes) (keeps : KeepsViews c k views) (below : i < length views) (at : get_or views i v ≡ v)
-    (at_t : get_or c.seats.items i t ≡ t) where
+    (at_t : IsSeatAt c i t) where
   kept : IsKept c i t v
   kept = keeps.each i t v below at_t at
 
@@ -45,21 +45,21 @@ module _ (c : CoreState) (k : Setup) (views : List View) (i : ℕ) (v : View) (t
   good = keeps.sound.good
 
   -- a descriptor of a list is nobody's
-  listed_alone : (list d : ℕ) → list < lists → 0 < times d (good.shape.lists list) → (j : ℕ) (u : View) → j < length views → get_or views j u ≡ u
+  listed_alone : (list d : ℕ) → list < lists → 0 < times d (good.shape.lists list) → (j : ℕ) (u : View) → IsAmong views j u
       → (times_raw d u ≡ 0) × (times_classed d u.classed ≡ 0) × (times_large d u.large ≡ 0)
-  listed_alone zero d is some j u b a =
-      let p = good.shaped.placed.one_place d in let most = one_at_most (nat_lt d (used (memory_in c k))) in
-      let raw = total_at (times_raw d) views j u b a in let classed = total_at (λ (x : View). times_classed d x.classed) views j u b a in let large = total_at (λ (x : View). times_large d x.large) views j u b a in
+  listed_alone zero d is some j u most =
+      let p = good.shaped.placed.one_place d in let one = one_at_most (nat_lt d (used (memory_in c k))) in
+      let raw = among_most (times_raw d) views j u most (λ none. (none.superblocks d).0) in let classed = among_most (λ (x : View). times_classed d x.classed) views j u most (λ none. (none.superblocks d).1) in let large = among_most (λ (x : View). times_large d x.large) views j u most (λ none. (none.superblocks d).2) in
       (omega arith, omega arith, omega arith)
-  listed_alone (suc n) d is some j u b a =
-      let p = good.shaped.placed.one_place d in let most = one_at_most (nat_lt d (used (memory_in c k))) in
+  listed_alone (suc n) d is some j u most =
+      let p = good.shaped.placed.one_place d in let one = one_at_most (nat_lt d (used (memory_in c k))) in
       let l = in_lists_at d good.shape.lists (suc n) is (λ e. absurd (omega (arith, e))) in
-      let raw = total_at (times_raw d) views j u b a in let classed = total_at (λ (x : View). times_classed d x.classed) views j u b a in let large = total_at (λ (x : View). times_large d x.large) views j u b a in
+      let raw = among_most (times_raw d) views j u most (λ none. (none.superblocks d).0) in let classed = among_most (λ (x : View). times_classed d x.classed) views j u most (λ none. (none.superblocks d).1) in let large = among_most (λ (x : View). times_large d x.large) views j u most (λ none. (none.superblocks d).2) in
       (omega arith, omega arith, omega arith)
 
-  nothing : (list d : ℕ) → list < lists → 0 < times d (good.shape.lists list) → (j : ℕ) (s : SeatNotes) (u : View) → j < length views → get_or views j u ≡ u → IsKept c j s u
+  nothing : (list d : ℕ) → list < lists → 0 < times d (good.shape.lists list) → (j : ℕ) (s : SeatNotes) (u : View) → IsAmong views j u → IsKept c j s u
       → usage_for j (get_or c.superblocks.items d no_superblock) ≡ usage.Nothing
-  nothing list d is some j s u b a h = let z = listed_alone list d is some j u b a in
+  nothing list d is some j s u most h = let z = listed_alone list d is some j u most in
       no_usage d (usage_for j (get_or c.superblocks.items d no_superblock)) u.raw u.split u.cutting u.classed u.large (h.superblocks d) z.0 z.1 z.2
 
   module _ (head : Seen) (some : t.seen_head ≡ Some head) where
@@ -111,18 +111,18 @@ module _ (c : CoreState) (k : Setup) (views : List View) (i : ℕ) (v : View) (t
           step_done c c' k views i v t t' Pop keeps below at at_t going ticket (record { is_seen = ap one_if_some is; link = ap one_if_some saw_link }) as_seen
           (ap (λ (y : View). y.stopped) seat_is ∙ claimed_going base d (seen_of v.seen_head) ∙ going)
           (ap₂ (λ n y. set c.words.items n y) index (word_new ∙ sym (pick (nat_eq ((memory_in c k).volatile (head_cell (seen_of v.seen_head))) (seen_word v.seen_head)) (popped_head v) ((memory_in c k).volatile (head_cell (seen_of v.seen_head))) test ∙ left)))
-          refl (record { capacity = refl; budget = refl; blocks = refl; superblocks = length-set c.superblocks.items d (record { seat = i; usage = x }); roots = refl })
+          refl (record { capacity = refl; budget = refl; carriers = refl; blocks = refl; superblocks = length-set c.superblocks.items d (record { seat = i; usage = x }); roots = refl })
           (subst (IsKept c' i t') (sym seat_is)
-          (claimed_kept c' i t' base c.superblocks.items d (seen_of v.seen_head) x (x_is ∙ ap listed (sym of_is)) refl (subst (λ n. d < n) (sym keeps.superblocks) less) (nothing (seen_of v.seen_head) d is_list in_list i t v below at kept)
+          (claimed_kept c' i t' base c.superblocks.items d (seen_of v.seen_head) x (x_is ∙ ap listed (sym of_is)) refl (subst (λ n. d < n) (sym keeps.superblocks) less) (nothing (seen_of v.seen_head) d is_list in_list i t v (inl (below, at)) kept)
           kept.superblocks
           (let n = kept.notes in record { ticket = refl; stopped = n.stopped; seen_used = n.seen_used; seen_head = refl; seen_link = refl; seen_anchor = ap (cleared d 1) n.seen_anchor ∙ sym anchor_is })
           kept.caches kept.batch kept.blocks kept.roots))
-          (λ j s u other b a h. record {
+          (λ j s u other most h. record {
             notes = h.notes;
             caches = h.caches;
             batch = h.batch;
             blocks = h.blocks;
-            superblocks = usages_theirs c.superblocks.items i j d x (λ e y. IsUsage e y u.raw u.split u.cutting u.classed u.large) (subst (λ n. d < n) (sym keeps.superblocks) less) other (nothing (seen_of v.seen_head) d is_list in_list j s u b a h) h.superblocks;
+            superblocks = usages_theirs c.superblocks.items i j d x (λ e y. IsUsage e y u.raw u.split u.cutting u.classed u.large) (subst (λ n. d < n) (sym keeps.superblocks) less) other (nothing (seen_of v.seen_head) d is_list in_list j s u most h) h.superblocks;
             roots = h.roots;
           })
         where
@@ -184,8 +184,8 @@ module _ (c : CoreState) (k : Setup) (views : List View) (i : ℕ) (v : View) (t
               claims_none list (as_free l is_zero claimed empty) o = let a = o.is_raw in let b = o.is_split in let e = o.is_cutting in let f = o.is_classed in let g = claimed.claimed in absurd (omega arith)
               claims_none list (of_its_class l apart classed class_is state_now) o = let f = o.is_classed in absurd (omega arith)
 
-        theirs : (j : ℕ) (s : SeatNotes) (u : View) → j ≢ i → HasNoMore views u → IsKept c j s u → IsKept c' j s u
-        theirs j s u other b a h = record {
+        theirs : (j : ℕ) (s : SeatNotes) (u : View) → j ≢ i → IsAmong views j u → IsKept c j s u → IsKept c' j s u
+        theirs j s u other most h = record {
           notes = h.notes;
           caches = h.caches;
           batch = h.batch;
@@ -197,7 +197,7 @@ module _ (c : CoreState) (k : Setup) (views : List View) (i : ℕ) (v : View) (t
 
         done : (w : View) → seat_after (memory_in c k) v (Push d) ≡ w → w.stopped ≡ None → IsKept c' i t' w → Steps c c' k views i v (Push d) Done
         done w is_w on mine = step_done c c' k views i v t t' (Push d) keeps below at at_t going ticket may as_seen (ap (λ (y : View). y.stopped) is_w ∙ on) words_are refl
-            (record { capacity = refl; budget = refl; blocks = refl; superblocks = length-set c.superblocks.items d (record { seat = i; usage = usage.Nothing }); roots = refl })
+            (record { capacity = refl; budget = refl; carriers = refl; blocks = refl; superblocks = length-set c.superblocks.items d (record { seat = i; usage = usage.Nothing }); roots = refl })
             (subst (IsKept c' i t') (sym is_w) mine) theirs
 
         by_claim : (some : Bool) → nat_lt 0 (times d v.raw + times d v.split) ≡ some → Steps c c' k views i v (Push d) Done

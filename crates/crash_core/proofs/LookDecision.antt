@@ -6,13 +6,13 @@ use Rattle.crash_core.specs.declared.state.CoreState.{CoreState}
 use Rattle.core_model.specs.View.{Setup, View}
 use Rattle.core_model.specs.Guards.{MayLookAt}
 use Rattle.seat_notes.specs.Superblocks.{usage_for, no_superblock, raw_in, split_in, classed_in, IsUsage}
-use Rattle.crash_core.specs.Standing.{IsKept, KeepsViews}
+use Rattle.crash_core.specs.Standing.{IsSeatAt, IsKept, KeepsViews}
 use Rattle.core_model.proofs.SoundLemmas.{taken, batched}
 use Rattle.crash_core.proofs.StandingLemmas.{memory_in}
 use Rattle.crash_core.proofs.PushDecision.{freely_not_cutting}
 
 module _ (c : CoreState) (k : Setup) (views : List View) (i : ℕ) (v : View) (t : SeatNotes) (keeps : KeepsViews c k views) (below : i < length views) (at : get_or views i v ≡ v)
-    (at_t : get_or c.seats.items i t ≡ t) (d : ℕ) where
+    (at_t : IsSeatAt c i t) (d : ℕ) where
   kept : IsKept c i t v
   kept = keeps.each i t v below at_t at
 

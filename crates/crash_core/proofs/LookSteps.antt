@@ -13,7 +13,7 @@ use Rattle.core_model.specs.Memory.{anchor, volatile_at, memory_of}
 use Rattle.core_model.specs.View.{Setup, View, one_if_some}
 use Rattle.core_model.specs.Effects.{seen, seen_word, before}
 use Rattle.core_model.specs.Guards.{IsThere, MayLookAt}
-use Rattle.crash_core.specs.Standing.{IsKept, KeepsViews, Steps, memory_at}
+use Rattle.crash_core.specs.Standing.{IsSeatAt, IsKept, KeepsViews, Steps, memory_at}
 use Rattle.seat_notes.specs.Notes.{snapshot}
 use Rattle.core_model.proofs.QuietLemmas.{not_there}
 use Rattle.crash_core.proofs.StandingLemmas.{step_noted, step_not, memory_in}
@@ -22,7 +22,7 @@ use Rattle.seat_notes.proofs.WordLemmas.{entry_is, read_is, put_back}
 use Rattle.core_model.proofs.ListLemmas.{before_is}
 
 module _ (c : CoreState) (k : Setup) (views : List View) (i : ℕ) (v : View) (t : SeatNotes) (keeps : KeepsViews c k views) (below : i < length views) (at : get_or views i v ≡ v)
-    (at_t : get_or c.seats.items i t ≡ t) (going : v.stopped ≡ None) where
+    (at_t : IsSeatAt c i t) (going : v.stopped ≡ None) where
   kept : IsKept c i t v
   kept = keeps.each i t v below at_t at
 

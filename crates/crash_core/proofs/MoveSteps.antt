@@ -17,12 +17,12 @@ use Rattle.core_model.specs.Effects.{first_of, rest_of, after_alloc}
 use Rattle.core_model.specs.Guards.{MayAlloc}
 use Rattle.core_model.specs.Sound.{Good}
 use Rattle.seat_notes.specs.Notes.{HasCaches}
-use Rattle.crash_core.specs.Standing.{place_for, no_block, held_in, cached_in, batched_in, IsPlace, IsKept, IsCore, KeepsViews, IsMoved, Decides, memory_at}
+use Rattle.crash_core.specs.Standing.{IsSeatAt, place_for, no_block, held_in, cached_in, batched_in, IsPlace, IsKept, IsCore, KeepsViews, IsMoved, Decides, memory_at}
 use Rattle.core_model.proofs.TotalLemmas.{total_at, eq-eqb-one, ne-eqb-none}
 use Rattle.core_model.proofs.BlockLemmas.{inside_of, first_there, total_lists}
 use Rattle.core_model.proofs.OwnerLemmas.{in_lists_total}
 use Rattle.core_model.proofs.ShiftLemmas.{first_rest}
-use Rattle.crash_core.proofs.StandingLemmas.{memory_in}
+use Rattle.crash_core.proofs.StandingLemmas.{among, memory_in}
 use Rattle.seat_notes.proofs.CacheLemmas.{cache_set}
 use Rattle.crash_core.proofs.BlockPlaces.{places_mine, places_theirs, place_alone}
 use Rattle.seat_notes.proofs.WordLemmas.{entry_is, entry_there}
@@ -36,7 +36,7 @@ cached_only place.Cached some = (refl, refl, refl)
 cached_only place.Batched some = absurd (omega arith)
 
 module _ (c : CoreState) (k : Setup) (views : List View) (i : ℕ) (v : View) (t : SeatNotes) (keeps : KeepsViews c k views) (below : i < length views) (at : get_or views i v ≡ v)
-    (at_t : get_or c.seats.items i t ≡ t) where
+    (at_t : IsSeatAt c i t) where
   kept : IsKept c i t v
   kept = keeps.each i t v below at_t at
 
@@ -132,6 +132,7 @@ module _ (c : CoreState) (k : Setup) (views : List View) (i : ℕ) (v : View) (t
         words = refl;
         geometry = refl;
         budget = refl;
+        carriers = refl;
         blocks = length-set c.blocks.items e.first (record { seat = i; place = place.Held });
         superblocks = refl;
         roots = refl;
@@ -171,9 +172,9 @@ pub record AllocFits (c : CoreState) (class : ℕ) (e : Cache) : Type 0 where
   pub until : e.first < superblocks_end c.geometry.capacity
   pub long : e.first < length c.blocks.items
 
-pub alloc_fits : (c : CoreState) (i class : ℕ) (t : SeatNotes) → IsCore c → i < length c.seats.items → get_or c.seats.items i t ≡ t → Decides c i (λ m v. MayAlloc v class) true → AllocFits c class (get_or t.caches class no_cache)
+pub alloc_fits : (c : CoreState) (i class : ℕ) (t : SeatNotes) → IsCore c → i < length c.seats.items → IsSeatAt c i t → Decides c i (λ m v. MayAlloc v class) true → AllocFits c class (get_or t.caches class no_cache)
 alloc_fits c i class t core less at_t may =
-    let below : i < length core.views = subst (λ n. i < n) (sym core.keeps.seats) less in
+    let below : i < length core.views = among core.keeps less in
     let here = entry_there core.views i below in
     let holds = (may core.setup core.views here.0 core.keeps below here.1).0 refl in
     let range = first_range c core.setup core.views i here.0 t core.keeps below here.1 at_t class holds in

@@ -17,7 +17,7 @@ use Rattle.core_model.specs.View.{Setup, View, times_own, times_raw, times_large
 use Rattle.core_model.specs.Guards.{IsOwn}
 use Rattle.core_model.specs.Sound.{Good, IsCutBlock}
 use Rattle.seat_notes.specs.Superblocks.{usage_for, no_superblock, raw_in, split_in, cutting_in, classed_in, large_in, IsUsage}
-use Rattle.crash_core.specs.Standing.{place_for, no_block, held_in, cached_in, batched_in, IsPlace, IsKept, KeepsViews, memory_at}
+use Rattle.crash_core.specs.Standing.{IsSeatAt, place_for, no_block, held_in, cached_in, batched_in, IsPlace, IsKept, KeepsViews, memory_at}
 use Rattle.core_model.proofs.OwnerLemmas.{in_blocks, covered, which_class}
 use Rattle.crash_core.proofs.StandingLemmas.{memory_in, seat_capacity}
 use Rattle.seat_notes.proofs.WordLemmas.{entry_is}
@@ -25,7 +25,7 @@ use Rattle.seat_notes.proofs.DecisionLemmas.{refused, one_true}
 use Rattle.seat_notes.proofs.BlockRanges.{within_word, in_classes_word}
 
 module _ (c : CoreState) (k : Setup) (views : List View) (i : ℕ) (v : View) (t : SeatNotes) (keeps : KeepsViews c k views) (below : i < length views) (at : get_or views i v ≡ v)
-    (at_t : get_or c.seats.items i t ≡ t) where
+    (at_t : IsSeatAt c i t) where
   kept : IsKept c i t v
   kept = keeps.each i t v below at_t at
 

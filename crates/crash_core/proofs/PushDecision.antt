@@ -13,7 +13,7 @@ use Rattle.core_model.specs.View.{Setup, View, one_if_some, times_classed}
 use Rattle.core_model.specs.Effects.{seen_word, seen_of}
 use Rattle.core_model.specs.Guards.{MayList, as_free, of_its_class, MayPush}
 use Rattle.seat_notes.specs.Superblocks.{usage_for, no_superblock, raw_in, split_in, cutting_in, classed_in}
-use Rattle.crash_core.specs.Standing.{IsKept, KeepsViews, memory_at}
+use Rattle.crash_core.specs.Standing.{IsSeatAt, IsKept, KeepsViews, memory_at}
 use Rattle.crash_core.proofs.StandingLemmas.{memory_in}
 use Rattle.crash_core.proofs.KeptFacts as facts
 
@@ -35,7 +35,7 @@ freely_not_cutting (usage.Classed class) some = refl
 freely_not_cutting (usage.Large count) some = refl
 
 module _ (c : CoreState) (k : Setup) (views : List View) (i : ℕ) (v : View) (t : SeatNotes) (keeps : KeepsViews c k views) (below : i < length views) (at : get_or views i v ≡ v)
-    (at_t : get_or c.seats.items i t ≡ t) (d : ℕ) where
+    (at_t : IsSeatAt c i t) (d : ℕ) where
   kept : IsKept c i t v
   kept = keeps.each i t v below at_t at
 

@@ -6,7 +6,8 @@ use Rattle.core_model.specs.declared.event.Event.{Event}
 use Rattle.crash_core.specs.declared.state.CoreState.{CoreState}
 use Rattle.core_model.specs.View.{Setup}
 use Rattle.core_model.specs.Steps.{TableState, StepsTo, Runs}
-use Rattle.crash_core.specs.Standing.{IsCore, Follows, RunsOn}
+use Rattle.crash_core.specs.Standing.{IsStanding, Follows, RunsOn}
+use Rattle.crash_core.proofs.StandingLemmas.{among}
 
 -- one event more
 runs_more : (k : Setup) (s : TableState) (events : List (ℕ × Event)) (answers : List StepAnswer) (mid : TableState) (e : ℕ × Event) (answer : StepAnswer) (next : TableState) → Runs k s events answers mid → e.0 < length mid.views
@@ -22,19 +23,19 @@ runs_none c = λ k s stands. (s, refl, stands)
 pub runs_on : (old mid new : CoreState) (events : List (ℕ × Event)) (answers : List StepAnswer) (e : ℕ × Event) (answer : StepAnswer) → RunsOn old events answers mid → e.0 < length mid.seats.items → Follows mid e.0 e.1 answer new
     → RunsOn old (events ++ e ∷ []) (answers ++ answer ∷ []) new
 runs_on old mid new events answers e answer runs below follows = λ k s stands. let half = runs k s stands in let next = follows k half.0 half.2 in
-    (next.0, runs_more k s events answers half.0 e answer next.0 half.1 (subst (λ n. e.0 < n) (sym half.2.keeps.seats) below) next.1, next.2)
+    (next.0, runs_more k s events answers half.0 e answer next.0 half.1 (among half.2.keeps below) next.1, next.2)
 
 -- a core that has run some events
 pub record IsRunning (old now : CoreState) (events : List (ℕ × Event)) (answers : List StepAnswer) : Type 0 where
-  pub core : IsCore now
+  pub core : IsStanding now
   pub seats : length now.seats.items ≡ length old.seats.items
   pub runs : RunsOn old events answers now
 
-pub running_start : (c : CoreState) → IsCore c → IsRunning c c [] []
+pub running_start : (c : CoreState) → IsStanding c → IsRunning c c [] []
 running_start c core = record { core = core; seats = refl; runs = runs_none c }
 
 pub running_on : (old mid new : CoreState) (events : List (ℕ × Event)) (answers : List StepAnswer) (i : ℕ) (e : ℕ × Event) (answer : StepAnswer) → IsRunning old mid (take i events) answers → i < length events
-    → get_or events i e ≡ e → e.0 < length mid.seats.items → Follows mid e.0 e.1 answer new → IsCore new → length new.seats.items ≡ length mid.seats.items → IsRunning old new (take (i + 1) events) (answers ++ answer ∷ [])
+    → get_or events i e ≡ e → e.0 < length mid.seats.items → Follows mid e.0 e.1 answer new → IsStanding new → length new.seats.items ≡ length mid.seats.items → IsRunning old new (take (i + 1) events) (answers ++ answer ∷ [])
 running_on old mid new events answers i e answer running less at below follows core seats = record {
   core = core;
   seats = seats ∙ running.seats;

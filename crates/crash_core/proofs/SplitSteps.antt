@@ -18,14 +18,14 @@ use Rattle.core_model.specs.Effects.{steps, cleared, span_count, without_span, a
 use Rattle.core_model.specs.Guards.{MaySplit}
 use Rattle.core_model.specs.Sound.{Good}
 use Rattle.seat_notes.specs.Superblocks.{usage_for, no_superblock, raw_in, split_in, cutting_in, classed_in, class_in, large_in, count_in, IsUsage, IsRange}
-use Rattle.crash_core.specs.Standing.{IsKept, IsCore, KeepsViews, IsMoved, Decides}
+use Rattle.crash_core.specs.Standing.{IsSeatAt, IsKept, IsCore, KeepsViews, IsMoved, Decides}
 use Rattle.seat_notes.specs.Notes.{snapshot}
 use Rattle.core_model.proofs.TotalLemmas.{total_at}
 use Rattle.core_model.proofs.FrameLemmas.{below_not}
 use Rattle.heap_model.proofs.ListLemmas.{times_append}
 use Rattle.core_model.proofs.LinkFrameLemmas.{span_covers}
 use Rattle.core_model.proofs.SpanLemmas.{range_is, range_not, times_range, without_span_is, span_other}
-use Rattle.crash_core.proofs.StandingLemmas.{memory_in, seat_capacity}
+use Rattle.crash_core.proofs.StandingLemmas.{among, memory_in, seat_capacity}
 use Rattle.seat_notes.proofs.UsageLemmas.{usage_alone}
 use Rattle.seat_notes.proofs.RangeLemmas.{range_mine, range_theirs}
 use Rattle.seat_notes.proofs.WordLemmas.{entry_there}
@@ -40,7 +40,7 @@ large_only (usage.Classed class) some = absurd (omega arith)
 large_only (usage.Large count) some = (refl, refl, refl, refl, refl, refl)
 
 module _ (c : CoreState) (k : Setup) (views : List View) (i : ℕ) (v : View) (t : SeatNotes) (keeps : KeepsViews c k views) (below_i : i < length views) (at : get_or views i v ≡ v)
-    (at_t : get_or c.seats.items i t ≡ t) (block : ℕ) where
+    (at_t : IsSeatAt c i t) (block : ℕ) where
   kept : IsKept c i t v
   kept = keeps.each i t v below_i at_t at
 
@@ -110,6 +110,7 @@ module _ (c : CoreState) (k : Setup) (views : List View) (i : ℕ) (v : View) (t
       words = refl;
       geometry = refl;
       budget = refl;
+      carriers = refl;
       blocks = refl;
       superblocks = range.long;
       roots = refl;
@@ -166,9 +167,9 @@ pub record SplitFits (c : CoreState) (i block : ℕ) : Type 0 where
   pub from : start_word c.geometry.capacity 0 ≤ block
   pub range : superblock_at c.geometry.capacity block + count_in (usage_for i (get_or c.superblocks.items (superblock_at c.geometry.capacity block) no_superblock)) ≤ length c.superblocks.items
 
-pub split_fits : (c : CoreState) (i block : ℕ) (t : SeatNotes) → IsCore c → i < length c.seats.items → get_or c.seats.items i t ≡ t → Decides c i (λ m v. MaySplit v block) true → SplitFits c i block
+pub split_fits : (c : CoreState) (i block : ℕ) (t : SeatNotes) → IsCore c → i < length c.seats.items → IsSeatAt c i t → Decides c i (λ m v. MaySplit v block) true → SplitFits c i block
 split_fits c i block t core less at_t may =
-    let below_i : i < length core.views = subst (λ n. i < n) (sym core.keeps.seats) less in
+    let below_i : i < length core.views = among core.keeps less in
     let here = entry_there core.views i below_i in
     let holds = (may core.setup core.views here.0 core.keeps below_i here.1).0 refl in
     let f = split_first c core.setup core.views i here.0 t core.keeps below_i here.1 at_t block holds in

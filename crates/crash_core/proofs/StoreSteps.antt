@@ -22,7 +22,7 @@ use Rattle.crash_core.specs.OwnWords.{IsPlain}
 use Rattle.core_model.specs.Sound.{Good}
 use Rattle.seat_notes.specs.Notes.{HasBatch}
 use Rattle.seat_notes.specs.Superblocks.{usage_for, no_superblock, anchored, split_in, cutting_in, classed_in, class_in, large_in, count_in, IsUsage, HasSuperblocks}
-use Rattle.crash_core.specs.Standing.{place_for, cached_in, batched_in, no_block, IsKept, KeepsViews, Steps, memory_at}
+use Rattle.crash_core.specs.Standing.{IsAmong, IsSeatAt, place_for, cached_in, batched_in, no_block, IsKept, KeepsViews, Steps, memory_at}
 use Rattle.core_model.proofs.SoundLemmas.{in_table}
 use Rattle.core_model.proofs.PlaceLemmas.{index_at}
 use Rattle.core_model.proofs.TotalLemmas.{eq-eqb-one, ne-eqb-none}
@@ -117,7 +117,7 @@ anchored_going base d zero = refl
 anchored_going base d (suc value) = refl
 
 module _ (c : CoreState) (k : Setup) (views : List View) (i : ℕ) (v : View) (t : SeatNotes) (keeps : KeepsViews c k views) (below : i < length views) (at : get_or views i v ≡ v)
-    (at_t : get_or c.seats.items i t ≡ t) (going : v.stopped ≡ None) where
+    (at_t : IsSeatAt c i t) (going : v.stopped ≡ None) where
   kept : IsKept c i t v
   kept = keeps.each i t v below at_t at
 
@@ -150,7 +150,7 @@ module _ (c : CoreState) (k : Setup) (views : List View) (i : ℕ) (v : View) (t
 
     store_as : (c' : CoreState) (t' : SeatNotes) → IsThere v.ticket → IsOwn v (cell_at v.setup.capacity word) → MayStore (memory_in c k) v cell value
         → c'.words.items ≡ set c.words.items word value → c'.seats.items ≡ set c.seats.items i t' → IsSameHeap c c' → (stored base cell value).stopped ≡ None → IsKept c' i t' (stored base cell value)
-        → ((j : ℕ) (s : SeatNotes) (u : View) → j ≢ i → HasNoMore views u → IsKept c j s u → IsKept c' j s u)
+        → ((j : ℕ) (s : SeatNotes) (u : View) → j ≢ i → IsAmong views j u → IsKept c j s u → IsKept c' j s u)
         → Steps c c' k views i v (Store word value) Done
     store_as c' t' ticket own may words seats same on mine others =
         step_done c c' k views i v t t' (Store word value) keeps below at at_t going ticket (own, subst (λ x. MayStore (memory_in c k) v x value) (sym cell_is) may) tt
@@ -171,12 +171,12 @@ module _ (c : CoreState) (k : Setup) (views : List View) (i : ℕ) (v : View) (t
       roots = kept.roots;
     }
 
-    others_base : (j : ℕ) (s : SeatNotes) (u : View) → j ≢ i → HasNoMore views u → IsKept c j s u → IsKept plainly j s u
+    others_base : (j : ℕ) (s : SeatNotes) (u : View) → j ≢ i → IsAmong views j u → IsKept c j s u → IsKept plainly j s u
     others_base j s u other most h = record { notes = h.notes; caches = h.caches; batch = h.batch; blocks = h.blocks; superblocks = h.superblocks; roots = h.roots }
 
     pub plain : IsThere v.ticket → IsOwn v (cell_at v.setup.capacity word) → IsPlain cell → Steps c plainly k views i v (Store word value) Done
     plain ticket own plain_cell = store_as plainly (record t { ticket = None }) ticket own (plain_may (memory_in c k) v cell value plain_cell) refl refl
-        (record { capacity = refl; budget = refl; opened = refl; blocks = refl; superblocks = refl; roots = refl })
+        (record { capacity = refl; budget = refl; carriers = refl; blocks = refl; superblocks = refl; roots = refl })
         (ap (λ (y : View). y.stopped) (plain_same base cell value plain_cell) ∙ going)
         (subst (IsKept plainly i (record t { ticket = None })) (sym (plain_same base cell value plain_cell)) kept_base) others_base
 
@@ -184,7 +184,7 @@ module _ (c : CoreState) (k : Setup) (views : List View) (i : ℕ) (v : View) (t
       → Steps c (record c { words = with_item c.words word value; seats = with_item c.seats i (record t { ticket = None }) }) k views i v (Store word value) Done
   link word value d is ticket own x x_is none = store_as word value (link_cell d) is _ (record t { ticket = None }) ticket own
       ((kept.superblocks d).is_cutting ∙ ap cutting_in (sym x_is) ∙ none) refl refl
-      (record { capacity = refl; budget = refl; opened = refl; blocks = refl; superblocks = refl; roots = refl }) going (kept_base word value (link_cell d) is) (others_base word value (link_cell d) is)
+      (record { capacity = refl; budget = refl; carriers = refl; blocks = refl; superblocks = refl; roots = refl }) going (kept_base word value (link_cell d) is) (others_base word value (link_cell d) is)
 
   pub no_link : (word value d : ℕ) → cell_at c.geometry.capacity word ≡ link_cell d → (x : SuperblockUsage) → x ≡ usage_for i (get_or c.superblocks.items d no_superblock) → 0 < cutting_in x → Steps c c k views i v (Store word value) NotNow
   no_link word value d is x x_is some = not_stored word value (link_cell d) is (λ none. let o = (kept.superblocks d).is_cutting in let e = ap cutting_in x_is in omega arith)
@@ -194,7 +194,7 @@ module _ (c : CoreState) (k : Setup) (views : List View) (i : ℕ) (v : View) (t
       → Steps c (record c { words = with_item c.words word value; seats = with_item c.seats i (record t { ticket = None; batch = b }) }) k views i v (Store word value) Done
   data_stored word value b is ticket own may b_is = store_as word value (data_cell word) is (record c { words = with_item c.words word value; seats = with_item c.seats i (record t { ticket = None; batch = b }) })
       (record t { ticket = None; batch = b }) ticket own may refl refl
-      (record { capacity = refl; budget = refl; opened = refl; blocks = refl; superblocks = refl; roots = refl }) going
+      (record { capacity = refl; budget = refl; carriers = refl; blocks = refl; superblocks = refl; roots = refl }) going
       (record {
         notes = (let n = kept.notes in record { ticket = refl; stopped = n.stopped; seen_used = n.seen_used; seen_head = n.seen_head; seen_link = n.seen_link; seen_anchor = n.seen_anchor });
         caches = kept.caches;
@@ -209,7 +209,7 @@ module _ (c : CoreState) (k : Setup) (views : List View) (i : ℕ) (v : View) (t
   pub anchor_stored : (word value d : ℕ) (x : SuperblockUsage) → cell_at c.geometry.capacity word ≡ anchor_cell d → d < c.geometry.capacity → IsThere v.ticket → IsOwn v (cell_at v.setup.capacity word) → MayAnchor (memory_in c k) v d value → x ≡ anchored value
       → Steps c (record c { words = with_item c.words word value; superblocks = with_item c.superblocks d (record { seat = i; usage = x }); seats = with_item c.seats i (record t { ticket = None }) }) k views i v (Store word value) Done
   anchor_stored word value d x is less ticket own may x_is = store_as word value (anchor_cell d) is c' (record t { ticket = None }) ticket own may refl refl
-      (record { capacity = refl; budget = refl; blocks = refl; superblocks = length-set c.superblocks.items d (record { seat = i; usage = x }); roots = refl })
+      (record { capacity = refl; budget = refl; carriers = refl; blocks = refl; superblocks = length-set c.superblocks.items d (record { seat = i; usage = x }); roots = refl })
       (anchored_going (base word value (anchor_cell d) is) d value ∙ going) (mine value x_is)
       (λ j s u other most h. record {
         notes = h.notes;
@@ -253,7 +253,7 @@ module _ (c : CoreState) (k : Setup) (views : List View) (i : ℕ) (v : View) (t
         }
 
 module _ (c : CoreState) (k : Setup) (views : List View) (i : ℕ) (v : View) (t : SeatNotes) (keeps : KeepsViews c k views) (below : i < length views) (at : get_or views i v ≡ v)
-    (at_t : get_or c.seats.items i t ≡ t) where
+    (at_t : IsSeatAt c i t) where
   kept_now : IsKept c i t v
   kept_now = keeps.each i t v below at_t at
 

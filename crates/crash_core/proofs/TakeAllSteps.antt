@@ -23,12 +23,12 @@ use Rattle.core_model.specs.Sound.{tally_of, times_cut, IsAnchoredBy, IsCutBlock
 use Rattle.core_model.specs.Steps.{seat_after}
 use Rattle.seat_notes.specs.Superblocks.{usage_for, no_superblock, classed_in, IsUsage}
 use Rattle.seat_notes.specs.Notes.{HasCaches}
-use Rattle.crash_core.specs.Standing.{HasBlocksOf, HasNewOwner, IsKept, IsCore, KeepsViews, Steps, Decides, memory_at}
+use Rattle.crash_core.specs.Standing.{IsSeatAt, HasBlocksOf, HasNewOwner, IsKept, IsCore, KeepsViews, Steps, Decides, memory_at}
 use Rattle.core_model.proofs.SoundLemmas.{taken}
 use Rattle.core_model.proofs.PlaceLemmas.{pick}
 use Rattle.core_model.proofs.BlockLemmas.{walks_chain}
 use Rattle.core_model.proofs.TotalLemmas.{total_at}
-use Rattle.crash_core.proofs.StandingLemmas.{step_done, step_not, memory_in}
+use Rattle.crash_core.proofs.StandingLemmas.{among, step_done, step_not, memory_in}
 use Rattle.seat_notes.proofs.UsageLemmas.{usages_theirs, usage_alone}
 use Rattle.crash_core.proofs.ClaimLemmas.{class_given_up}
 use Rattle.crash_core.proofs.KeptFacts as facts
@@ -37,7 +37,7 @@ use Rattle.crash_core.proofs.ChainSteps.{chain_is, block_fits, none_of, walk_fir
 use Rattle.seat_notes.proofs.WordLemmas.{entry_is, entry_there}
 
 module _ (c : CoreState) (k : Setup) (views : List View) (i : ℕ) (v : View) (t : SeatNotes) (keeps : KeepsViews c k views) (below : i < length views) (at : get_or views i v ≡ v)
-    (at_t : get_or c.seats.items i t ≡ t) (d : ℕ) where
+    (at_t : IsSeatAt c i t) (d : ℕ) where
   kept : IsKept c i t v
   kept = keeps.each i t v below at_t at
 
@@ -174,7 +174,7 @@ module _ (c : CoreState) (k : Setup) (views : List View) (i : ℕ) (v : View) (t
         take_all going ticket first count first_is count_is blocks given at_word full here full_is =
             step_done c c' k views i v t t' (TakeAll d) keeps below at at_t going ticket may as_seen (ap (λ (y : View). y.stopped) seat_is ∙ going)
             (ap₂ (set c.words.items) here (full_is ∙ sym (pick (nat_eq (anchor (memory_in c k) d) (seen_word v.seen_anchor)) full_anchor (anchor (memory_in c k) d) test)))
-            refl (record { capacity = refl; budget = refl; blocks = given.long; superblocks = length-set c.superblocks.items d (record { seat = i; usage = usage.Nothing }); roots = refl })
+            refl (record { capacity = refl; budget = refl; carriers = refl; blocks = given.long; superblocks = length-set c.superblocks.items d (record { seat = i; usage = usage.Nothing }); roots = refl })
             (subst (IsKept c' i t') (sym seat_is) (record {
               notes = (let n = kept.notes in record { ticket = refl; stopped = n.stopped; seen_used = n.seen_used; seen_head = n.seen_head; seen_link = n.seen_link; seen_anchor = refl });
               caches = subst (HasCaches (set t.caches class (record { first = first; count = count }))) (sym caches_are)
@@ -184,11 +184,11 @@ module _ (c : CoreState) (k : Setup) (views : List View) (i : ℕ) (v : View) (t
               superblocks = class_given_up c.superblocks.items i d v.raw v.split v.cutting v.classed v.large long may.claimed kept.superblocks;
               roots = kept.roots;
             }))
-            (λ j r u other b a h. record {
+            (λ j r u other most h. record {
               notes = h.notes;
               caches = h.caches;
               batch = h.batch;
-              blocks = blocks_theirs c k views i v t keeps below at at_t class less cs empty free blocks.items given_cs j r u other b a h;
+              blocks = blocks_theirs c k views i v t keeps below at at_t class less cs empty free blocks.items given_cs j r u other most h;
               superblocks = usages_theirs c.superblocks.items i j d usage.Nothing (λ e y. IsUsage e y u.raw u.split u.cutting u.classed u.large) long other (usage_alone i j (get_or c.superblocks.items d no_superblock) other mine) h.superblocks;
               roots = h.roots;
             })
@@ -226,10 +226,10 @@ pub record TakeFits (c : CoreState) (d found class : ℕ) : Type 0 where
   pub inside : (first count : ℕ) → first ≡ start_word c.geometry.capacity d + anchor_first found * words_of_class class → count ≡ anchor_count found
       → (b : ℕ) → 0 < times b (chain (λ n. get_or c.words.items n 0) first count) → (b < length c.blocks.items) × (b < length c.words.items)
 
-pub take_fits : (c : CoreState) (i d : ℕ) (t : SeatNotes) (word : Seen) (found class : ℕ) → IsCore c → i < length c.seats.items → get_or c.seats.items i t ≡ t → t.seen_anchor ≡ Some word → Decides c i (λ m v. MayTakeAll v d) true
+pub take_fits : (c : CoreState) (i d : ℕ) (t : SeatNotes) (word : Seen) (found class : ℕ) → IsCore c → i < length c.seats.items → IsSeatAt c i t → t.seen_anchor ≡ Some word → Decides c i (λ m v. MayTakeAll v d) true
     → found ≡ anchor (memory_at c) d → found ≡ word.word → class ≡ info (memory_at c) d → TakeFits c d found class
 take_fits c i d t word found class core less at_t some decides found_is as_it_was class_is =
-    let below : i < length core.views = subst (λ n. i < n) (sym core.keeps.seats) less in
+    let below : i < length core.views = among core.keeps less in
     let here = entry_there core.views i below in
     let may = (decides core.setup core.views here.0 core.keeps below here.1).0 refl in record {
       is_class = class_fits c core.setup core.views i here.0 t core.keeps below here.1 at_t d word some may found found_is as_it_was class class_is;
@@ -237,7 +237,7 @@ take_fits c i d t word found class core less at_t some decides found_is as_it_wa
     }
 
 -- the class fits where the claim has one
-pub class_below : (c : CoreState) (i d : ℕ) (t : SeatNotes) (class : ℕ) → IsCore c → i < length c.seats.items → get_or c.seats.items i t ≡ t → 0 < classed_in (usage_for i (get_or c.superblocks.items d no_superblock)) → class ≡ info (memory_at c) d → class < lists
+pub class_below : (c : CoreState) (i d : ℕ) (t : SeatNotes) (class : ℕ) → IsCore c → i < length c.seats.items → IsSeatAt c i t → 0 < classed_in (usage_for i (get_or c.superblocks.items d no_superblock)) → class ≡ info (memory_at c) d → class < lists
 class_below c i d t class core less at_t some class_is =
-    let below : i < length core.views = subst (λ n. i < n) (sym core.keeps.seats) less in
+    let below : i < length core.views = among core.keeps less in
     let here = entry_there core.views i below in take_class c core.setup core.views i here.0 t core.keeps below here.1 at_t d some class class_is

@@ -18,11 +18,11 @@ use Rattle.core_model.specs.View.{Setup, View}
 use Rattle.core_model.specs.Effects.{drew, stopped, shifted}
 use Rattle.core_model.specs.Guards.{MayShift, MayFree}
 use Rattle.core_model.specs.Steps.{seat_after}
-use Rattle.crash_core.specs.Standing.{held_in, place_for, no_block, HasBlocksOf, HasRoots, IsKept, IsCore, KeepsViews, IsMoved, Moves, Decides, Steps, steps_stopped}
+use Rattle.crash_core.specs.Standing.{IsSeatAt, held_in, place_for, no_block, HasBlocksOf, HasRoots, IsKept, IsCore, KeepsViews, IsMoved, Moves, Decides, Steps, steps_stopped}
 use Rattle.seat_notes.specs.Superblocks.{HasSuperblocks}
 use Rattle.core_model.proofs.PlaceLemmas.{pick, skip, not-lt}
 use Rattle.core_model.proofs.OwnerLemmas.{in_lists_total}
-use Rattle.crash_core.proofs.StandingLemmas.{step_done, may_step, memory_in, stands_after}
+use Rattle.crash_core.proofs.StandingLemmas.{seat_is, among, step_done, may_step, memory_in, stands_after}
 use Rattle.seat_notes.proofs.WordLemmas.{entry_there}
 use Rattle.crash_core.proofs.WordSteps.{drawn_is, drawn_more}
 use Rattle.seat_notes.proofs.DecisionLemmas.{going_on}
@@ -35,12 +35,12 @@ set_twice (x ∷ xs) (suc i) a b = ap (λ l. x ∷ l) (set_twice xs i a b)
 -- a block that may be freed is held
 pub free_held : (c : CoreState) (i block : ℕ) → IsCore c → i < length c.seats.items → Decides c i (λ m v. MayFree m v block) true → 0 < held_in (place_for i (get_or c.blocks.items block no_block))
 free_held c i block core less decides =
-    let below : i < length core.views = subst (λ n. i < n) (sym core.keeps.seats) less in
+    let below : i < length core.views = among core.keeps less in
     let here = entry_there core.views i below in
     let seat = entry_there c.seats.items i less in
     let may = (decides core.setup core.views here.0 core.keeps below here.1).0 refl in
     let s = in_lists_total block (info (memory_in c core.setup) (superblock_at here.0.setup.capacity block)) here.0.small may.held in
-    let o = ((core.keeps.each i seat.0 here.0 below seat.1 here.1).blocks block).held in omega arith
+    let o = ((core.keeps.each i seat.0 here.0 below (seat_is less seat.1) here.1).blocks block).held in omega arith
 
 -- a change says nothing of a ticket
 kept_with : (c c' : CoreState) (i : ℕ) (t : SeatNotes) (m : Memory) (v : View) (shift : Shift) (found ticket : ℕ) → c'.blocks.items ≡ c.blocks.items → c'.superblocks.items ≡ c.superblocks.items → c'.roots.items ≡ c.roots.items
@@ -97,7 +97,7 @@ kept_with c c' i t m v shift found ticket blocks superblocks roots is kept = by_
   }
 
 module _ (c : CoreState) (k : Setup) (views : List View) (i : ℕ) (v : View) (t : SeatNotes) (keeps : KeepsViews c k views) (below : i < length views) (at : get_or views i v ≡ v)
-    (at_t : get_or c.seats.items i t ≡ t) (shift : Shift) (may : MayShift (memory_in c k) v (Some shift)) (at_word ticket : ℕ) (here : at_word ≡ 2 * image_words c.geometry.capacity) (is : ticket ≡ get_or c.words.items at_word ticket) where
+    (at_t : IsSeatAt c i t) (shift : Shift) (may : MayShift (memory_in c k) v (Some shift)) (at_word ticket : ℕ) (here : at_word ≡ 2 * image_words c.geometry.capacity) (is : ticket ≡ get_or c.words.items at_word ticket) where
   kept : IsKept c i t v
   kept = keeps.each i t v below at_t at
 
@@ -112,7 +112,7 @@ module _ (c : CoreState) (k : Setup) (views : List View) (i : ℕ) (v : View) (t
   stop_with going past = steps_stopped ticket (record { may = may_step (memory_in c k) v (Tick (Some shift)) going tt may; as_seen = tt })
       (ap (λ (y : View). y.stopped) at_end ∙ ap Some found)
       (stands_after c c' k views i v t t' (Tick (Some shift)) keeps below at at_t (may_step (memory_in c k) v (Tick (Some shift)) going tt may) (drawn_more c k views keeps at_word ticket here is) refl
-      (record { capacity = refl; budget = refl; opened = refl; blocks = refl; superblocks = refl; roots = refl })
+      (record { capacity = refl; budget = refl; carriers = refl; blocks = refl; superblocks = refl; roots = refl })
       (subst (IsKept c' i t') (sym at_end) (record {
         notes = (let n = kept.notes in record { ticket = refl; stopped = ap Some found; seen_used = n.seen_used; seen_head = n.seen_head; seen_link = n.seen_link; seen_anchor = n.seen_anchor });
         caches = kept.caches;
@@ -137,7 +137,7 @@ module _ (c : CoreState) (k : Setup) (views : List View) (i : ℕ) (v : View) (t
       (ap (λ (y : View). y.stopped) drawn ∙ going_on (memory_in c k) v shift (memory_in c k).drawn ∙ going)
       (ap (λ (ws : Vec ℕ Global). set ws.items at_word (ticket + 1)) moved.words ∙ (drawn_more c k views keeps at_word ticket here is))
       (ap (λ l. set l i t') moved.seats ∙ set_twice c.seats.items i moved.after t')
-      (record { capacity = ap (λ (g : Geometry). g.capacity) moved.geometry; budget = moved.budget; blocks = moved.blocks; superblocks = moved.superblocks; roots = moved.roots })
+      (record { capacity = ap (λ (g : Geometry). g.capacity) moved.geometry; budget = moved.budget; carriers = moved.carriers; blocks = moved.blocks; superblocks = moved.superblocks; roots = moved.roots })
       (subst (IsKept c' i t') (sym drawn) (kept_with new c' i changed (memory_in c k) v shift (memory_in c k).drawn ticket refl refl refl found (subst (λ s. IsKept new i s (shifted (memory_in c k) v (Some shift))) (sym is_after) moved.mine)))
       (λ j s u other most h. let o = moved.others j s u other most h in record { notes = o.notes; caches = o.caches; batch = o.batch; blocks = o.blocks; superblocks = o.superblocks; roots = o.roots }) where
         t' : SeatNotes
@@ -147,7 +147,7 @@ module _ (c : CoreState) (k : Setup) (views : List View) (i : ℕ) (v : View) (t
         c' = record new { words = with_item new.words at_word (ticket + 1); seats = with_item new.seats i t' }
 
         is_after : changed ≡ moved.after
-        is_after = changed_is ∙ ap (λ l. get_or l i changed) moved.seats ∙ get_or-set_same c.seats.items i moved.after changed (subst (λ n. i < n) keeps.seats below)
+        is_after = changed_is ∙ ap (λ l. get_or l i changed) moved.seats ∙ get_or-set_same c.seats.items i moved.after changed at_t.less
 
         drawn : seat_after (memory_in c k) v (Tick (Some shift)) ≡ shifted (memory_in c k) (drew v (memory_in c k).drawn) (Some shift)
         drawn = pick (nat_lt (memory_in c k).drawn v.setup.budget) (shifted (memory_in c k) (drew v (memory_in c k).drawn) (Some shift)) (stopped v (memory_in c k).drawn) (lt-ltb (memory_in c k).drawn v.setup.budget (let f = found in let b = budget_is in omega arith))
@@ -159,9 +159,9 @@ pub record HasSameLengths (old new : CoreState) : Type 0 where
 
 pub same_lengths : (c new : CoreState) (i : ℕ) (change : Memory → View → View) → IsCore c → i < length c.seats.items → Moves c i change new → HasSameLengths c new
 same_lengths c new i change core less moves =
-    let below : i < length core.views = subst (λ n. i < n) (sym core.keeps.seats) less in
+    let below : i < length core.views = among core.keeps less in
     let here = entry_there core.views i below in let seat = entry_there c.seats.items i less in
-    let moved = moves core.setup core.views here.0 seat.0 core.keeps below here.1 seat.1 in record {
+    let moved = moves core.setup core.views here.0 seat.0 core.keeps below here.1 (seat_is less seat.1) in record {
       words = ap (λ (ws : Vec ℕ Global). length ws.items) moved.words;
       seats = ap length moved.seats ∙ length-set c.seats.items i moved.after;
     }

@@ -14,7 +14,7 @@ use Rattle.core_model.specs.Effects.{drew, stopped}
 use Rattle.core_model.specs.Guards.{IsThere, IsOwn}
 use Rattle.core_model.specs.Sound.{Good}
 use Rattle.core_model.specs.Steps.{seat_after}
-use Rattle.crash_core.specs.Standing.{IsKept, IsCore, KeepsViews, Steps, steps_stopped}
+use Rattle.crash_core.specs.Standing.{IsSeatAt, IsKept, IsCore, KeepsViews, Steps, steps_stopped}
 use Rattle.seat_notes.specs.Notes.{HasNotes}
 use Rattle.core_model.proofs.StepLemmas.{parts}
 use Rattle.core_model.proofs.SoundLemmas.{in_table, own_cell}
@@ -24,7 +24,7 @@ use Rattle.seat_notes.proofs.WordLemmas.{entry_is, read_is, put_back}
 use Rattle.seat_notes.proofs.CountLemmas.{stopped_most}
 
 -- the ticket word does not overflow
-pub ticket_fits : (c : CoreState) (at_word ticket : ℕ) → IsCore c → at_word ≡ 2 * image_words c.geometry.capacity → ticket ≡ get_or c.words.items at_word ticket → ticket < 1099511627785
+pub ticket_fits : (c : CoreState) (at_word ticket : ℕ) → IsCore c → at_word ≡ 2 * image_words c.geometry.capacity → ticket ≡ get_or c.words.items at_word ticket → ticket < 9223372036854775808
 ticket_fits c at_word ticket core here is =
     let k = core.keeps in let cap = k.capacity in let l = k.sound.long in
     let now : get_or c.words.items (2 * image_words core.setup.capacity) 0 ≡ ticket = ap (λ n. get_or c.words.items n 0) (let e : 2 * image_words core.setup.capacity ≡ at_word = omega arith in e) ∙ entry_is c.words.items at_word 0 ticket (omega arith) ∙ sym is in
@@ -42,7 +42,7 @@ module _ (c : CoreState) (k : Setup) (views : List View) (keeps : KeepsViews c k
   drawn_more = ap₂ (λ n x. set c.words.items n (x + 1)) (sym index) (sym drawn_is)
 
 module _ (c : CoreState) (k : Setup) (views : List View) (i : ℕ) (v : View) (t : SeatNotes) (keeps : KeepsViews c k views) (below : i < length views) (at : get_or views i v ≡ v)
-    (at_t : get_or c.seats.items i t ≡ t) (going : v.stopped ≡ None) where
+    (at_t : IsSeatAt c i t) (going : v.stopped ≡ None) where
   kept : IsKept c i t v
   kept = keeps.each i t v below at_t at
 
@@ -70,8 +70,8 @@ module _ (c : CoreState) (k : Setup) (views : List View) (i : ℕ) (v : View) (t
       → Steps c (record c { words = with_item c.words at_word found }) k views i v (Settle word) Done
   settle word at_word found own here is = step_done c (record c { words = with_item c.words at_word found }) k views i v t t (Settle word) keeps below at at_t going tt own tt going
       (ap₂ (λ n x. set c.words.items n x) (let e = own_index word own in let g = keeps.capacity in omega arith) found_is)
-      (sym (ap (set c.seats.items i) (sym at_t) ∙ set-get_or c.seats.items i t))
-      (record { capacity = refl; budget = refl; opened = refl; blocks = refl; superblocks = refl; roots = refl })
+      (sym (ap (set c.seats.items i) (sym at_t.at) ∙ set-get_or c.seats.items i t))
+      (record { capacity = refl; budget = refl; carriers = refl; blocks = refl; superblocks = refl; roots = refl })
       (record {
         notes = (let n = kept.notes in record { ticket = n.ticket; stopped = n.stopped; seen_used = n.seen_used; seen_head = n.seen_head; seen_link = n.seen_link; seen_anchor = n.seen_anchor });
         caches = kept.caches;
@@ -104,7 +104,7 @@ module _ (c : CoreState) (k : Setup) (views : List View) (i : ℕ) (v : View) (t
     stop past = steps_stopped ticket (record { may = may_step (memory_in c k) v (Tick None) going tt tt; as_seen = tt })
         (ap (λ (y : View). y.stopped) at_end ∙ ap Some found)
         (stands_after c c' k views i v t t' (Tick None) keeps below at at_t (may_step (memory_in c k) v (Tick None) going tt tt) (drawn_more c k views keeps at_word ticket here is) refl
-        (record { capacity = refl; budget = refl; opened = refl; blocks = refl; superblocks = refl; roots = refl })
+        (record { capacity = refl; budget = refl; carriers = refl; blocks = refl; superblocks = refl; roots = refl })
         (subst (IsKept c' i t') (sym at_end) (record {
           notes = (let n = kept.notes in record { ticket = refl; stopped = ap Some found; seen_used = n.seen_used; seen_head = n.seen_head; seen_link = n.seen_link; seen_anchor = n.seen_anchor });
           caches = kept.caches;

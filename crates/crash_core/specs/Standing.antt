@@ -1,5 +1,5 @@
 -- What the core keeps of a state: the words themselves; by seat its tickets and snapshots, and the ends of its caches and of its batch; and whose each block, superblock and root is.
-use Rattle.std.specs.Prelude.{◌≡◌, ◌≢◌, ◌⊎◌, ℕ, ◌+◌, ◌<◌, ◌≤◌, ◌↔◌, Bool, true, cond, nat_eq, List, get_or, set, length, Option, None, Some, ⊤}
+use Rattle.std.specs.Prelude.{◌≡◌, ◌≢◌, ◌⊎◌, ℕ, ◌+◌, ◌<◌, ◌≤◌, ◌↔◌, Bool, true, cond, nat_eq, List, [], get_or, set, length, Option, None, Some, ⊤}
 use Rattle.heap_model.specs.Counting.{times, total, one_if}
 use Rattle.heap_model.specs.Geometry.{roots, image_words}
 use Rattle.core_model.specs.declared.answer.StepAnswer.{StepAnswer}
@@ -10,10 +10,16 @@ use Rattle.crash_core.specs.declared.owners.BlockPlace.{BlockPlace}
 use Rattle.crash_core.specs.declared.owners.BlockPlace.TheVariants as place
 use Rattle.crash_core.specs.declared.owners.BlockOwner.{BlockOwner}
 use Rattle.seat_notes.specs.declared.notes.SeatNotes.{SeatNotes}
+use Rattle.seat_notes.specs.declared.notes.TheConstants.{NEW_SEAT}
 use Rattle.crash_core.specs.declared.state.CoreState.{CoreState}
+use Rattle.heap_model.specs.declared.block.Block.{Block}
 use Rattle.heap_model.specs.Words.{anchor_state, empty_state, large_info}
 use Rattle.core_model.specs.Memory.{Memory, memory_of, info, anchor, durable_info}
-use Rattle.core_model.specs.View.{Setup, View}
+use Rattle.core_model.specs.Carriers.{AreSeatsAndCarriers, IsCarrier, IsEmptied}
+use Rattle.core_model.specs.Handing.{AcceptsTo, OffersTo}
+use Rattle.core_model.specs.Held.{IsHeld}
+use Rattle.core_model.specs.Opening.{plain_view}
+use Rattle.core_model.specs.View.{Setup, View, times_block, times_classed, times_large, times_raw}
 use Rattle.core_model.specs.Guards.{IsThere, HasTicketFor, MayDo}
 use Rattle.core_model.specs.Sound.{Sound}
 use Rattle.core_model.specs.Steps.{TableState, StepsTo, Runs, state_after, seat_after}
@@ -64,24 +70,63 @@ pub record IsKept (c : CoreState) (i : ℕ) (t : SeatNotes) (v : View) : Type 0 
   pub superblocks : HasSuperblocks c.superblocks.items i v.raw v.split v.cutting v.classed v.large
   pub roots : HasRoots c.roots.items i v.roots
 
--- what is kept of the words and of each view of a sound state
+-- nothing of the heap is in the view
+pub record HasNothing (u : View) : Type 0 where
+  pub blocks : (b : ℕ) → times_block b u ≡ 0
+  pub superblocks : (d : ℕ) → (times_raw d u ≡ 0) × (times_classed d u.classed ≡ 0) × (times_large d u.large ≡ 0)
+
+-- it is the view at the index, or has nothing
+abbrev pub IsAmong : List View → ℕ → View → Type 0
+IsAmong views j u = ((j < length views) × (get_or views j u ≡ u)) ⊎ HasNothing u
+
+-- seat i has the notes
+pub record IsSeatAt (c : CoreState) (i : ℕ) (t : SeatNotes) : Type 0 where
+  pub less : i < length c.seats.items
+  pub at : get_or c.seats.items i t ≡ t
+
+-- a view that has nothing, of a seat or a carrier that is not there
+abbrev pub nobody : Setup → View
+nobody k = plain_view k [] []
+
+-- what is kept of the words and of each view of a sound state: of the opened seats, and behind them of the carriers
 pub record KeepsViews (c : CoreState) (k : Setup) (views : List View) : Type 0 where
   pub sound : Sound k c.words.items views
   pub capacity : k.capacity ≡ c.geometry.capacity
   pub budget : k.budget ≡ c.budget
+  pub opened : k.seats ≡ length c.seats.items
   pub low : k.budget < 1099511627776
-  pub few : length views ≤ 8
-  pub seats : length views ≡ length c.seats.items
+  pub few : length views < 4611686018427387904
+  pub seats : length views ≡ length c.seats.items + c.carriers
   pub blocks : length c.blocks.items ≡ image_words k.capacity
   pub superblocks : length c.superblocks.items ≡ k.capacity
   pub roots : length c.roots.items ≡ roots
-  pub each : (i : ℕ) (t : SeatNotes) (v : View) → i < length views → get_or c.seats.items i t ≡ t → get_or views i v ≡ v
-      → IsKept c i t v
+  pub each : (i : ℕ) (t : SeatNotes) (v : View) → i < length views → IsSeatAt c i t → get_or views i v ≡ v → IsKept c i t v
+  pub carried : (j : ℕ) (u : View) → length c.seats.items ≤ j → j < length views → get_or views j u ≡ u → IsKept c j NEW_SEAT u
+  pub none : (j : ℕ) → length views ≤ j → IsKept c j NEW_SEAT (nobody k)
+
+-- the core keeps the words and the views of the state
+pub record KeepsState (c : CoreState) (k : Setup) (s : TableState) : Type 0 where
+  pub words : c.words.items ≡ s.words
+  pub keeps : KeepsViews c k s.views
+
+-- a carrier that has a block
+pub record IsLaden (u : View) : Type 0 where
+  pub carrier : IsCarrier u
+  pub block : Block
+  pub holds : IsHeld u block
+
+-- the seats come first, and behind them each carrier, with its block or with nothing
+pub record AreInOrder (k : Setup) (views : List View) : Type 0 where
+  pub counted : AreSeatsAndCarriers k views
+  pub all : k.seats ≤ length views
+  pub first : (i : ℕ) (v : View) → i < k.seats → get_or views i v ≡ v → v.carries ≡ 0
+  pub behind : (j : ℕ) (u : View) → k.seats ≤ j → j < length views → get_or views j u ≡ u → IsLaden u ⊎ IsEmptied u
 
 -- the core stands for the state
 pub record StandsFor (c : CoreState) (k : Setup) (s : TableState) : Type 0 where
   pub words : c.words.items ≡ s.words
   pub keeps : KeepsViews c k s.views
+  pub order : AreInOrder k s.views
 
 -- the blocks of a list have another owner, and all others stay
 pub record HasNewOwner (old new : List BlockOwner) (blocks : List ℕ) (owner : BlockOwner) : Type 0 where
@@ -93,24 +138,30 @@ pub record HasNewOwner (old new : List BlockOwner) (blocks : List ℕ) (owner : 
 abbrev pub memory_at : CoreState → Memory
 memory_at c = memory_of c.geometry.capacity c.words.items
 
--- some state is there that it stands for
+-- some state is there that it keeps
 pub record IsCore (c : CoreState) : Type 0 where
   pub setup : Setup
   pub views : List View
   pub keeps : KeepsViews c setup views
 
+-- some state is there that it stands for
+pub record IsStanding (c : CoreState) : Type 0 where
+  pub setup : Setup
+  pub state : TableState
+  pub stands : StandsFor c setup state
+
 -- the state that the words and views are
 abbrev pub state_of : CoreState → List View → TableState
 state_of c views = record { words = c.words.items; views = views }
 
--- of each state that the core stands for, the answer is what its step has, and then it stands for the state after the step
+-- of each state that the core keeps, the answer is what its step has, and then it keeps the state after the step
 pub data Steps (old new : CoreState) (k : Setup) (views : List View) (i : ℕ) (v : View) (event : Event) : StepAnswer → Type 0 where
   steps_done : MayDo (memory_of k.capacity old.words.items) v event
       → (seat_after (memory_of k.capacity old.words.items) v event).stopped ≡ None
-      → StandsFor new k (state_after k (state_of old views) i v event) → Steps old new k views i v event Done
+      → KeepsState new k (state_after k (state_of old views) i v event) → Steps old new k views i v event Done
   steps_stopped : (step : ℕ) → MayDo (memory_of k.capacity old.words.items) v event
       → (seat_after (memory_of k.capacity old.words.items) v event).stopped ≡ Some step
-      → StandsFor new k (state_after k (state_of old views) i v event) → Steps old new k views i v event (Stopped step)
+      → KeepsState new k (state_after k (state_of old views) i v event) → Steps old new k views i v event (Stopped step)
   steps_not : (MayDo (memory_of k.capacity old.words.items) v event → ⊥) → new ≡ old → Steps old new k views i v event NotNow
 
 -- the same, of a seat that has not stopped, and has a ticket where the event needs one
@@ -129,6 +180,15 @@ abbrev pub Follows : CoreState → ℕ → Event → StepAnswer → CoreState �
 Follows old i event answer new = (k : Setup) (s : TableState) → StandsFor old k s
     → (next : TableState) × StepsTo k s i event answer next × StandsFor new k next
 
+-- the same of a block that a seat offers, and of a carrier that it accepts
+abbrev pub Offers : CoreState → ℕ → ℕ → StepAnswer → CoreState → Type 0
+Offers old i block answer new = (k : Setup) (s : TableState) → StandsFor old k s
+    → (next : TableState) × OffersTo s i block answer next × StandsFor new k next
+
+abbrev pub Accepts : CoreState → ℕ → ℕ → StepAnswer → CoreState → Type 0
+Accepts old i j answer new = (k : Setup) (s : TableState) → StandsFor old k s
+    → (next : TableState) × AcceptsTo s i j answer next × StandsFor new k next
+
 -- the same of a list of events, with an answer for each
 abbrev pub RunsOn : CoreState → List (ℕ × Event) → List StepAnswer → CoreState → Type 0
 RunsOn old events answers new = (k : Setup) (s : TableState) → StandsFor old k s
@@ -143,16 +203,17 @@ pub record IsMoved (old new : CoreState) (views : List View) (i : ℕ) (t : Seat
   pub words : new.words ≡ old.words
   pub geometry : new.geometry ≡ old.geometry
   pub budget : new.budget ≡ old.budget
+  pub carriers : new.carriers ≡ old.carriers
   pub blocks : length new.blocks.items ≡ length old.blocks.items
   pub superblocks : length new.superblocks.items ≡ length old.superblocks.items
   pub roots : new.roots.items ≡ old.roots.items
   pub mine : IsKept new i after w
-  pub others : (j : ℕ) (s : SeatNotes) (u : View) → j ≢ i → j < length views → get_or views j u ≡ u
+  pub others : (j : ℕ) (s : SeatNotes) (u : View) → j ≢ i → IsAmong views j u
       → IsKept old j s u → IsKept new j s u
 
 abbrev pub Moves : CoreState → ℕ → (Memory → View → View) → CoreState → Type 0
 Moves old i change new = (k : Setup) (views : List View) (v : View) (t : SeatNotes) → KeepsViews old k views → i < length views
-    → get_or views i v ≡ v → get_or old.seats.items i t ≡ t
+    → get_or views i v ≡ v → IsSeatAt old i t
     → IsMoved old new views i t (change (memory_of k.capacity old.words.items) v)
 
 -- the answer to whether a guard holds of the seat, in each state that the core stands for

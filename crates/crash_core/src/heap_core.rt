@@ -34,13 +34,13 @@ pub struct Core {
 
 impl Model for Core {
     ghost use Rattle.crash_core.specs.Opened.{Opened};
-    ghost use Rattle.crash_core.specs.Standing.{IsCore};
+    ghost use Rattle.crash_core.specs.Standing.{IsStanding};
 
     ghost Value = { Opened };
 
     ghost view = { λ a. record { state = a.state; spare = a.spare } };
 
-    ghost invariant = { λ a. IsCore a.state };
+    ghost invariant = { λ a. IsStanding a.state };
 }
 
 impl Core {

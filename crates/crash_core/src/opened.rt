@@ -39,6 +39,7 @@ pub(crate) fn opened_core(
         budget,
         words: opened_table(alloc, heap)?,
         seats: vec![in alloc; NEW_SEAT; seats]?,
+        carriers: 0,
         blocks: block_owners(alloc, heap, owners.held())?,
         superblocks: superblock_owners(alloc, heap, owners.held())?,
         roots: Vec::from_slice(alloc, owners.roots())?,

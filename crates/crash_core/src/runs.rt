@@ -1,7 +1,7 @@
 //! Lists of events, run one after another.
 
 ghost use Rattle.std.specs.Prelude.{◌≡◌, ℕ, ◌<◌, length, Contains, IfOk, IfErr};
-ghost use Rattle.crash_core.specs.Standing.{IsCore, RunsOn};
+ghost use Rattle.crash_core.specs.Standing.{IsStanding, RunsOn};
 ghost use Rattle.core_model.specs.declared.event.Event.{Event};
 
 use crate::state::CoreState;
@@ -16,11 +16,11 @@ pub(crate) fn run(
     alloc: Global,
     events: &[(usize, Event)],
 ) -> Result<Vec<StepAnswer>, AllocError>
-    requires core { IsCore core.old }
+    requires core { IsStanding core.old }
     requires seats { (e : ℕ × Event) → Contains events.now e → e.0 < length core.old.seats.items }
     ensures runs { IfOk result (λ answers. RunsOn core.old events.now answers.items core.new) }
     ensures refused { IfErr result (λ _. core.new ≡ core.old) }
-    ensures core { IsCore core.new }
+    ensures core { IsStanding core.new }
     ensures seats { length core.new.seats.items ≡ length core.old.seats.items }
 {
     let mut answers = Vec::with_capacity(alloc, events.len())?;

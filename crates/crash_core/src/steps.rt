@@ -2,7 +2,7 @@
 
 ghost use Rattle.std.specs.Prelude.{◌≡◌, ◌↔◌, ◌<◌, length, get_or, true};
 ghost use Rattle.seat_notes.specs.declared.notes.SeatNotes.{SeatNotes};
-ghost use Rattle.crash_core.specs.Standing.{IsCore, Takes, Follows, HasTicketAt};
+ghost use Rattle.crash_core.specs.Standing.{IsCore, IsStanding, Takes, Follows, HasTicketAt};
 
 use crate::chains::{give, take_all};
 use crate::fresh::take_fresh;
@@ -16,10 +16,10 @@ use core_model::{Event, StepAnswer};
 
 /// Takes a step of a seat, if it may be taken now.
 pub(crate) fn step(core: &mut CoreState, seat: usize, event: Event) -> StepAnswer
-    requires core { IsCore core.old }
+    requires core { IsStanding core.old }
     requires seat { seat < length core.old.seats.items }
     ensures follows { Follows core.old seat event result core.new }
-    ensures core { IsCore core.new }
+    ensures core { IsStanding core.new }
     ensures seats { length core.new.seats.items ≡ length core.old.seats.items }
 {
     let notes = core.seats[seat];

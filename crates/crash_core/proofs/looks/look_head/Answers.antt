@@ -1,5 +1,5 @@
 use Rattle.std.proofs.Common.{sym, arith}
-use Rattle.crash_core.proofs.StandingLemmas.{step_not}
+use Rattle.crash_core.proofs.StandingLemmas.{step_not, seat_is}
 use Rattle.crash_core.proofs.LookSteps.{look_head}
 use Rattle.crash_core.proofs.looks.look_head.Goals as goal
 
@@ -8,4 +8,4 @@ returns-then-list-ge-LISTS c = λ k views v keeps below at going ticket. step_no
 
 pub returns : goal.returns
 returns c = λ k views v keeps below at going ticket.
-    look_head c.args.core.now k views c.args.seat v c.index-notes.result.now keeps below at (sym c.index-notes.ensures) going ticket c.args.list c.index-word.result.now (omega arith) c.index-word.ensures
+    look_head c.args.core.now k views c.args.seat v c.index-notes.result.now keeps below at (seat_is c.requires.seat (sym c.index-notes.ensures)) going ticket c.args.list c.index-word.result.now (omega arith) c.index-word.ensures

@@ -2,7 +2,7 @@ use Rattle.std.proofs.Common.{◌≡◌, ◌*◌, Some, refl, sym, true≢false,
 use Rattle.heap_model.specs.Geometry.{image_words}
 use Rattle.core_model.specs.declared.event.Event.TheVariants.{Tick}
 use Rattle.core_model.specs.Effects.{shifted}
-use Rattle.crash_core.proofs.StandingLemmas.{step_not}
+use Rattle.crash_core.proofs.StandingLemmas.{step_not, seat_is}
 use Rattle.crash_core.proofs.ReadLemmas.{lengths}
 use Rattle.crash_core.proofs.WordSteps.{ticket_fits}
 use Rattle.crash_core.proofs.TickSteps.{stop_with, draw_with, same_lengths}
@@ -17,7 +17,7 @@ overflow_add-ticket c = let e : c.ticket_place-at.result ≡ 2 * image_words c.a
 
 pub returns-then-ticket-core : goal.returns-then-ticket-core
 returns-then-ticket-core c = λ k views v keeps below at going ticket. let e : c.ticket_place-at.result ≡ 2 * image_words c.args.core.now.geometry.capacity = c.ticket_place-at.ensures in
-    stop_with c.args.core.now k views c.args.seat v c.index-notes.result.now keeps below at (sym c.index-notes.ensures) c.args.shift ((c.if-not-may_shift.ensures k views v keeps below at).0 refl)
+    stop_with c.args.core.now k views c.args.seat v c.index-notes.result.now keeps below at (seat_is c.requires.seat (sym c.index-notes.ensures)) c.args.shift ((c.if-not-may_shift.ensures k views v keeps below at).0 refl)
     c.ticket_place-at.result c.index-ticket.result.now (omega arith) c.index-ticket.ensures going (let f = c.if-ticket-core.true in omega arith)
 
 pub index_mut-requires-2 : goal.index_mut-requires-2
@@ -32,6 +32,6 @@ index_mut-requires-3 c = let s = (same_lengths c.args.core.now c.make_shift.new.
 
 pub returns : goal.returns
 returns c = λ k views v keeps below at going ticket. let e : c.ticket_place-at.result ≡ 2 * image_words c.args.core.now.geometry.capacity = c.ticket_place-at.ensures in
-    draw_with c.args.core.now k views c.args.seat v c.index-notes.result.now keeps below at (sym c.index-notes.ensures) c.args.shift ((c.if-not-may_shift.ensures k views v keeps below at).0 refl)
+    draw_with c.args.core.now k views c.args.seat v c.index-notes.result.now keeps below at (seat_is c.requires.seat (sym c.index-notes.ensures)) c.args.shift ((c.if-not-may_shift.ensures k views v keeps below at).0 refl)
     c.ticket_place-at.result c.index-ticket.result.now (omega arith) c.index-ticket.ensures going (let f = c.if-ticket-core.false in omega arith)
-    c.make_shift.new.core (c.make_shift.ensures k views v c.index-notes.result.now keeps below at (sym c.index-notes.ensures)) c.index-changed.result.now c.index-changed.ensures
+    c.make_shift.new.core (c.make_shift.ensures k views v c.index-notes.result.now keeps below at (seat_is c.requires.seat (sym c.index-notes.ensures))) c.index-changed.result.now c.index-changed.ensures
