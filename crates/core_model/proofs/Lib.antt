@@ -45,3 +45,4 @@ pub mod CarrierLemmas
 pub mod EmptiedLemmas
 pub mod HandingLemmas
 pub mod OpenedSeats
+pub mod TicketLemmas
