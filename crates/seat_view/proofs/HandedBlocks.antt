@@ -2,6 +2,8 @@
 use Rattle.std.proofs.Common.{◌≡◌, ◌≢◌, ◌<◌, ◌≤◌, ◌⊎◌, ℕ, zero, suc, ◌+◌, ◌*◌, inl, inr, Bool, true, false, cond, not, nat_eq, List, [], ◌∷◌, ◌++◌, get_or, refl, ap, sym, subst, ◌∙◌, eq-eqb, ne_eqb, eqb-true, arith}
 use Rattle.std.specs.Prelude.{Contains}
 use Rattle.std.proofs.lemmas.Bool.{cases_eq, cases_lt}
+use Rattle.std.proofs.lemmas.List.Elements.{Contains-append_cases}
+use Rattle.heap_model.proofs.MemberLemmas.{head_or_rest, in_none}
 use Rattle.heap_model.specs.declared.block.Block.{Block}
 use Rattle.heap_model.specs.Blocks.{AreOneOrApart, IsIn}
 use Rattle.heap_model.specs.Counting.{one_if, times, total}
@@ -9,7 +11,7 @@ use Rattle.heap_model.specs.Geometry.{start_word, superblock_words}
 use Rattle.heap_model.specs.Sizes.{words_of_class}
 use Rattle.heap_model.proofs.PartLemmas.{same_fields}
 use Rattle.core_model.specs.Carriers.{accepted, both_lists, offered}
-use Rattle.core_model.specs.Cells.{data_cell, superblock_at}
+use Rattle.core_model.specs.Cells.{cell_at, data_cell, superblock_at}
 use Rattle.core_model.specs.Effects.{span_count}
 use Rattle.core_model.specs.Held.{IsHeld, a_small, a_large}
 use Rattle.core_model.specs.Splitting.{chosen, chosen_lists, chosen_spans}
@@ -23,8 +25,9 @@ use Rattle.heap_rule.specs.declared.owned.Holding.TheVariants as holding
 use Rattle.heap_rule.specs.Holdings.{HoldsAlone}
 use Rattle.heap_rule.proofs.HeldLemmas.{held_apart, held_placed, one_large}
 use Rattle.core_model.proofs.LinkFrameLemmas.{span_covers}
-use Rattle.seat_rows.specs.Words.{times_held}
-use Rattle.seat_view.proofs.HeldLemmas.{word_of_block}
+use Rattle.seat_rows.specs.Words.{IsHeldWord, times_held}
+use Rattle.seat_view.specs.CacheState.{held_blocks, large_blocks, small_blocks}
+use Rattle.seat_view.proofs.HeldLemmas.{block_cell, small_there, word_of_block}
 use Rattle.seat_view.proofs.ChangedBlocks.{as_block, word_once}
 
 -- blocks that are chosen stay in their class, and the others go
@@ -150,6 +153,24 @@ alone_only u b (holding.Large d n) alone _ (a_large e m some is) = by_test (nat_
   by_test true same count = same_fields (record { first_word = start_word u.setup.capacity e; words = superblock_words * m }) b
       (ap (start_word u.setup.capacity) (sym (eqb-true d e same)) ∙ sym alone.is.first) (ap (λ k. superblock_words * k) (sym count) ∙ sym alone.is.words)
   by_test false other count = absurd (omega (arith, count, some))
+
+-- so its list of held blocks has this one alone
+pub alone_listed : (u : View) (b : Block) (h : Holding) → HoldsAlone u b h → (a : Block) → Contains (held_blocks u) a → a ≡ b
+alone_listed u b h alone a c = elim (Contains-append_cases (small_blocks 0 u.small) (large_blocks u.setup.capacity u.large) a c) as (λ _. a ≡ b) [
+  | inl small ↦ let there = small_there 0 u.small a small in
+      alone_only u b h alone a (subst (IsHeld u) (as_block a (words_of_class there.n) (there.words ∙ ap words_of_class (let e : 0 + there.n ≡ there.n = omega arith in e))) (a_small there.n a.first_word there.there))
+  | inr large ↦ by_holding h alone large
+] where
+  by_holding : (h : Holding) → HoldsAlone u b h → Contains (large_blocks u.setup.capacity u.large) a → a ≡ b
+  by_holding (holding.Small class) one large = absurd (in_none a (subst (λ l. Contains (large_blocks u.setup.capacity l) a) one.none_large large))
+  by_holding (holding.Large d n) one large = elim (head_or_rest (record { first_word = start_word u.setup.capacity d; words = superblock_words * n }) a [] (subst (λ l. Contains (large_blocks u.setup.capacity l) a) one.once large)) as (λ _. a ≡ b) [
+    | inl same ↦ sym same ∙ same_fields (record { first_word = start_word u.setup.capacity d; words = superblock_words * n }) b (sym one.is.first) (sym one.is.words)
+    | inr none ↦ absurd (in_none a none)
+  ]
+
+-- a word of it is one of the carrier's
+pub alone_word : (v u : View) (b : Block) (h : Holding) → HoldsAlone u b h → u.setup.capacity ≡ v.setup.capacity → HasSoundState v → IsHeld v b → (word : ℕ) → IsIn b word → IsHeldWord u word
+alone_word v u b h alone capacity s held word within = subst (λ cell. 0 < times_held u cell) (sym (ap (λ n. cell_at n word) capacity ∙ block_cell v s b held word within)) (word_of_block u b (alone_held u b h alone) word within)
 
 -- of two lists of spans the first that tells of a superblock counts
 first_counts : (d : ℕ) (xs ys : List Span) → 0 < span_count d xs → span_count d (xs ++ ys) ≡ span_count d xs

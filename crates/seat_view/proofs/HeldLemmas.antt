@@ -179,11 +179,14 @@ module _ (v : View) (s : HasSoundState v) where
   pub block_word : (b : Block) → IsHeld v b → (word : ℕ) → IsIn b word → 0 < times_held v (data_cell word)
   block_word b held word within = word_of_block v b held word within
 
+  -- they lie in the superblocks
+  pub block_cell : (b : Block) → IsHeld v b → (word : ℕ) → IsIn b word → cell_at v.setup.capacity word ≡ data_cell word
+  block_cell b held word within = let placed = held_placed v s b held in let low = placed.from in let high = placed.until in let most = placed.low in let from = within.from in let until = within.until in
+      cell_at_index v.setup.capacity (data_cell word)
+      (and_is (nat_le (start_word v.setup.capacity 0) word) (nat_lt word (superblocks_end v.setup.capacity)) (le-leb (start_word v.setup.capacity 0) word (omega arith)) (lt-ltb word (superblocks_end v.setup.capacity) (omega arith)))
+
   pub word_held : (word : ℕ) → IsOwnWord (held_blocks v) v.roots word → IsHeldWord v word
-  word_held word (in_block b w c within) = let placed = held_placed v s b (held_is b c) in let low = placed.from in let high = placed.until in let most = placed.low in let from = within.from in let until = within.until in
-      subst (λ (cell : Cell). 0 < times_held v cell) (sym (cell_at_index v.setup.capacity (data_cell word)
-      (and_is (nat_le (start_word v.setup.capacity 0) word) (nat_lt word (superblocks_end v.setup.capacity)) (le-leb (start_word v.setup.capacity 0) word (omega arith)) (lt-ltb word (superblocks_end v.setup.capacity) (omega arith)))))
-      (block_word b (held_is b c) word within)
+  word_held word (in_block b w c within) = subst (λ (cell : Cell). 0 < times_held v cell) (sym (block_cell b (held_is b c) word within)) (block_word b (held_is b c) word within)
   word_held word (in_root i w c is) = subst (λ n. IsHeldWord v n) (sym is)
       (subst (λ (cell : Cell). 0 < times_held v cell) (sym (cell_at_index v.setup.capacity (root_cell i) (lt-ltb i roots (root_below i c)))) (contains_times v.roots i c))
 

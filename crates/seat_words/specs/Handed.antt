@@ -4,6 +4,7 @@ use Rattle.heap_model.specs.declared.block.Block.{Block}
 use Rattle.atomic_table.specs.Seated.{TableId}
 use Rattle.core_model.specs.Carriers.{accepted, carrier_of, offered}
 use Rattle.core_model.specs.View.{View}
+use Rattle.heap_table.specs.Plays.{HasSoundState}
 use Rattle.heap_rule.specs.Carried.{CarrierView, Carries}
 use Rattle.heap_rule.specs.Seated.{SeatView}
 use Rattle.seat_rows.specs.Costs.{one_draw}
@@ -14,6 +15,7 @@ use Rattle.seat_rows.specs.Words.{IsHeldWord, KeepsWord, left_at, seen_at}
 pub record HasOffered (b : Block) (carrier : CarrierView) (table : TableId) (v w : View) : Type 0 where
   pub behind : View
   pub drawn : HasDrawn v behind
+  pub has : HasSoundState behind
   pub left : w ≡ offered behind b.first_word
   pub at_table : carrier.table ≡ table
   pub carried : carrier.view ≡ carrier_of behind b.first_word
@@ -24,6 +26,7 @@ pub record HasOffered (b : Block) (carrier : CarrierView) (table : TableId) (v w
 pub record HasAccepted (b : Block) (carrier : CarrierView) (v w : View) : Type 0 where
   pub behind : View
   pub drawn : HasDrawn v behind
+  pub has : HasSoundState behind
   pub left : w ≡ accepted behind carrier.view
   pub block : b ≡ carrier.block
   pub carries : Carries v.setup.capacity carrier.view b

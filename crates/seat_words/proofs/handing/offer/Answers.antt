@@ -15,6 +15,7 @@ pub returns-clause-offered : goal.returns-clause-offered
 returns-clause-offered g c = record {
   behind = c.draw.new.seat.view;
   drawn = c.in_ok-draw.ensures.drawn;
+  has = c.has_a_sound_state.ensures;
   left = c.offer.ensures.view;
   at_table = c.offer.ensures.carrier_table;
   carried = c.offer.ensures.carrier;
