@@ -1,11 +1,11 @@
 -- Steps taken in their order: one row behind another, and which steps are the first of which.
-use Rattle.std.proofs.Common.{◌≡◌, ◌≢◌, ℕ, zero, suc, ◌+◌, ◌-◌, ◌*◌, ◌≤◌, ◌<◌, ◌⊎◌, inl, inr, List, [], ◌∷◌, ◌++◌, refl, sym, ap, subst, ◌∙◌, arith, cond, nat_eq, eq-eqb, ne_eqb, length, slice_index, length-append}
+use Rattle.std.proofs.Common.{◌≡◌, ◌≢◌, ℕ, zero, suc, ◌+◌, ◌-◌, ◌*◌, ◌≤◌, ◌<◌, inl, inr, List, [], ◌∷◌, ◌++◌, refl, sym, ap, subst, ◌∙◌, arith, cond, eq-eqb, ne_eqb, length, slice_index, length-append}
 use Rattle.std.proofs.lemmas.Bool.{cases_eq, cases_lt}
 use Rattle.heap_model.specs.Image.{Image}
 use Rattle.line_memory.specs.View.{View}
 use Rattle.line_memory.specs.Steps.{TakesBy, RefusesBy, IsStore, IsWriteBack, IsFence}
 use Rattle.heap_recover.specs.InPlace.{differences, Differ}
-use Rattle.heap_recover.proofs.InPlaceLemmas.{differ_more, differ_same, differ_from}
+use Rattle.heap_recover.proofs.InPlaceLemmas.{differ_more, differ_same}
 use Rattle.heap_recover.specs.InOrder.{Step, store, write_back, does, store_of, stores_from, written_back, steps_in, TakesAll, IsDoneBy, IsCutOffIn}
 
 append_assoc : (xs ys zs : List Step) → (xs ++ ys) ++ zs ≡ xs ++ (ys ++ zs)

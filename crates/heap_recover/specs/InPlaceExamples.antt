@@ -2,7 +2,7 @@
 use Rattle.std.specs.Prelude.{◌≡◌, ◌∷◌, [], cond, nat_eq, refl}
 use Rattle.heap_model.specs.Image.{Image}
 use Rattle.heap_recover.specs.InPlace.{changed_lines, differences, steps_between}
-use Rattle.heap_recover.specs.InOrder.{Step, store, write_back, steps_in}
+use Rattle.heap_recover.specs.InOrder.{store, write_back, steps_in}
 
 abbrev zeros : Image
 zeros word = 0

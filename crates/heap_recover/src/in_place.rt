@@ -143,8 +143,8 @@ pub fn rebuild<M: LineMemory, F: Filter>(
         + steps_between (slice_index x.now) (slice_index to.now.words) (length x.now)) }
     ensures within { OnOk result ((M.view memory.new).drawn ≤ (M.view memory.old).budget) }
 
-    // These are its steps, in this order, and of one that is stopped the first of them: so which
-    // words are durable then is told by its stores and by the numbers drawn.
+    // It leaves what these steps lead to, in this order, or stopped the first of them: so which words
+    // are durable then is told by its stores and by the numbers drawn.
     ensures steps { OnOk result (IsDoneBy M.view M.draws
         (steps_in (slice_index x.now) (slice_index to.now.words) (length x.now / 8))
         memory.old memory.new) }

@@ -1,11 +1,10 @@
 -- By even numbers alone nothing becomes durable before the fence.
-use Rattle.std.proofs.Common.{◌≡◌, ◌≢◌, ℕ, ◌%◌, List, [], ◌∷◌, length, slice_index, true, inl, inr, refl, sym, ap, subst, ◌∙◌}
+use Rattle.std.proofs.Common.{◌≡◌, ◌≢◌, ℕ, ◌%◌, List, [], ◌∷◌, slice_index, true, inl, inr, refl, ap, subst, ◌∙◌}
 use Rattle.heap_model.specs.Geometry.{capacity_word}
-use Rattle.heap_model.specs.Header.{capacity_of}
 use Rattle.heap_model.specs.Image.{Image}
 use Rattle.heap_model.specs.Durability.{IsCrashImage, IsTransient}
-use Rattle.line_memory.specs.View.{View, opened}
-use Rattle.line_memory.specs.Steps.{after_draw, RefusesBy}
+use Rattle.line_memory.specs.View.{View}
+use Rattle.line_memory.specs.Steps.{RefusesBy}
 use Rattle.line_memory.specs.Plain.{Gives, view_of, DrawsBy}
 use Rattle.line_memory.specs.declared.plain.PlainMemory.{PlainMemory}
 use Rattle.line_memory.proofs.CallerLemmas.{even_settles_none}
