@@ -4,7 +4,7 @@ use Rattle.heap_model.specs.Sizes.{blocks_of, class_sizes, words_of_class}
 use Rattle.core_model.specs.Effects.{first_of}
 use Rattle.core_model.specs.View.{Parts, View, of_class}
 use Rattle.seat_calls.specs.Small.{HasAllocated, HasFreed, block_of}
-use Rattle.cache_examples.specs.Flushes.{all_given, first_given, full_cache, gives_both, no_run, without_tickets}
+use Rattle.cache_examples.specs.Runs.{all_given, first_given, full_cache, gives_both, no_run, without_tickets}
 use Rattle.cache_examples.specs.Seats.{before, with_cached, with_held}
 
 -- the first of two cached blocks, and the only one
@@ -128,8 +128,8 @@ unfolding blocks_of class_sizes
 without_a_run freed =
     let by = freed.by (omega arith) in
     let cache : of_class by.0.caches 20 ≡ 1080 ∷ 2872 ∷ 9272 ∷ 11064 ∷ [] = ap (λ (p : Parts). of_class p.caches 20) by.1.0.parts_are in
-    no_run by.0 (record all_given { setup = without_tickets.setup }) refl by.1.1
-    (λ same. let none : [] ≡ of_class by.0.caches 20 = ap (λ (u : View). of_class u.caches 20) same in let e : 0 ≡ 1080 = ap first_of (none ∙ cache) in omega (arith, e))
+    let none = ap (λ (u : View). of_class u.caches 20) (no_run 20 by.0 (record all_given { setup = without_tickets.setup }) refl by.1.1) in
+    let e : 0 ≡ 1080 = ap first_of (none ∙ cache) in omega (arith, e)
 
 -- the block is held still
 pub still_held : HasFreed 1080 20 (holds_one []) (with_held (1080 ∷ []) (with_cached (1080 ∷ []) before)) → ⊥

@@ -2,6 +2,7 @@ pub mod Seats
 pub mod Looks
 pub mod Fills
 pub mod Blocks
+pub mod Runs
 pub mod Flushes
 pub mod Serving
 pub mod Quiet

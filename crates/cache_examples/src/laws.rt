@@ -6,8 +6,8 @@ ghost use Rattle.seat_calls.specs.Small.{HasAllocated, HasFreed, block_of};
 ghost use Rattle.seat_fill.specs.Refills.{HasSeenNone, IsFull, IsLook};
 ghost use Rattle.thread_cache.specs.Serving.{IsLight};
 ghost use Rattle.cache_examples.specs.Blocks.{holds_fourth};
-ghost use Rattle.cache_examples.specs.Flushes.{all_given};
 ghost use Rattle.cache_examples.specs.Looks.{refused};
+ghost use Rattle.cache_examples.specs.Runs.{all_given};
 ghost use Rattle.cache_examples.specs.Seats.{all_taken, before, later, look_at, with_cached, with_held, with_looks};
 
 /// A look is none once an exchange was won. A request is refused by a look at the list of its class
