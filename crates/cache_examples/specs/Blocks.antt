@@ -1,5 +1,5 @@
 -- Worked examples by computation: small blocks that are held and freed.
-use Rattle.std.proofs.Common.{◌≡◌, ◌<◌, ℕ, suc, List, [], ◌∷◌, length, refl, ap, ◌∙◌, arith}
+use Rattle.std.proofs.Common.{◌≤◌, ◌+◌, ◌≡◌, ◌<◌, ℕ, suc, List, [], ◌∷◌, length, refl, ap, ◌∙◌, arith}
 use Rattle.heap_model.specs.Sizes.{blocks_of, class_sizes, words_of_class}
 use Rattle.core_model.specs.Effects.{first_of}
 use Rattle.core_model.specs.View.{Parts, View, of_class}
@@ -22,8 +22,11 @@ unfolding blocks_of class_sizes
 one_of_three = record { going = refl; size = refl; cache = 4664 ∷ 2872 ∷ []; first = λ some. absurd (omega (arith, some)); short = omega arith; parts_are = refl }
 
 -- another than the only one, or than the first of two
+one_is_some : 1 ≤ length (of_class (with_cached (1080 ∷ []) before).caches 20)
+one_is_some = omega arith
+
 pub not_the_only_one : HasAllocated 20 (block_of 20 2872) (with_cached (1080 ∷ []) before) (with_held (2872 ∷ []) before) → ⊥
-not_the_only_one held = let e : 1080 ≡ 2872 = ap first_of (held.first (omega arith)) in omega (arith, e)
+not_the_only_one held = let e : 1080 ≡ 2872 = ap first_of (held.first one_is_some) in omega (arith, e)
 
 pub not_the_first : HasAllocated 20 (block_of 20 2872) (with_cached (1080 ∷ 2872 ∷ []) before) (with_held (2872 ∷ []) (with_cached (1080 ∷ []) before)) → ⊥
 not_the_first held = let e : 1080 ≡ 2872 = ap first_of (held.first (omega arith)) in omega (arith, e)
@@ -40,7 +43,7 @@ cache_too_long held =
 -- it is cached still, or of another size
 pub still_cached : HasAllocated 20 (block_of 20 1080) (with_cached (1080 ∷ []) before) (with_held (1080 ∷ []) (with_cached (1080 ∷ []) before)) → ⊥
 still_cached held =
-    let first : 1080 ∷ [] ≡ 1080 ∷ held.cache = held.first (omega arith) in
+    let first : 1080 ∷ [] ≡ 1080 ∷ held.cache = held.first one_is_some in
     let cache : 1080 ∷ [] ≡ held.cache = ap (λ (p : Parts). of_class p.caches 20) held.parts_are in
     let one : 1 ≡ suc (length held.cache) = ap length first in
     let two : 1 ≡ length held.cache = ap length cache in
@@ -69,17 +72,19 @@ three_cached = record {
 }
 
 -- not behind them, and they are not flushed: a superblock has four
-pub goes_behind : HasFreed 1080 20 (holds_one (2872 ∷ 4664 ∷ [])) (with_cached (2872 ∷ 4664 ∷ 1080 ∷ []) before) → ⊥
+three_are_few : length (of_class (holds_one (2872 ∷ 4664 ∷ [])).caches 20) + 1 < blocks_of 20
 unfolding blocks_of class_sizes
+three_are_few = omega arith
+
+pub goes_behind : HasFreed 1080 20 (holds_one (2872 ∷ 4664 ∷ [])) (with_cached (2872 ∷ 4664 ∷ 1080 ∷ []) before) → ⊥
 goes_behind freed =
-    let kept : freed.cache ≡ 1080 ∷ 2872 ∷ 4664 ∷ [] = freed.kept (omega arith) in
+    let kept : freed.cache ≡ 1080 ∷ 2872 ∷ 4664 ∷ [] = freed.kept three_are_few in
     let cache : 2872 ∷ 4664 ∷ 1080 ∷ [] ≡ freed.cache = ap (λ (p : Parts). of_class p.caches 20) freed.parts_are in
     let e : 2872 ≡ 1080 = ap first_of (cache ∙ kept) in omega (arith, e)
 
 pub flushed_early : HasFreed 1080 20 (holds_one (2872 ∷ 4664 ∷ [])) before → ⊥
-unfolding blocks_of class_sizes
 flushed_early freed =
-    let kept : freed.cache ≡ 1080 ∷ 2872 ∷ 4664 ∷ [] = freed.kept (omega arith) in
+    let kept : freed.cache ≡ 1080 ∷ 2872 ∷ 4664 ∷ [] = freed.kept three_are_few in
     let cache : [] ≡ freed.cache = ap (λ (p : Parts). of_class p.caches 20) freed.parts_are in
     let e : 0 ≡ 1080 = ap first_of (cache ∙ kept) in omega (arith, e)
 
@@ -101,32 +106,31 @@ all_flushed = record {
   parts_are = refl;
 }
 
+four_are_many : blocks_of 20 ≤ length (of_class holds_fourth.caches 20) + 1
+unfolding blocks_of class_sizes
+four_are_many = omega arith
+
 -- the second run stays in the cache
 pub second_run_stays : HasFreed 1080 20 holds_fourth (record first_given { gives = 2 }) → ⊥
-unfolding blocks_of class_sizes
 second_run_stays freed =
-    let none : freed.cache ≡ [] = freed.flushed (omega arith) in
+    let none : freed.cache ≡ [] = freed.flushed four_are_many in
     let cache : 9272 ∷ 11064 ∷ [] ≡ freed.cache = ap (λ (p : Parts). of_class p.caches 20) freed.parts_are in
     let e : 9272 ≡ 0 = ap first_of (cache ∙ none) in omega (arith, e)
 
 -- one batch for both runs, three, or none
 pub by_one_batch : HasFreed 1080 20 holds_fourth (record all_given { gives = 1 }) → ⊥
-unfolding blocks_of class_sizes
-by_one_batch freed = let e : 1 ≡ 2 = freed.gives (omega arith) in omega (arith, e)
+by_one_batch freed = let e : 1 ≡ 2 = freed.gives four_are_many in omega (arith, e)
 
 pub by_three_batches : HasFreed 1080 20 holds_fourth (record all_given { gives = 3 }) → ⊥
-unfolding blocks_of class_sizes
-by_three_batches freed = let e : 3 ≡ 2 = freed.gives (omega arith) in omega (arith, e)
+by_three_batches freed = let e : 3 ≡ 2 = freed.gives four_are_many in omega (arith, e)
 
 pub by_no_batch : HasFreed 1080 20 holds_fourth (record all_given { gives = 0 }) → ⊥
-unfolding blocks_of class_sizes
-by_no_batch freed = let less : 0 < 0 = freed.gave (omega arith) in omega (arith, less)
+by_no_batch freed = let less : 0 < 0 = freed.gave four_are_many in omega (arith, less)
 
 -- not run by run: a seat without a ticket left gives none
 pub without_a_run : HasFreed 1080 20 (record holds_fourth { setup = without_tickets.setup }) (record all_given { setup = without_tickets.setup }) → ⊥
-unfolding blocks_of class_sizes
 without_a_run freed =
-    let by = freed.by (omega arith) in
+    let by = freed.by four_are_many in
     let cache : of_class by.0.caches 20 ≡ 1080 ∷ 2872 ∷ 9272 ∷ 11064 ∷ [] = ap (λ (p : Parts). of_class p.caches 20) by.1.0.parts_are in
     let none = ap (λ (u : View). of_class u.caches 20) (no_run 20 by.0 (record all_given { setup = without_tickets.setup }) refl by.1.1) in
     let e : 0 ≡ 1080 = ap first_of (none ∙ cache) in omega (arith, e)

@@ -1,9 +1,9 @@
 -- Worked examples by computation: all caches of a seat that are given back.
-use Rattle.std.proofs.Common.{◌≡◌, ◌<◌, ℕ, [], ◌∷◌, replicate, length, refl, ap, ◌∙◌, arith}
+use Rattle.std.proofs.Common.{◌≤◌, ◌≡◌, ◌<◌, ℕ, [], ◌∷◌, replicate, length, refl, ap, ◌∙◌, arith}
 use Rattle.std.proofs.lemmas.List.{get_or-replicate}
 use Rattle.heap_model.specs.Sizes.{IsClass}
 use Rattle.core_model.specs.View.{Parts, View, of_class}
-use Rattle.seat_flush.specs.All.{GivesCaches, HasFlushedAll, gave_cache, gave_no_cache}
+use Rattle.seat_flush.specs.All.{GivesCaches, HasFlushedAll, cached, gave_cache, gave_no_cache}
 use Rattle.cache_examples.specs.Runs.{all_given, full_cache, gives_both, gives_the_one, no_run, one_cached, one_listed, without_tickets}
 use Rattle.cache_examples.specs.Seats.{before, later, with_cached}
 
@@ -53,11 +53,14 @@ pub by_three_batches : HasFlushedAll full_cache (record all_given { gives = 3 })
 by_three_batches flushed = let e : 3 ≡ 2 = flushed.gives in omega (arith, e)
 
 -- one cached block, and nothing given, or no ticket drawn
+one_is_some : 1 ≤ cached one_cached
+one_is_some = omega arith
+
 pub one_block_not_given : HasFlushedAll one_cached (later 8 1 0 before) → ⊥
-one_block_not_given flushed = let less : 0 < 0 = flushed.gave (omega arith) in omega (arith, less)
+one_block_not_given flushed = let less : 0 < 0 = flushed.gave one_is_some in omega (arith, less)
 
 pub one_block_without_a_draw : HasFlushedAll one_cached (record (later 8 1 1 before) { draws = 4 }) → ⊥
-one_block_without_a_draw flushed = let less : 4 < 4 = flushed.more (omega arith) in omega (arith, less)
+one_block_without_a_draw flushed = let less : 4 < 4 = flushed.more one_is_some in omega (arith, less)
 
 -- a block that stays in its cache
 pub one_block_stays : HasFlushedAll full_cache (with_cached (11064 ∷ []) all_given) → ⊥

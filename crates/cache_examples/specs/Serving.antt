@@ -89,9 +89,12 @@ served = record {
   large = λ big. absurd (omega (arith, big));
 }
 
--- not by two
+-- not by two, as little as the only one
 pub served_by_two : IsServed 14000 two_cached (with_held (1080 ∷ []) (with_cached (2872 ∷ []) (later 2 0 0 before))) → ⊥
 served_by_two is = let most : 6 ≤ 5 = (is.cached 20 least_for_these (omega arith)).most.draws in omega (arith, most)
+
+pub only_one_by_two : IsServed 14000 (with_cached (1080 ∷ []) before) (with_held (1080 ∷ []) (later 2 0 0 before)) → ⊥
+only_one_by_two is = let most : 6 ≤ 5 = (is.cached 20 least_for_these (omega arith)).most.draws in omega (arith, most)
 
 -- an empty cache that was filled without a cut: ten tickets, and not eleven
 abbrev filled_by : ℕ → View
