@@ -130,6 +130,7 @@ of_another_seat seat s view other new = let e : 4 ≡ 5 = ap (λ (v : View). v.d
 pub keeps_the_table : (s t : CacheState) → KeepsHeap s t → t.table ≡ s.table
 keeps_the_table s t k = k.0
 
+-- and costs what its views and counts say
 pub costs_of_the_views : (s t : CacheState) → s.view ≡ before → t.view ≡ later 65 2 0 before → t.small_calls ≡ s.small_calls → t.large_calls ≡ s.large_calls + 1 → KeepsHeap s t → ⊥
 costs_of_the_views s t was is small large k =
     let light = k.1.light in

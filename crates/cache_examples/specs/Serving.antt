@@ -14,7 +14,9 @@ use Rattle.seat_calls.specs.Requests.{by_class, by_span, light_free_costs, light
 use Rattle.seat_calls.specs.Small.{block_of}
 use Rattle.seat_fill.specs.Refills.{IsFull}
 use Rattle.thread_cache.specs.Serving.{HasSeenRoom, IsLight, IsPutBack, IsServed, IsTurnedAway}
+use Rattle.cache_examples.specs.Blocks.{all_flushed, holds_fourth}
 use Rattle.cache_examples.specs.Looks.{free_head_first, is_full, refused}
+use Rattle.cache_examples.specs.Runs.{all_given}
 use Rattle.cache_examples.specs.Seats.{all_taken, before, heads, later, look_at, passed, with_cached, with_held, with_looks}
 
 -- what calls cost at most: of freeing a block, of putting it into its cache alone, of a request, and of one that cuts nothing
@@ -51,6 +53,12 @@ cuts_one cuts gives taken large = let e : 1 ≡ 0 = cuts in omega (arith, e)
 pub gives_one : IsLight before (later 4000 1 1 before)
 gives_one cuts gives taken large = let e : 1 ≡ 0 = gives in omega (arith, e)
 
+pub takes_one : IsLight before (record (later 4000 0 0 before) { taken = 1 })
+takes_one cuts gives taken large = let e : 1 ≡ 0 = taken in omega (arith, e)
+
+pub holds_one_more : IsLight before (record (later 4000 0 0 before) { large = record { first = 0; count = 1 } ∷ [] })
+holds_one_more cuts gives taken large = let e : 1 ≡ 0 = ap length large in omega (arith, e)
+
 -- class 20 is the least for 14,000 bytes
 pub least_for_these : IsLeastClassFor 14000 20
 unfolding size_of class_sizes
@@ -63,7 +71,7 @@ least_for_these = record {
       omega (arith, is.last);
 }
 
--- and the only such
+-- and no other class is
 pub is_last : (class : ℕ) → IsLeastClassFor 14000 class → class ≡ 20
 is_last class least =
     let low = least.least 20 least_for_these.is_class least_for_these.holds in let high = least_for_these.least class least.is_class least.holds in omega arith
@@ -89,7 +97,7 @@ served = record {
   large = λ big. absurd (omega (arith, big));
 }
 
--- not by two, as little as the only one
+-- not by two, and nor is the only one
 pub served_by_two : IsServed 14000 two_cached (with_held (1080 ∷ []) (with_cached (2872 ∷ []) (later 2 0 0 before))) → ⊥
 served_by_two is = let most : 6 ≤ 5 = (is.cached 20 least_for_these (omega arith)).most.draws in omega (arith, most)
 
@@ -265,7 +273,7 @@ freed = record {
 pub freed_by_three : IsPutBack (block_of 20 1080) holds_one (freed_by 3) → ⊥
 freed_by_three is = let most : 7 ≤ 6 = (is.cached refl refl).most.draws in omega (arith, most)
 
--- with a cut, or with a superblock taken, it is none: by its costs too
+-- nor with a cut, or with a superblock taken: a free costs neither
 pub freed_by_a_cut : IsPutBack (block_of 20 1080) holds_one (record (freed_by 2) { cuts = 1 }) → ⊥
 freed_by_a_cut is = let e : 1 ≡ 0 = is.cuts in omega (arith, e)
 
@@ -278,3 +286,13 @@ costs_of_a_take passes = let most : 1 ≤ 0 = passes.most.taken in omega (arith,
 -- nor by more than the most tickets
 pub freed_by_too_many : IsPutBack (block_of 20 1080) holds_one (record (freed_by 36867) { gives = 1 }) → ⊥
 freed_by_too_many is = let most : 36871 ≤ 36870 = is.costs.most.draws in omega (arith, most)
+
+-- the fourth block flushes the cache by fifteen tickets, two exchanges and two batches
+pub freed_by_a_flush : IsPutBack (block_of 20 1080) holds_fourth all_given
+freed_by_a_flush = record {
+  light = λ cuts gives taken large. let e : 2 ≡ 0 = gives in omega (arith, e);
+  cuts = refl;
+  costs = passed most_free_costs 15 2 2 holds_fourth all_given refl (omega arith) (omega arith) (omega arith) (omega arith);
+  cached = λ gives. let e : 2 ≡ 0 = gives in absurd (omega (arith, e));
+  given = of_a_class 20 (record { is_class = record { some = omega arith; last = omega arith }; words = refl; there = omega arith }) all_flushed;
+}
