@@ -10,3 +10,4 @@ pub mod OnceLemmas
 pub mod AloneLemmas
 pub mod ChanceLemmas
 pub mod IdleLemmas
+pub mod AskedLemmas

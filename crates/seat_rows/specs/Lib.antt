@@ -1,4 +1,5 @@
 pub mod Draws
+pub mod Asked
 pub mod Words
 pub mod Costs
 pub mod Rows

@@ -8,6 +8,7 @@ ghost use Rattle.heap_table.specs.Plays.{IsEvent};
 ghost use Rattle.heap_rule.specs.Fences.{SettlesEarly};
 ghost use Rattle.heap_rule.specs.Seated.{KeepsStores, SeatView, TellsDraw};
 ghost use Rattle.heap_rule.specs.Shown.{Can};
+ghost use Rattle.seat_rows.specs.Asked.{HasAsked};
 ghost use Rattle.seat_rows.specs.Draws.{Settles};
 ghost use Rattle.seat_rows.specs.Costs.{one_draw};
 ghost use Rattle.seat_rows.specs.Rows.{HasDrawn, Row, SameLooks, Stops, next_of};
@@ -34,6 +35,7 @@ pub fn draw_with<C: Chance>(
         × (found : ℕ) × IsEvent (Tick shift) early.view found seat.new.view) }
     ensures had_stopped { (step : ℕ) → seat.old.view.stopped ≡ Some step → seat.new ≡ seat.old }
     ensures not_asked { (step : ℕ) → seat.old.view.stopped ≡ Some step → chance.new ≡ chance.old }
+    ensures numbers { HasAsked C.draw_gives seat.old.view seat.new.view chance.old chance.new }
     ensures told { TellsDraw seat.new.view result }
     ensures drew { seat.old.view.stopped ≡ None → next_of seat.old.view < next_of seat.new.view }
     ensures losses { seat.new.view.losses ≡ seat.old.view.losses }
@@ -50,6 +52,7 @@ pub fn draw<C: Chance>(seat: &mut Seat, shared: &Shared, chance: &mut C) -> Resu
     ensures stopped { IfErr result (λ e. Stops e.step seat.old.view seat.new.view) }
     ensures asked { seat.old.view.stopped ≡ None → (r : ℕ) × C.draw_gives chance.old r chance.new }
     ensures not_asked { (step : ℕ) → seat.old.view.stopped ≡ Some step → chance.new ≡ chance.old }
+    ensures numbers { HasAsked C.draw_gives seat.old.view seat.new.view chance.old chance.new }
     ensures row { Row one_draw seat.old seat.new }
     ensures looks { SameLooks seat.old.view seat.new.view }
     ensures losses { seat.new.view.losses ≡ seat.old.view.losses }

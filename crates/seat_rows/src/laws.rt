@@ -21,10 +21,13 @@ ghost use Rattle.heap_table.specs.AtTable.{IsClosedReached, SharedView};
 ghost use Rattle.heap_table.specs.Rule.{Opening};
 ghost use Rattle.heap_rule.specs.Seats.{AreOpenedSeats};
 ghost use Rattle.heap_rule.specs.Shown.{Can};
+ghost use Rattle.seat_rows.specs.Asked.{HasAsked};
 ghost use Rattle.seat_rows.specs.Draws.{Settles};
 ghost use Rattle.seat_rows.specs.Idle.{HasShortCaches, IsIdle};
 ghost use Rattle.seat_rows.specs.Words.{KeepsWord};
 ghost use Rattle.seat_rows.specs.Alone.{IsSteady, Steady};
+
+use line_memory::Chance;
 
 /// A seat that is alone loses no exchange, and its last looks say what the words are as long as it
 /// has won no exchange since: at the opening, behind each step, and in the words of a closed heap where it offered no block.
@@ -62,4 +65,12 @@ pub fn an_opened_seat_is_idle()
         → AreOpenedSeats shared (opened_view k held block_owners root_owners) seats
         → (i : ℕ) (seat : SeatView) → i < length seats → get_or seats i seat ≡ seat
         → IsIdle seat.view × HasShortCaches seat.view }
+{}
+
+/// Chance is asked for no number where no ticket is drawn, and where one row is behind another for
+/// the numbers of both.
+pub fn asked_numbers_add_up<C: Chance>()
+    ensures none { (v : View) (chance : C) → HasAsked C.draw_gives v v chance chance }
+    ensures both { (u v w : View) (a b c : C) → HasAsked C.draw_gives u v a b
+        → HasAsked C.draw_gives v w b c → HasAsked C.draw_gives u w a c }
 {}

@@ -8,7 +8,7 @@ mod rows;
 pub use draws::{draw, draw_with};
 pub use laws::{
     a_seat_that_is_alone_loses_nothing, an_early_settling_takes_nothing_away,
-    an_opened_seat_is_idle,
+    an_opened_seat_is_idle, asked_numbers_add_up,
 };
 pub use rows::{
     a_draw_is_a_row, a_look_is_a_row, a_lost_exchange_is_a_row, a_row_bounds_its_draws,

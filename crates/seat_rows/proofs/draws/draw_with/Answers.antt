@@ -1,5 +1,6 @@
 use Rattle.std.proofs.Common.{ap}
 use Rattle.heap_rule.specs.Seated.{SeatView}
+use Rattle.seat_rows.proofs.AskedLemmas.{asked_once}
 use Rattle.seat_rows.proofs.DrawLemmas.{by_chance, drew_later, told_losses}
 use Rattle.seat_rows.proofs.draws.draw_with.Goals as goal
 
@@ -19,3 +20,6 @@ returns-clause-asked g c = c.draw.ensures.event
 
 pub returns-clause-not_asked : goal.returns-clause-not_asked
 returns-clause-not_asked g c = λ step stop. (c.draw.ensures.had_stopped step stop).1
+
+pub returns-clause-numbers : goal.returns-clause-numbers
+returns-clause-numbers g c = asked_once g.C.Chance.draw_gives c.args.shift c.args.seat.now c.draw.new.self c.args.chance.now c.draw.new.chance c.draw.ensures.event c.draw.ensures.had_stopped
