@@ -5,6 +5,7 @@ ghost use Rattle.core_model.specs.Guards.{MayLookAt};
 ghost use Rattle.core_model.specs.View.{times_classed};
 ghost use Rattle.heap_model.specs.Words.{anchor_state};
 ghost use Rattle.heap_rule.specs.Seated.{IsSeatOf};
+ghost use Rattle.seat_rows.specs.Asked.{HasAsked};
 ghost use Rattle.seat_rows.specs.Costs.{one_draw};
 ghost use Rattle.seat_rows.specs.Rows.{Row, Stops};
 ghost use Rattle.seat_lists.specs.Anchors.{HasSeenAnchor};
@@ -28,6 +29,7 @@ pub fn look_anchor<C: Chance>(
         → anchor_state anchor < 2) }
     ensures stopped { IfErr result (λ e. Stops e.step seat.old.view seat.new.view) }
     ensures row { Row one_draw seat.old seat.new }
+    ensures asked { HasAsked C.draw_gives seat.old.view seat.new.view chance.old chance.new }
     ensures seat { IsSeatOf shared.now seat.new }
 {
     draw(seat, shared, chance)?;

@@ -9,6 +9,7 @@ ghost use Rattle.heap_rule.specs.Seated.{IsSeatOf};
 ghost use Rattle.std.specs.Prelude.{◌≡◌, ◌<◌, ℕ, true, false, IfOk, OnOk, IfErr};
 ghost use Rattle.core_model.specs.Guards.{MayLink};
 ghost use Rattle.heap_model.specs.Geometry.{lists};
+ghost use Rattle.seat_rows.specs.Asked.{HasAsked};
 ghost use Rattle.seat_rows.specs.Costs.{one_draw, one_win};
 ghost use Rattle.seat_rows.specs.Rows.{Row, Stops};
 ghost use Rattle.seat_lists.specs.Pops.{SeesHead, SeesLink, SeesFirst, Exchanges, TriesPop, Pops};
@@ -39,6 +40,7 @@ pub fn look_list<C: Chance>(
     ensures seen { IfOk result (λ head. SeesHead list head seat.old.view seat.new.view) }
     ensures stopped { IfErr result (λ e. Stops e.step seat.old.view seat.new.view) }
     ensures row { Row one_draw seat.old seat.new }
+    ensures asked { HasAsked C.draw_gives seat.old.view seat.new.view chance.old chance.new }
     ensures seat { IsSeatOf shared.now seat.new }
 {
     draw(seat, shared, chance)?;
@@ -52,6 +54,7 @@ fn look_link<C: Chance>(seat: &mut Seat, shared: &Shared, chance: &mut C) -> Res
     ensures seen { OnOk result (SeesLink seat.old.view seat.new.view) }
     ensures stopped { IfErr result (λ e. Stops e.step seat.old.view seat.new.view) }
     ensures row { Row one_draw seat.old seat.new }
+    ensures asked { HasAsked C.draw_gives seat.old.view seat.new.view chance.old chance.new }
     ensures seat { IsSeatOf shared.now seat.new }
 {
     draw(seat, shared, chance)?;
@@ -67,6 +70,7 @@ fn pop_seen<C: Chance>(seat: &mut Seat, shared: &Shared, chance: &mut C) -> Resu
         → Exchanges list d won seat.old.view seat.new.view) }
     ensures stopped { IfErr result (λ e. Stops e.step seat.old.view seat.new.view) }
     ensures row { Row (record one_win { draws = 1 }) seat.old seat.new }
+    ensures asked { HasAsked C.draw_gives seat.old.view seat.new.view chance.old chance.new }
     ensures seat { IsSeatOf shared.now seat.new }
 {
     draw(seat, shared, chance)?;
@@ -85,6 +89,7 @@ fn try_pop_from<C: Chance>(
     ensures done { IfOk result (λ pop. TriesPop list pop seat.old.view seat.new.view) }
     ensures stopped { IfErr result (λ e. Stops e.step seat.old.view seat.new.view) }
     ensures row { Row (record one_win { draws = 3 }) seat.old seat.new }
+    ensures asked { HasAsked C.draw_gives seat.old.view seat.new.view chance.old chance.new }
     ensures seat { IsSeatOf shared.now seat.new }
 {
     let head = look_list(seat, shared, list, chance)?;
@@ -111,6 +116,7 @@ pub fn pop_from<C: Chance>(
     ensures done { IfOk result (λ pop. Pops list pop seat.old.view seat.new.view) }
     ensures stopped { IfErr result (λ e. Stops e.step seat.old.view seat.new.view) }
     ensures row { Row (record one_win { draws = 3 }) seat.old seat.new }
+    ensures asked { HasAsked C.draw_gives seat.old.view seat.new.view chance.old chance.new }
     ensures seat { IsSeatOf shared.now seat.new }
 {
     loop {

@@ -1,5 +1,6 @@
 use Rattle.std.proofs.Common.{arith, subst, ◌∙◌, ◌-◌}
 use Rattle.seat_rows.specs.Costs.{one_win}
+use Rattle.seat_rows.proofs.AskedLemmas.{asked_then}
 use Rattle.seat_rows.proofs.RowLemmas.{row_then, row_within}
 use Rattle.seat_lists.specs.Pops.{Exchanges}
 use Rattle.seat_lists.proofs.PopLemmas.{goes_then, lost_later, others_then, popped_later, sees_first}
@@ -57,3 +58,12 @@ returns-clause-done g c =
     (others_then c.args.list c.args.seat.now.view c.look_list.new.seat.view c.look_link.new.seat.view c.in_ok-head.ensures.seen.others (c.in_ok-look_link.ensures.seen.others c.args.list))
     (row_then c.args.seat.now c.look_list.new.seat c.look_link.new.seat c.look_list.ensures.row c.look_link.ensures.row).view
     (subst (λ won. Exchanges c.args.list d won c.look_link.new.seat.view c.pop_seen.new.seat.view) c.if-branch.false (c.in_ok-pop_seen.ensures.done c.args.list d sees))
+
+pub returns-in_err-pop_seen-clause-asked : goal.returns-in_err-pop_seen-clause-asked
+returns-in_err-pop_seen-clause-asked g c = asked_then (asked_then c.look_list.ensures.asked c.look_link.ensures.asked) c.pop_seen.ensures.asked
+
+pub returns-then-branch-clause-asked : goal.returns-then-branch-clause-asked
+returns-then-branch-clause-asked g c = asked_then (asked_then c.look_list.ensures.asked c.look_link.ensures.asked) c.pop_seen.ensures.asked
+
+pub returns-clause-asked : goal.returns-clause-asked
+returns-clause-asked g c = asked_then (asked_then c.look_list.ensures.asked c.look_link.ensures.asked) c.pop_seen.ensures.asked

@@ -1,4 +1,5 @@
 use Rattle.std.proofs.Common.{inl, subst}
+use Rattle.seat_rows.proofs.AskedLemmas.{asked_none, asked_then}
 use Rattle.seat_rows.proofs.RowLemmas.{marks_behind}
 use Rattle.seat_lists.specs.Pushes.{Pushes}
 use Rattle.seat_lists.proofs.HandLemmas.{pushed_free}
@@ -6,7 +7,7 @@ use Rattle.seat_lists.proofs.PushLemmas.{pushing_begins, pushing_done, pushing_o
 use Rattle.seat_lists.proofs.pushes.push_to.Goals as goal
 
 pub loop-init : goal.loop-init
-loop-init g c = record { pushing = pushing_begins c.args.seat.now.view c.args.list c.args.d c.requires.can c.requires.durable; marks = λ k held marked. inl marked; is_of = c.requires.seat }
+loop-init g c = record { pushing = pushing_begins c.args.seat.now.view c.args.list c.args.d c.requires.can c.requires.durable; marks = λ k held marked. inl marked; asked = asked_none c.args.seat.now.view c.args.chance.now; is_of = c.requires.seat }
 
 pub returns-clause-done : goal.returns-clause-done
 returns-clause-done g c =
@@ -36,5 +37,12 @@ loop-preserved g c = record {
   pushing = pushing_on c.args.seat.now.view c.loop.seat.view c.try_push_to.new.seat.view c.args.list c.args.d c.loop.invariant.pushing
       (subst (λ won. Pushes c.args.list c.args.d 3 won c.loop.seat.view c.try_push_to.new.seat.view) c.if-not-branch.true c.in_ok-try_push_to.ensures.done);
   marks = marks_behind c.args.seat.now c.loop.seat c.try_push_to.new.seat c.loop.invariant.pushing.row c.loop.invariant.marks c.try_push_to.ensures.row;
+  asked = asked_then c.loop.invariant.asked c.try_push_to.ensures.asked;
   is_of = c.try_push_to.ensures.seat;
 }
+
+pub returns-in_err-try_push_to-clause-asked : goal.returns-in_err-try_push_to-clause-asked
+returns-in_err-try_push_to-clause-asked g c = asked_then c.loop.invariant.asked c.try_push_to.ensures.asked
+
+pub returns-clause-asked : goal.returns-clause-asked
+returns-clause-asked g c = asked_then c.loop.invariant.asked c.try_push_to.ensures.asked

@@ -1,5 +1,6 @@
 use Rattle.std.proofs.Common.{◌∙◌, arith}
 use Rattle.seat_rows.specs.Costs.{one_push}
+use Rattle.seat_rows.proofs.AskedLemmas.{asked_then}
 use Rattle.seat_rows.proofs.RowLemmas.{row_then, row_within}
 use Rattle.seat_lists.proofs.PushLemmas.{can_later, freely, freely_still, ok_then, pushes_later, sees_linked}
 use Rattle.seat_lists.proofs.pushes.try_push_to.Goals as goal
@@ -38,3 +39,9 @@ returns-clause-done g c =
     let linked = sees_linked v c.look_list.new.seat.view t c.args.list c.args.d c.in_ok-head.head c.head_first.result c.in_ok-head.ensures.seen c.head_first.ensures c.in_ok-set_link.ensures.linked in
     let can = can_later v c.look_list.new.seat.view t c.has_a_sound_state.ensures c.args.list c.args.d c.in_ok-head.head c.head_first.result c.in_ok-head.ensures.seen c.in_ok-set_link.ensures.linked c.requires.can in
     ok_then c.push_seen.result (λ won is. pushes_later 1 won v t w c.args.list c.args.d go.ran row.passes.more.draws row.passes.setup go.room (c.in_ok-set_link.ensures.linked.parts_are ∙ go.parts_are) row (is c.args.list linked can)) c.push_seen.ensures.done
+
+pub returns-in_err-set_link-clause-asked : goal.returns-in_err-set_link-clause-asked
+returns-in_err-set_link-clause-asked g c = asked_then c.look_list.ensures.asked c.set_link.ensures.asked
+
+pub returns-clause-asked : goal.returns-clause-asked
+returns-clause-asked g c = asked_then (asked_then c.look_list.ensures.asked c.set_link.ensures.asked) c.push_seen.ensures.asked
