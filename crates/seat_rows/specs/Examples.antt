@@ -34,7 +34,7 @@ pub not_one : AsksFor counts 1 5 7 → ⊥
 not_one asks = let first = asks.1.1 in let last = asks.2 in omega arith
 
 pub not_none : AsksFor counts 0 5 7 → ⊥
-not_none same = let two : 7 ≡ (5 : ℕ) = same in omega arith
+not_none same = let five : ℕ = 5 in let e : 7 ≡ five = same in omega arith
 
 -- a seat that has drawn two tickets more
 pub two_tickets : HasAsked counts (record nobody { draws = 3 }) (record nobody { draws = 5 }) 5 7
