@@ -2,6 +2,7 @@
 
 ghost use Rattle.heap_rule.specs.Seated.{IsSeatOf};
 ghost use Rattle.std.specs.Prelude.{◌≡◌, ◌≤◌, ◌+◌, ◌-◌, ◌*◌, ℕ, Some, IfOk, OnOk, IfErr};
+ghost use Rattle.seat_rows.specs.Asked.{HasAsked};
 ghost use Rattle.seat_rows.specs.Costs.{no_costs, one_draw, one_win};
 ghost use Rattle.seat_rows.specs.Rows.{Row, Stops};
 ghost use Rattle.large_block.specs.Fresh.{AreInThisHandAlone, HasKept, Marks, SeesMark, Takes, TriesTake};
@@ -26,6 +27,7 @@ fn look_mark<C: Chance>(seat: &mut Seat, shared: &Shared, chance: &mut C) -> Res
     ensures seen { IfOk result (λ used. SeesMark used seat.old.view seat.new.view) }
     ensures stopped { IfErr result (λ e. Stops e.step seat.old.view seat.new.view) }
     ensures row { Row one_draw seat.old seat.new }
+    ensures asked { HasAsked C.draw_gives seat.old.view seat.new.view chance.old chance.new }
     ensures seat { IsSeatOf shared.now seat.new }
 {
     draw(seat, shared, chance)?;
@@ -47,6 +49,7 @@ fn take_seen<C: Chance>(
         → Marks n used won seat.old.view seat.new.view) }
     ensures stopped { IfErr result (λ e. Stops e.step seat.old.view seat.new.view) }
     ensures row { Row (record one_win { draws = 1; taken = n }) seat.old seat.new }
+    ensures asked { HasAsked C.draw_gives seat.old.view seat.new.view chance.old chance.new }
     ensures seat { IsSeatOf shared.now seat.new }
 {
     draw(seat, shared, chance)?;
@@ -61,6 +64,7 @@ fn keep_mark<C: Chance>(seat: &mut Seat, shared: &Shared, chance: &mut C) -> Res
         → HasKept used seat.old.view seat.new.view) }
     ensures stopped { IfErr result (λ e. Stops e.step seat.old.view seat.new.view) }
     ensures row { Row one_draw seat.old seat.new }
+    ensures asked { HasAsked C.draw_gives seat.old.view seat.new.view chance.old chance.new }
     ensures seat { IsSeatOf shared.now seat.new }
 {
     draw(seat, shared, chance)?;
@@ -80,6 +84,7 @@ fn try_take<C: Chance>(
     ensures done { IfOk result (λ take. TriesTake n take seat.old.view seat.new.view) }
     ensures stopped { IfErr result (λ e. Stops e.step seat.old.view seat.new.view) }
     ensures row { Row (record no_costs { draws = 3; wins = 1; taken = n }) seat.old seat.new }
+    ensures asked { HasAsked C.draw_gives seat.old.view seat.new.view chance.old chance.new }
     ensures seat { IsSeatOf shared.now seat.new }
 {
     let used = look_mark(seat, shared, chance)?;
@@ -117,6 +122,7 @@ pub fn take_fresh<C: Chance>(
         + 4 * (seat.new.view.losses - seat.old.view.losses) }
     ensures stopped { IfErr result (λ e. Stops e.step seat.old.view seat.new.view) }
     ensures row { Row (record no_costs { draws = 3; wins = 1; taken = n }) seat.old seat.new }
+    ensures asked { HasAsked C.draw_gives seat.old.view seat.new.view chance.old chance.new }
     ensures seat { IsSeatOf shared.now seat.new }
 {
     a_row_bounds_its_draws();

@@ -2,6 +2,7 @@
 
 ghost use Rattle.heap_rule.specs.Seated.{IsSeatOf};
 ghost use Rattle.std.specs.Prelude.{◌≡◌, IfOk, OnErr, IfErr};
+ghost use Rattle.seat_rows.specs.Asked.{HasAsked};
 ghost use Rattle.seat_rows.specs.Costs.{no_costs};
 ghost use Rattle.seat_rows.specs.Rows.{HoldingRow, Row, Stops};
 ghost use Rattle.large_block.specs.Holds.{HasHeld, IsFreshClaim};
@@ -33,6 +34,7 @@ pub fn hold<C: Chance>(
     ensures none { OnErr result (Row (record no_costs { draws = 2 }) seat.old seat.new) }
     ensures losses { seat.new.view.losses ≡ seat.old.view.losses }
     ensures row { HoldingRow (record no_costs { draws = 2 }) seat.old seat.new }
+    ensures asked { HasAsked C.draw_gives seat.old.view seat.new.view chance.old chance.new }
     ensures seat { IsSeatOf shared.now seat.new }
 {
     seat.has_a_sound_state();

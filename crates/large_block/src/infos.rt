@@ -3,6 +3,7 @@
 ghost use Rattle.heap_rule.specs.Seated.{IsSeatOf};
 ghost use Rattle.std.specs.Prelude.{◌≡◌, ◌<◌, OnOk, IfErr};
 ghost use Rattle.core_model.specs.View.{times_raw};
+ghost use Rattle.seat_rows.specs.Asked.{HasAsked};
 ghost use Rattle.seat_rows.specs.Costs.{one_draw};
 ghost use Rattle.seat_rows.specs.Rows.{Row, Stops};
 ghost use Rattle.large_block.specs.Infos.{HasInfo};
@@ -27,6 +28,7 @@ pub fn set_info<C: Chance>(
     ensures stopped { IfErr result (λ e. Stops e.step seat.old.view seat.new.view) }
     ensures losses { seat.new.view.losses ≡ seat.old.view.losses }
     ensures row { Row one_draw seat.old seat.new }
+    ensures asked { HasAsked C.draw_gives seat.old.view seat.new.view chance.old chance.new }
     ensures seat { IsSeatOf shared.now seat.new }
 {
     seat.has_a_sound_state();

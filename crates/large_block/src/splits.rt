@@ -6,6 +6,7 @@ ghost use Rattle.heap_model.specs.Counting.{times};
 ghost use Rattle.core_model.specs.Cells.{superblock_at};
 ghost use Rattle.core_model.specs.Effects.{span_count};
 ghost use Rattle.core_model.specs.Guards.{MaySplit};
+ghost use Rattle.seat_rows.specs.Asked.{HasAsked};
 ghost use Rattle.seat_rows.specs.Costs.{no_costs, one_draw};
 ghost use Rattle.seat_rows.specs.Rows.{HoldingRow, Row, Stops, next_of};
 ghost use Rattle.large_block.specs.Splits.{HasCleared, HasClearedAll, HasSplit, MayHaveSplit};
@@ -57,6 +58,7 @@ fn clear_anchor<C: Chance>(
     ensures stopped { IfErr result (λ e. Stops e.step seat.old.view seat.new.view) }
     ensures losses { seat.new.view.losses ≡ seat.old.view.losses }
     ensures row { Row one_draw seat.old seat.new }
+    ensures asked { HasAsked C.draw_gives seat.old.view seat.new.view chance.old chance.new }
     ensures seat { IsSeatOf shared.now seat.new }
 {
     seat.has_a_sound_state();
@@ -83,6 +85,7 @@ fn clear_anchors<C: Chance>(
     ensures stopped { IfErr result (λ e. Stops e.step seat.old.view seat.new.view) }
     ensures losses { seat.new.view.losses ≡ seat.old.view.losses }
     ensures row { Row (record no_costs { draws = span.count }) seat.old seat.new }
+    ensures asked { HasAsked C.draw_gives seat.old.view seat.new.view chance.old chance.new }
     ensures seat { IsSeatOf shared.now seat.new }
 {
     let _capacity = seat.capacity(shared);
@@ -116,6 +119,7 @@ pub fn split<C: Chance>(
     ensures row { let d = superblock_at seat.old.view.setup.capacity block.first_word in
         HoldingRow (record no_costs { draws = span_count d seat.old.view.large + 1 })
         seat.old seat.new }
+    ensures asked { HasAsked C.draw_gives seat.old.view seat.new.view chance.old chance.new }
     ensures seat { IsSeatOf shared.now seat.new }
 {
     seat.has_a_sound_state();

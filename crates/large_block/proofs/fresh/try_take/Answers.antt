@@ -1,4 +1,5 @@
 use Rattle.std.proofs.Common.{◌+◌, subst}
+use Rattle.seat_rows.proofs.AskedLemmas.{asked_then}
 use Rattle.large_block.specs.Fresh.{Marks}
 use Rattle.large_block.proofs.FreshLemmas.{keeping_row, lost_later, taken_then, taking_row}
 use Rattle.large_block.proofs.fresh.try_take.Goals as goal
@@ -35,3 +36,15 @@ returns-clause-done g c =
 pub returns-clause-row : goal.returns-clause-row
 returns-clause-row g c =
     taking_row c.args.seat.now c.look_mark.new.seat c.take_seen.new.seat c.args.n c.look_mark.ensures.row c.take_seen.ensures.row
+
+pub returns-in_err-take_seen-clause-asked : goal.returns-in_err-take_seen-clause-asked
+returns-in_err-take_seen-clause-asked g c = asked_then c.look_mark.ensures.asked c.take_seen.ensures.asked
+
+pub returns-in_err-keep_mark-clause-asked : goal.returns-in_err-keep_mark-clause-asked
+returns-in_err-keep_mark-clause-asked g c = asked_then (asked_then c.look_mark.ensures.asked c.take_seen.ensures.asked) c.keep_mark.ensures.asked
+
+pub returns-then-branch-clause-asked : goal.returns-then-branch-clause-asked
+returns-then-branch-clause-asked g c = asked_then (asked_then c.look_mark.ensures.asked c.take_seen.ensures.asked) c.keep_mark.ensures.asked
+
+pub returns-clause-asked : goal.returns-clause-asked
+returns-clause-asked g c = asked_then c.look_mark.ensures.asked c.take_seen.ensures.asked

@@ -3,6 +3,7 @@ use Rattle.std.proofs.lemmas.Result.{err_from_is_err_and}
 use Rattle.heap_model.specs.Geometry.{superblock_words, start_word}
 use Rattle.core_model.specs.declared.event.Shift.TheVariants.{Large}
 use Rattle.large_block.specs.Infos.{HasInfo}
+use Rattle.seat_rows.proofs.AskedLemmas.{asked_then}
 use Rattle.seat_rows.proofs.RowLemmas.{row_then, then_holding}
 use Rattle.seat_rows.proofs.ShiftLemmas.{shift_row}
 use Rattle.large_block.proofs.HoldLemmas.{can_hold, held, on_err, refused_later, refused_row}
@@ -41,3 +42,9 @@ returns-clause-held g c = let e = c.draw_with.ensures.event c.in_ok-set_info.ens
     (record { first_word = c.start-first_word.result; words = superblock_words * c.args.n })
     (ap (λ (n : ℕ). record { first_word = n; words = superblock_words * c.args.n }) (c.start-first_word.ensures ∙ ap (λ (n : ℕ). start_word n c.args.d) (c.new.ensures ∙ c.capacity.ensures)))
     c.in_ok-draw_with.ensures.told
+
+pub returns-in_err-draw_with-clause-asked : goal.returns-in_err-draw_with-clause-asked
+returns-in_err-draw_with-clause-asked g c = asked_then c.set_info.ensures.asked c.draw_with.ensures.numbers
+
+pub returns-clause-asked : goal.returns-clause-asked
+returns-clause-asked g c = asked_then c.set_info.ensures.asked c.draw_with.ensures.numbers

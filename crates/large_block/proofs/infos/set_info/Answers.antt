@@ -4,6 +4,7 @@ use Rattle.heap_table.specs.Plays.{IsEvent}
 use Rattle.heap_rule.specs.Seated.{HasNewStore}
 use Rattle.heap_rule.specs.Shown.{Can}
 use Rattle.heap_rule.proofs.RawLemmas.{raw_inside}
+use Rattle.seat_rows.proofs.AskedLemmas.{asked_step}
 use Rattle.large_block.proofs.InfoLemmas.{can_info, can_settle, info_row, info_set}
 use Rattle.large_block.proofs.infos.set_info.Goals as goal
 
@@ -36,3 +37,6 @@ returns-clause-row g c = let e = c.store_word.ensures.event in let s = c.settle.
 
 pub returns-clause-losses : goal.returns-clause-losses
 returns-clause-losses g c = (returns-clause-set g c).losses
+
+pub returns-clause-asked : goal.returns-clause-asked
+returns-clause-asked g c = asked_step tt (asked_step tt c.draw.ensures.numbers c.store_word.ensures.event.1) c.settle.ensures.event.1

@@ -1,4 +1,5 @@
 use Rattle.std.proofs.Common.{arith}
+use Rattle.seat_rows.proofs.AskedLemmas.{asked_then}
 use Rattle.large_block.proofs.SplitLemmas.{clearing_on, clearing_row, still_split}
 use Rattle.large_block.proofs.splits.clear_anchors.Goals as goal
 
@@ -14,5 +15,9 @@ pub loop-e-preserved : goal.loop-e-preserved
 loop-e-preserved g c = record {
   clearing = clearing_on c.args.seat.now c.loop-e.seat c.clear_anchor.new.seat c.args.span.first c.loop-e.e c.loop-e.auto.e (let inside = c.requires.inside in let until = c.loop-e-test.true in omega arith)
       c.loop-e.invariant.clearing c.in_ok-clear_anchor.ensures.cleared c.clear_anchor.ensures.losses c.clear_anchor.ensures.row;
+  asked = asked_then c.loop-e.invariant.asked c.clear_anchor.ensures.asked;
   is_of = c.clear_anchor.ensures.seat;
 }
+
+pub returns-in_err-clear_anchor-clause-asked : goal.returns-in_err-clear_anchor-clause-asked
+returns-in_err-clear_anchor-clause-asked g c = asked_then c.loop-e.invariant.asked c.clear_anchor.ensures.asked

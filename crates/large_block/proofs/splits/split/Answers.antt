@@ -7,6 +7,7 @@ use Rattle.large_block.specs.Splits.{HasClearedAll}
 use Rattle.large_block.proofs.SplitLemmas.{each_split, if_err, if_ok, none_split, refused_within, split_done, split_may, split_row, split_stops}
 use Rattle.seat_rows.specs.Costs.{no_costs}
 use Rattle.seat_rows.specs.Rows.{Row}
+use Rattle.seat_rows.proofs.AskedLemmas.{asked_then}
 use Rattle.seat_rows.proofs.DrawLemmas.{told_stop}
 use Rattle.large_block.proofs.splits.split.Goals as goal
 
@@ -51,3 +52,6 @@ returns-clause-split g c = let s = c.superblocks_of-span.ensures in
     if_ok c.clear_anchors.result (λ cleared. split_done c.args.seat.now c.draw_with.new.seat c.draw_with.ensures.stores c.args.block.first_word c.draw_with.ensures.event c.draw_with.ensures.had_stopped c.clear_anchors.new.seat c.in_ok-draw_with.ensures.told
     (subst (λ (n : ℕ). Row (record no_costs { draws = n }) c.draw_with.new.seat c.clear_anchors.new.seat) count c.clear_anchors.ensures.row) c.has_a_sound_state-2.ensures
     (subst (λ (d : ℕ). HasClearedAll d (span_count d c.args.seat.now.view.large) c.draw_with.new.seat.view c.clear_anchors.new.seat.view) s.first (subst (λ (n : ℕ). HasClearedAll d n c.draw_with.new.seat.view c.clear_anchors.new.seat.view) s.count cleared))) c.clear_anchors.ensures.cleared
+
+pub returns-clause-asked : goal.returns-clause-asked
+returns-clause-asked g c = asked_then c.draw_with.ensures.numbers c.clear_anchors.ensures.asked
