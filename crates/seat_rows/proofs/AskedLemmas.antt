@@ -1,12 +1,12 @@
 -- Chance is asked for none where nothing is drawn, and for those of both rows where one is behind the other.
-use Rattle.std.proofs.Common.{◌≡◌, ℕ, zero, suc, ◌+◌, ◌-◌, Bool, true, false, cond, nat_eq, Option, None, Some, refl, ap, sym, subst, ◌∙◌, arith}
+use Rattle.std.proofs.Common.{◌≡◌, ℕ, zero, suc, ◌+◌, ◌-◌, Bool, true, false, cond, nat_eq, nat_lt, Option, None, Some, refl, ap, sym, subst, ◌∙◌, arith}
 use Rattle.std.specs.Bool.{⊤}
 use Rattle.heap_model.specs.Words.{full_anchor, head_first}
 use Rattle.core_model.specs.declared.event.Event.{Event}
 use Rattle.core_model.specs.declared.event.Event.TheVariants.{Tick, Load, Store, Settle, LookUsed, TakeFresh, KeepUsed, LookHead, LookLink, Pop, Push, LookAnchor, TakeAll, Give}
 use Rattle.core_model.specs.declared.event.Shift.{Shift}
 use Rattle.core_model.specs.Cells.{Cell, used_cell, head_cell, info_cell, anchor_cell, link_cell, root_cell, data_cell, no_cell, cell_at}
-use Rattle.core_model.specs.Effects.{before, claimed, given, learn, lost, popped, pushed, seen, seen_of, seen_word, stored, taken_all, taken_fresh, used_up, view_after, won}
+use Rattle.core_model.specs.Effects.{before, claimed, drew, given, learn, lost, popped, pushed, seen, seen_of, seen_word, stored, stopped, taken_all, taken_fresh, used_up, view_after, won}
 use Rattle.core_model.specs.Memory.{Memory, memory_of}
 use Rattle.core_model.specs.View.{View, no_batch}
 use Rattle.heap_table.specs.Plays.{IsEvent}
@@ -14,6 +14,7 @@ use Rattle.heap_rule.specs.Fences.{SettlesEarly}
 use Rattle.heap_rule.specs.Seated.{SeatView}
 use Rattle.heap_rule.proofs.TicketLemmas.{draws_most}
 use Rattle.seat_rows.specs.Asked.{AsksFor, HasAsked}
+use Rattle.seat_rows.specs.Draws.{LeavesAsSettled}
 use Rattle.seat_rows.proofs.DrawLemmas.{by_chance, early_rest}
 
 asks_then : {C : Type 0} (gives : C → ℕ → C → Type 0) (m n all : ℕ) (a b c : C) → all ≡ m + n → AsksFor gives m a b → AsksFor gives n b c → AsksFor gives all a c
@@ -111,3 +112,21 @@ module _ {C : Type 0} (gives : C → ℕ → C → Type 0) (shift : Option Shift
         }
     by_stop (Some step) had = let same = idle step had in
         subst (λ (x : SeatView). HasAsked gives v.view x.view old new) (sym same.0) (subst (HasAsked gives v.view v.view old) (sym same.1) (asked_none v.view old))
+
+-- and leaves what a crash leaves as chance settled it
+module _ {C : Type 0} (gives : C → ℕ → C → Type 0) (v w : SeatView) (old new : C)
+    (event : (r : ℕ) × gives old r new × ((early : SeatView) × SettlesEarly r v early × (found : ℕ) × IsEvent (Tick None) early.view found w.view)) where
+  pub left_as_settled : LeavesAsSettled gives v w old new
+  left_as_settled = record {
+    number = event.0;
+    given = event.1;
+    early = event.2.0;
+    settled = event.2.1;
+    left = by_budget (nat_lt event.2.2 event.2.0.view.setup.budget) event.2.3.after;
+  } where
+    by_budget : (below : Bool) → w.view ≡ cond below (drew event.2.0.view event.2.2) (stopped event.2.0.view event.2.2) → w.view.durable ≡ event.2.0.view.durable
+    by_budget true after = ap (λ (x : View). x.durable) after
+    by_budget false after = ap (λ (x : View). x.durable) after
+
+pub settled_then : {C : Type 0} {gives : C → ℕ → C → Type 0} {v u w : SeatView} {old new : C} → LeavesAsSettled gives v u old new → w.view.durable ≡ u.view.durable → LeavesAsSettled gives v w old new
+settled_then p same = record { number = p.number; given = p.given; early = p.early; settled = p.settled; left = same ∙ p.left }

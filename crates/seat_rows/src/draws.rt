@@ -9,7 +9,7 @@ ghost use Rattle.heap_rule.specs.Fences.{SettlesEarly};
 ghost use Rattle.heap_rule.specs.Seated.{KeepsStores, SeatView, TellsDraw};
 ghost use Rattle.heap_rule.specs.Shown.{Can};
 ghost use Rattle.seat_rows.specs.Asked.{HasAsked};
-ghost use Rattle.seat_rows.specs.Draws.{Settles};
+ghost use Rattle.seat_rows.specs.Draws.{LeavesAsSettled, Settles};
 ghost use Rattle.seat_rows.specs.Costs.{one_draw};
 ghost use Rattle.seat_rows.specs.Rows.{HasDrawn, Row, SameLooks, Stops, next_of};
 
@@ -53,6 +53,8 @@ pub fn draw<C: Chance>(seat: &mut Seat, shared: &Shared, chance: &mut C) -> Resu
     ensures asked { seat.old.view.stopped ≡ None → (r : ℕ) × C.draw_gives chance.old r chance.new }
     ensures not_asked { (step : ℕ) → seat.old.view.stopped ≡ Some step → chance.new ≡ chance.old }
     ensures numbers { HasAsked C.draw_gives seat.old.view seat.new.view chance.old chance.new }
+    ensures early { seat.old.view.stopped ≡ None
+        → LeavesAsSettled C.draw_gives seat.old seat.new chance.old chance.new }
     ensures row { Row one_draw seat.old seat.new }
     ensures looks { SameLooks seat.old.view seat.new.view }
     ensures losses { seat.new.view.losses ≡ seat.old.view.losses }

@@ -1,5 +1,6 @@
 use Rattle.heap_rule.specs.Seated.{SeatView}
 use Rattle.std.proofs.Common.{None, ap}
+use Rattle.seat_rows.proofs.AskedLemmas.{left_as_settled}
 use Rattle.seat_rows.proofs.DrawLemmas.{told_drawn, told_looks, told_row, told_stopped}
 use Rattle.seat_rows.proofs.RowLemmas.{row_of}
 use Rattle.seat_rows.proofs.draws.draw.Goals as goal
@@ -25,3 +26,6 @@ returns-clause-asked g c = λ going. let e = c.draw_with.ensures.asked going in 
 
 pub returns-clause-not_asked : goal.returns-clause-not_asked
 returns-clause-not_asked g c = c.draw_with.ensures.not_asked
+
+pub returns-clause-early : goal.returns-clause-early
+returns-clause-early g c = λ going. left_as_settled g.C.Chance.draw_gives c.args.seat.now c.draw_with.new.seat c.args.chance.now c.draw_with.new.chance (c.draw_with.ensures.asked going)
