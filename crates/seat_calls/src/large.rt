@@ -4,6 +4,7 @@
 ghost use Rattle.std.specs.Prelude.{◌≡◌, ◌<◌, ◌≤◌, ◌+◌, None, [], IfOk, OnOk, OnErr, IfErr};
 ghost use Rattle.heap_model.specs.Sizes.{span_of};
 ghost use Rattle.heap_rule.specs.Seated.{IsSeatOf};
+ghost use Rattle.seat_rows.specs.Asked.{HasAsked};
 ghost use Rattle.seat_rows.specs.Idle.{IsIdle};
 ghost use Rattle.seat_rows.specs.Rows.{HoldingRow, Row, Stops, next_of};
 ghost use Rattle.core_model.specs.Cells.{superblock_at};
@@ -40,6 +41,7 @@ pub fn alloc_large<C: Chance>(
     ensures none { OnErr result (Row (large_costs (span_of bytes)) seat.old seat.new) }
     ensures drew { next_of seat.old.view < next_of seat.new.view }
     ensures row { HoldingRow (large_costs (span_of bytes)) seat.old seat.new }
+    ensures asked { HasAsked C.draw_gives seat.old.view seat.new.view chance.old chance.new }
     ensures seat { IsSeatOf shared.now seat.new }
 {
     let n = span_of(bytes);
@@ -73,6 +75,7 @@ fn list_all<C: Chance>(
     ensures listed { OnOk result (HasListedAll seat.old.view seat.new.view) }
     ensures stopped { IfErr result (λ e. Stops e.step seat.old.view seat.new.view) }
     ensures row { Row (list_costs span.count) seat.old seat.new }
+    ensures asked { HasAsked C.draw_gives seat.old.view seat.new.view chance.old chance.new }
     ensures seat { IsSeatOf shared.now seat.new }
 {
     let _capacity = seat.capacity(shared);
@@ -106,6 +109,7 @@ pub fn free_large<C: Chance>(
     ensures drew { next_of seat.old.view < next_of seat.new.view }
     ensures row { let d = superblock_at seat.old.view.setup.capacity block.first_word in
         HoldingRow (large_free_costs (span_count d seat.old.view.large)) seat.old seat.new }
+    ensures asked { HasAsked C.draw_gives seat.old.view seat.new.view chance.old chance.new }
     ensures seat { IsSeatOf shared.now seat.new }
 {
     let span = superblocks_of(seat, shared, block.first_word);

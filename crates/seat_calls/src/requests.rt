@@ -5,6 +5,7 @@ ghost use Rattle.core_model.specs.Held.{IsHeld};
 ghost use Rattle.heap_model.specs.Sizes.{IsLeastClassFor};
 ghost use Rattle.core_model.specs.View.{of_class};
 ghost use Rattle.heap_rule.specs.Seated.{IsSeatOf};
+ghost use Rattle.seat_rows.specs.Asked.{HasAsked};
 ghost use Rattle.seat_rows.specs.Costs.{one_draw};
 ghost use Rattle.seat_rows.specs.Idle.{HasShortCaches, IsIdle};
 ghost use Rattle.seat_rows.specs.Rows.{HoldingRow, Row, RowBut, Stops, next_of};
@@ -50,6 +51,7 @@ pub fn alloc<C: Chance>(
     ensures row { HoldingRow
         (request_costs bytes (seat.new.view.moves - seat.old.view.moves))
         seat.old seat.new }
+    ensures asked { HasAsked C.draw_gives seat.old.view seat.new.view chance.old chance.new }
     ensures seat { IsSeatOf shared.now seat.new }
 {
     match SizeClass::for_bytes(bytes) {
@@ -82,6 +84,7 @@ pub fn free<C: Chance>(
         → seat.new.view.large ≡ seat.old.view.large
         → RowBut (IsHeldOutside seat.old.view block) light_free_costs seat.old seat.new) }
     ensures row { RowBut (IsHeldOutside seat.old.view block) most_free_costs seat.old seat.new }
+    ensures asked { HasAsked C.draw_gives seat.old.view seat.new.view chance.old chance.new }
     ensures seat { IsSeatOf shared.now seat.new }
 {
     seat.has_a_sound_state();

@@ -6,6 +6,7 @@ ghost use Rattle.heap_model.specs.Counting.{times};
 ghost use Rattle.heap_model.specs.Sizes.{blocks_of};
 ghost use Rattle.core_model.specs.View.{of_class};
 ghost use Rattle.heap_rule.specs.Seated.{IsSeatOf};
+ghost use Rattle.seat_rows.specs.Asked.{HasAsked};
 ghost use Rattle.seat_rows.specs.Costs.{no_costs, one_draw};
 ghost use Rattle.seat_rows.specs.Idle.{HasShortCaches, IsIdle};
 ghost use Rattle.seat_rows.specs.Rows.{HoldingRow, Row, RowBut, SameLooks, Stops, StoringRow, next_of};
@@ -41,6 +42,7 @@ fn alloc_cached<C: Chance>(
     ensures drew { next_of seat.old.view < next_of seat.new.view }
     ensures looks { OnOk result (SameLooks seat.old.view seat.new.view) }
     ensures row { HoldingRow one_draw seat.old seat.new }
+    ensures asked { HasAsked C.draw_gives seat.old.view seat.new.view chance.old chance.new }
     ensures seat { IsSeatOf shared.now seat.new }
 {
     seat.has_a_sound_state();
@@ -87,6 +89,7 @@ pub fn alloc_small<C: Chance>(
     ensures row { HoldingRow
         (alloc_costs class.number (seat.new.view.moves - seat.old.view.moves))
         seat.old seat.new }
+    ensures asked { HasAsked C.draw_gives seat.old.view seat.new.view chance.old chance.new }
     ensures seat { IsSeatOf shared.now seat.new }
 {
     seat.has_a_sound_state();
@@ -118,6 +121,7 @@ fn lead_to_cache<C: Chance>(
     ensures way { OnOk result (HasWay block class.number seat.old.view seat.new.view) }
     ensures stopped { IfErr result (λ e. Stops e.step seat.old.view seat.new.view) }
     ensures row { StoringRow block one_draw seat.old seat.new }
+    ensures asked { HasAsked C.draw_gives seat.old.view seat.new.view chance.old chance.new }
     ensures seat { IsSeatOf shared.now seat.new }
 {
     seat.has_a_sound_state();
@@ -146,6 +150,7 @@ fn free_cached<C: Chance>(
     ensures drew { seat.old.view.stopped ≡ None → next_of seat.old.view < next_of seat.new.view }
     ensures row { RowBut (IsHeldOutside seat.old.view (block_of class.number block))
         (record no_costs { draws = 2 }) seat.old seat.new }
+    ensures asked { HasAsked C.draw_gives seat.old.view seat.new.view chance.old chance.new }
     ensures seat { IsSeatOf shared.now seat.new }
 {
     seat.has_a_sound_state();
@@ -180,6 +185,7 @@ pub fn free_small<C: Chance>(
         (record no_costs { draws = 2 }) seat.old seat.new }
     ensures row { RowBut (IsHeldOutside seat.old.view (block_of class.number block))
         (free_costs (blocks_of class.number)) seat.old seat.new }
+    ensures asked { HasAsked C.draw_gives seat.old.view seat.new.view chance.old chance.new }
     ensures seat { IsSeatOf shared.now seat.new }
 {
     seat.has_a_sound_state();

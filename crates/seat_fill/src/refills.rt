@@ -4,6 +4,7 @@ ghost use Rattle.std.specs.Prelude.{◌≡◌, ◌<◌, ◌≤◌, ◌+◌, ◌-
 ghost use Rattle.heap_model.specs.Sizes.{blocks_of};
 ghost use Rattle.core_model.specs.View.{of_class};
 ghost use Rattle.heap_rule.specs.Seated.{IsSeatOf};
+ghost use Rattle.seat_rows.specs.Asked.{HasAsked};
 ghost use Rattle.seat_rows.specs.Costs.{no_costs, one_win};
 ghost use Rattle.seat_rows.specs.Idle.{IsIdle};
 ghost use Rattle.seat_rows.specs.Rows.{Row, Stops};
@@ -63,6 +64,7 @@ fn try_fill_from_class<C: Chance>(
       wins = 2;
       moves = seat.new.view.moves - seat.old.view.moves;
     }) seat.old seat.new }
+    ensures asked { HasAsked C.draw_gives seat.old.view seat.new.view chance.old chance.new }
     ensures seat { IsSeatOf shared.now seat.new }
 {
     let pop = partial_list::pop(seat, shared, class, chance)?;
@@ -98,6 +100,7 @@ fn fill_from_class<C: Chance>(
       wins = 2;
       moves = seat.new.view.moves - seat.old.view.moves;
     }) seat.old seat.new }
+    ensures asked { HasAsked C.draw_gives seat.old.view seat.new.view chance.old chance.new }
     ensures seat { IsSeatOf shared.now seat.new }
 {
     loop {
@@ -121,6 +124,7 @@ fn find_superblock<C: Chance>(
     ensures others { IfOk result (λ _. KeepsClassLooks seat.old.view seat.new.view) }
     ensures stopped { IfErr result (λ e. Stops e.step seat.old.view seat.new.view) }
     ensures row { Row (record one_win { draws = 6; taken = 1 }) seat.old seat.new }
+    ensures asked { HasAsked C.draw_gives seat.old.view seat.new.view chance.old chance.new }
     ensures seat { IsSeatOf shared.now seat.new }
 {
     let free_head = match free_list::pop(seat, shared, chance)? {
@@ -168,6 +172,7 @@ pub fn refill<C: Chance>(
       taken = 1;
       moves = seat.new.view.moves - seat.old.view.moves;
     }) seat.old seat.new }
+    ensures asked { HasAsked C.draw_gives seat.old.view seat.new.view chance.old chance.new }
     ensures seat { IsSeatOf shared.now seat.new }
 {
     let class_head = match fill_from_class(seat, shared, class, chance)? {

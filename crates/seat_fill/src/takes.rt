@@ -11,6 +11,7 @@ ghost use Rattle.core_model.specs.Guards.{MayTakeAll};
 ghost use Rattle.core_model.specs.View.{of_class};
 ghost use Rattle.heap_rule.specs.Seated.{IsSeatOf};
 ghost use Rattle.seat_lists.specs.Pushes.{IsClaimOf};
+ghost use Rattle.seat_rows.specs.Asked.{HasAsked};
 ghost use Rattle.seat_rows.specs.Costs.{one_draw, one_win};
 ghost use Rattle.seat_rows.specs.Rows.{Row, Stops};
 ghost use Rattle.seat_fill.specs.Takes.{TakesFree, TakesSeen, TriesFree};
@@ -35,6 +36,7 @@ fn take_seen<C: Chance>(
         → TakesSeen d class won seat.old.view seat.new.view) }
     ensures stopped { IfErr result (λ e. Stops e.step seat.old.view seat.new.view) }
     ensures row { Row (record one_win { draws = 1 }) seat.old seat.new }
+    ensures asked { HasAsked C.draw_gives seat.old.view seat.new.view chance.old chance.new }
     ensures seat { IsSeatOf shared.now seat.new }
 {
     draw(seat, shared, chance)?;
@@ -57,6 +59,7 @@ fn try_take<C: Chance>(
         seat.old.view seat.new.view) }
     ensures stopped { IfErr result (λ e. Stops e.step seat.old.view seat.new.view) }
     ensures row { Row (record one_win { draws = 2 }) seat.old seat.new }
+    ensures asked { HasAsked C.draw_gives seat.old.view seat.new.view chance.old chance.new }
     ensures seat { IsSeatOf shared.now seat.new }
 {
     let _class = class;
@@ -93,6 +96,7 @@ pub fn take_free_blocks<C: Chance>(
     ensures none { IfOk result (λ taken. taken ≡ false → Row one_draw seat.old seat.new) }
     ensures stopped { IfErr result (λ e. Stops e.step seat.old.view seat.new.view) }
     ensures row { Row (record one_win { draws = 2 }) seat.old seat.new }
+    ensures asked { HasAsked C.draw_gives seat.old.view seat.new.view chance.old chance.new }
     ensures seat { IsSeatOf shared.now seat.new }
 {
     loop {

@@ -3,6 +3,7 @@
 ghost use Rattle.heap_rule.specs.Seated.{IsSeatOf};
 ghost use Rattle.std.specs.Prelude.{◌≡◌, None, OnOk, IfErr};
 ghost use Rattle.core_model.specs.View.{no_batch};
+ghost use Rattle.seat_rows.specs.Asked.{HasAsked};
 ghost use Rattle.seat_rows.specs.Rows.{Row, Stops};
 ghost use Rattle.seat_flush.specs.All.{HasFlushedAll, all_costs};
 
@@ -20,6 +21,7 @@ pub fn flush_all<C: Chance>(seat: &mut Seat, shared: &Shared, chance: &mut C) ->
     ensures flushed { OnOk result (HasFlushedAll seat.old.view seat.new.view) }
     ensures stopped { IfErr result (λ e. Stops e.step seat.old.view seat.new.view) }
     ensures row { Row (all_costs seat.old.view) seat.old seat.new }
+    ensures asked { HasAsked C.draw_gives seat.old.view seat.new.view chance.old chance.new }
     ensures seat { IsSeatOf shared.now seat.new }
 {
     for number in 1..=LAST_CLASS {

@@ -3,6 +3,7 @@
 ghost use Rattle.std.specs.Prelude.{◌≡◌, ◌<◌, None, IfErr, IfOk, OnErr, OnOk};
 ghost use Rattle.core_model.specs.Held.{IsHeld};
 ghost use Rattle.heap_rule.specs.Seated.{IsSeatOf};
+ghost use Rattle.seat_rows.specs.Asked.{HasAsked};
 ghost use Rattle.seat_rows.specs.Costs.{one_draw};
 ghost use Rattle.seat_rows.specs.Rows.{Row, SameLooks, Stops, next_of};
 ghost use Rattle.seat_words.specs.Handed.{AcceptRow, ComesWith, GoesWith, HasAccepted, HasOffered, OfferRow};
@@ -31,6 +32,7 @@ pub fn offer<C: Chance>(
         → next_of seat.old.view < next_of seat.new.view }
     ensures looks { SameLooks seat.old.view seat.new.view }
     ensures losses { seat.new.view.losses ≡ seat.old.view.losses }
+    ensures asked { HasAsked C.draw_gives seat.old.view seat.new.view chance.old chance.new }
     ensures seat { IsSeatOf shared.now seat.new }
 {
     draw(seat, shared, chance)?;
@@ -58,6 +60,7 @@ pub fn accept<C: Chance>(
         → next_of seat.old.view < next_of seat.new.view }
     ensures looks { SameLooks seat.old.view seat.new.view }
     ensures losses { seat.new.view.losses ≡ seat.old.view.losses }
+    ensures asked { HasAsked C.draw_gives seat.old.view seat.new.view chance.old chance.new }
     ensures seat { IsSeatOf shared.now seat.new }
 {
     match draw(seat, shared, chance) {

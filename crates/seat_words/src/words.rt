@@ -5,6 +5,7 @@ ghost use Rattle.core_model.specs.View.{no_batch};
 ghost use Rattle.heap_rule.specs.Fences.{Owns};
 ghost use Rattle.heap_rule.specs.Seated.{IsSeatOf};
 ghost use Rattle.line_memory.specs.Marks.{IsMarked};
+ghost use Rattle.seat_rows.specs.Asked.{HasAsked};
 ghost use Rattle.seat_rows.specs.Costs.{one_draw};
 ghost use Rattle.seat_rows.specs.Rows.{Row, SameLooks, Stops, StoringRow};
 ghost use Rattle.seat_rows.specs.Words.{IsHeldWord};
@@ -29,6 +30,7 @@ pub fn load<C: Chance>(
     ensures drew { Drew seat.old.view seat.new.view }
     ensures looks { SameLooks seat.old.view seat.new.view }
     ensures marks { seat.new.marks ≡ seat.old.marks }
+    ensures asked { HasAsked C.draw_gives seat.old.view seat.new.view chance.old chance.new }
     ensures seat { IsSeatOf shared.now seat.new }
 {
     draw(seat, shared, chance)?;
@@ -56,6 +58,7 @@ pub fn store<C: Chance>(
     ensures looks { SameLooks seat.old.view seat.new.view }
     ensures marks { (other : ℕ) → other ≢ word → IsMarked seat.old.marks other
         → IsMarked seat.new.marks other }
+    ensures asked { HasAsked C.draw_gives seat.old.view seat.new.view chance.old chance.new }
     ensures seat { IsSeatOf shared.now seat.new }
 {
     seat.has_a_sound_state();
@@ -79,6 +82,7 @@ pub fn write_back<C: Chance>(
     ensures drew { Drew seat.old.view seat.new.view }
     ensures looks { SameLooks seat.old.view seat.new.view }
     ensures marks { (other : ℕ) → IsMarked seat.old.marks other → IsMarked seat.new.marks other }
+    ensures asked { HasAsked C.draw_gives seat.old.view seat.new.view chance.old chance.new }
     ensures seat { IsSeatOf shared.now seat.new }
 {
     draw(seat, shared, chance)?;
@@ -94,6 +98,7 @@ pub fn fence<C: Chance>(seat: &mut Seat, shared: &Shared, chance: &mut C) -> Res
     ensures row { Row one_draw seat.old seat.new }
     ensures drew { Drew seat.old.view seat.new.view }
     ensures looks { SameLooks seat.old.view seat.new.view }
+    ensures asked { HasAsked C.draw_gives seat.old.view seat.new.view chance.old chance.new }
     ensures seat { IsSeatOf shared.now seat.new }
 {
     draw(seat, shared, chance)?;

@@ -3,6 +3,7 @@ use Rattle.core_model.specs.declared.event.Event.TheVariants.{Store}
 use Rattle.heap_table.specs.Plays.{IsEvent}
 use Rattle.heap_rule.specs.Seated.{HasNewStore}
 use Rattle.heap_rule.specs.Shown.{Can}
+use Rattle.seat_rows.proofs.AskedLemmas.{asked_step}
 use Rattle.large_block.proofs.SplitLemmas.{anchor_cleared, can_clear, clear_row, none_lost, split_inside}
 use Rattle.large_block.proofs.splits.clear_anchor.Goals as goal
 
@@ -29,3 +30,6 @@ pub returns-clause-losses : goal.returns-clause-losses
 returns-clause-losses g c = let e = c.store_word.ensures.event in
     none_lost c.args.seat.now.view c.has_a_sound_state.ensures c.args.e c.requires.split c.draw.new.seat.view c.in_ok-draw.ensures.drawn c.store_word.new.self.view e.0
     (subst (λ (n : ℕ). IsEvent (Store n 0) c.draw.new.seat.view e.0 c.store_word.new.self.view) c.anchor-anchor.ensures e.1)
+
+pub returns-clause-asked : goal.returns-clause-asked
+returns-clause-asked g c = asked_step tt c.draw.ensures.numbers c.store_word.ensures.event.1

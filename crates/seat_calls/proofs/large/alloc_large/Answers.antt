@@ -4,6 +4,7 @@ use Rattle.large_block.specs.declared.fresh.Take.TheVariants.{Got}
 use Rattle.large_block.specs.Holds.{HasHeld}
 use Rattle.large_block.proofs.HoldLemmas.{on_err}
 use Rattle.seat_rows.specs.Rows.{Row}
+use Rattle.seat_rows.proofs.AskedLemmas.{asked_then}
 use Rattle.seat_calls.proofs.LargeLemmas.{allocated, held_row, no_room, not_held_row, taking}
 use Rattle.seat_calls.proofs.large.alloc_large.Goals as goal
 
@@ -33,3 +34,9 @@ returns-clause-allocated g c =
     (subst (λ take. Takes c.span_of-n.result take c.args.seat.now.view c.take_fresh.new.seat.view) c.in-Got.is c.in_ok-d.ensures.done))
     (subst (λ (n : ℕ). HasHeld c.in-Got.d n c.in_ok-hold.field-0 c.take_fresh.new.seat.view c.hold.new.seat.view) c.span_of-n.ensures c.in_ok-hold.ensures.held)
     c.hold.ensures.row.passes.next (let least = c.hold.ensures.row.passes.more.taken in let most = c.hold.ensures.row.passes.most.taken in omega arith)
+
+pub returns-in_err-hold-clause-asked : goal.returns-in_err-hold-clause-asked
+returns-in_err-hold-clause-asked g c = asked_then c.take_fresh.ensures.asked c.hold.ensures.asked
+
+pub returns-clause-asked : goal.returns-clause-asked
+returns-clause-asked g c = asked_then c.take_fresh.ensures.asked c.hold.ensures.asked

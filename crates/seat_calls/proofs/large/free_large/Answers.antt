@@ -1,6 +1,7 @@
 use Rattle.std.proofs.Common.{ℕ, subst, ap, ◌∙◌}
 use Rattle.core_model.specs.Effects.{span_count}
 use Rattle.seat_rows.specs.Rows.{Row}
+use Rattle.seat_rows.proofs.AskedLemmas.{asked_then}
 use Rattle.seat_calls.specs.Large.{list_costs}
 use Rattle.seat_calls.proofs.LargeLemmas.{freed_row}
 use Rattle.seat_calls.proofs.large.free_large.Goals as goal
@@ -9,3 +10,6 @@ pub returns-clause-row : goal.returns-clause-row
 returns-clause-row g c = let s = c.superblocks_of-span.ensures in
     freed_row c.args.seat.now c.split.new.seat c.list_all.new.seat _ c.split.ensures.row
     (subst (λ (n : ℕ). Row (list_costs n) c.split.new.seat c.list_all.new.seat) (s.count ∙ ap (λ (d : ℕ). span_count d c.args.seat.now.view.large) s.first) c.list_all.ensures.row)
+
+pub returns-clause-asked : goal.returns-clause-asked
+returns-clause-asked g c = asked_then c.split.ensures.asked c.list_all.ensures.asked

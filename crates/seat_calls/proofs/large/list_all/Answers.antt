@@ -1,3 +1,4 @@
+use Rattle.seat_rows.proofs.AskedLemmas.{asked_then}
 use Rattle.seat_calls.proofs.LargeLemmas.{can_push, listing_on, listing_row}
 use Rattle.seat_calls.proofs.large.list_all.Goals as goal
 
@@ -9,6 +10,7 @@ pub loop-d-preserved : goal.loop-d-preserved
 loop-d-preserved g c = record {
   listing = listing_on c.args.seat.now c.loop-d.seat c.args.span.first c.args.span.count c.loop-d.d c.loop-d.auto.d c.loop-d-test.true c.loop-d.invariant.listing c.requires.no_cutting
       c.push.new.seat c.push.ensures.row c.requires.no_split c.in_ok-push.ensures.done;
+  asked = asked_then c.loop-d.invariant.asked c.push.ensures.asked;
   is_of = c.push.ensures.seat;
 }
 
@@ -16,3 +18,6 @@ pub returns-in_err-push-clause-row : goal.returns-in_err-push-clause-row
 returns-in_err-push-clause-row g c =
     listing_row c.args.seat.now c.loop-d.seat c.args.span.first c.args.span.count c.loop-d.d c.loop-d.auto.d c.loop-d-test.true c.loop-d.invariant.listing c.requires.no_cutting
     c.push.new.seat c.push.ensures.row
+
+pub returns-in_err-push-clause-asked : goal.returns-in_err-push-clause-asked
+returns-in_err-push-clause-asked g c = asked_then c.loop-d.invariant.asked c.push.ensures.asked

@@ -1,5 +1,6 @@
 use Rattle.std.proofs.Common.{arith, subst}
 use Rattle.seat_fill.specs.Refills.{Refills}
+use Rattle.seat_rows.proofs.AskedLemmas.{asked_then}
 use Rattle.seat_calls.proofs.AllocLemmas.{alloc_light, alloc_row, filled_alloc, full_light, full_row, order_held, order_still, stopped_row}
 use Rattle.seat_calls.proofs.SmallLemmas.{on_err}
 use Rattle.seat_calls.proofs.small.alloc_small.Goals as goal
@@ -52,3 +53,9 @@ returns-in_err-block-in-Filled-clause-cached g c = λ some. absurd (let n = c.ca
 
 pub returns-in_ok-block-in-Filled-clause-cached : goal.returns-in_ok-block-in-Filled-clause-cached
 returns-in_ok-block-in-Filled-clause-cached g c = λ some. absurd (let n = c.cache-count.ensures.count in omega (arith, some, n))
+
+pub returns-in_err-block-in-Filled-clause-asked : goal.returns-in_err-block-in-Filled-clause-asked
+returns-in_err-block-in-Filled-clause-asked g c = asked_then c.refill.ensures.asked c.alloc_cached-in-Filled.ensures.asked
+
+pub returns-in_ok-block-in-Filled-clause-asked : goal.returns-in_ok-block-in-Filled-clause-asked
+returns-in_ok-block-in-Filled-clause-asked g c = asked_then c.refill.ensures.asked c.alloc_cached-in-Filled.ensures.asked

@@ -1,3 +1,4 @@
+use Rattle.seat_rows.proofs.AskedLemmas.{asked_then}
 use Rattle.seat_rows.proofs.ShiftLemmas.{shift_row}
 use Rattle.core_model.specs.declared.event.Shift.TheVariants.{Free}
 use Rattle.seat_calls.proofs.SmallLemmas.{cached_told, free_stopped, freed_row, lead_row, may_hold_less}
@@ -25,3 +26,6 @@ returns-clause-row g c = let way = c.in_ok-lead_to_cache.ensures.way in let e = 
     freed_row v t w c.has_a_sound_state.ensures c.args.class.number c.args.block c.args.class.is c.requires.held c.lead_to_cache.ensures.row
     (shift_row t w c.draw_with.ensures.stores e.0 e.1 way.going e.2 (Free c.args.block) e.3)
     (may_hold_less v.view c.has_a_sound_state.ensures c.args.class.number c.args.block c.args.class.is c.requires.held t.view e.0 w.view e.2 way e.1 e.3)
+
+pub returns-clause-asked : goal.returns-clause-asked
+returns-clause-asked g c = asked_then c.lead_to_cache.ensures.asked c.draw_with.ensures.numbers

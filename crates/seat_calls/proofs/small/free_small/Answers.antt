@@ -1,5 +1,6 @@
 use Rattle.std.proofs.Common.{arith}
 use Rattle.seat_flush.proofs.FlushLemmas.{on_ok_then}
+use Rattle.seat_rows.proofs.AskedLemmas.{asked_then}
 use Rattle.seat_calls.proofs.SmallLemmas.{flushed_row, freed_flushed, freed_short, one_more}
 use Rattle.seat_calls.proofs.small.free_small.Goals as goal
 
@@ -22,3 +23,6 @@ returns-clause-row g c = let cached = c.in_ok-free_cached.ensures.cached in
     let few = c.requires.short.each c.args.class.number c.args.class.is in
     let more = one_more c.args.seat.now.view c.free_cached.new.seat.view c.has_a_sound_state.ensures c.args.class.number c.args.block c.args.class.is cached in
     flushed_row c.args.seat.now c.free_cached.new.seat c.flush.new.seat c.has_a_sound_state.ensures c.args.class.number c.args.block c.args.class.is c.requires.held c.free_cached.ensures.may (omega (arith, few, more)) c.free_cached.ensures.row c.flush.ensures.row
+
+pub returns-clause-asked : goal.returns-clause-asked
+returns-clause-asked g c = asked_then c.free_cached.ensures.asked c.flush.ensures.asked

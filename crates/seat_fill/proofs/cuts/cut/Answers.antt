@@ -2,6 +2,7 @@ use Rattle.std.proofs.Common.{arith, ◌+◌}
 use Rattle.heap_model.specs.Sizes.{blocks_of}
 use Rattle.heap_model.proofs.SizeLemmas.{four_blocks}
 use Rattle.seat_rows.specs.Costs.{no_costs}
+use Rattle.seat_rows.proofs.AskedLemmas.{asked_then}
 use Rattle.seat_rows.proofs.RowLemmas.{row_of, row_then, row_within}
 use Rattle.seat_rows.proofs.ShiftLemmas.{cut_draw_row}
 use Rattle.seat_fill.proofs.CutLemmas.{can_cut, cut_counted, cut_stopped, cut_told}
@@ -51,3 +52,12 @@ returns-clause-counted g c =
     let row = row_then c.args.seat.now c.link_blocks.new.seat c.fill_anchor.new.seat (row_then c.args.seat.now c.set_info.new.seat c.link_blocks.new.seat c.set_info.ensures.row c.link_blocks.ensures.row) c.fill_anchor.ensures.row in
     let e = c.draw_with.ensures.event c.in_ok-fill_anchor.ensures.filled.going in
     cut_counted c.args.seat.now.view c.fill_anchor.new.seat.view e.0 c.draw_with.new.seat.view c.args.d e.2 row.view e.1 e.3 c.draw_with.result c.draw_with.ensures.told
+
+pub returns-in_err-link_blocks-clause-asked : goal.returns-in_err-link_blocks-clause-asked
+returns-in_err-link_blocks-clause-asked g c = asked_then c.set_info.ensures.asked c.link_blocks.ensures.asked
+
+pub returns-in_err-fill_anchor-clause-asked : goal.returns-in_err-fill_anchor-clause-asked
+returns-in_err-fill_anchor-clause-asked g c = asked_then (asked_then c.set_info.ensures.asked c.link_blocks.ensures.asked) c.fill_anchor.ensures.asked
+
+pub returns-clause-asked : goal.returns-clause-asked
+returns-clause-asked g c = asked_then (asked_then (asked_then c.set_info.ensures.asked c.link_blocks.ensures.asked) c.fill_anchor.ensures.asked) c.draw_with.ensures.numbers

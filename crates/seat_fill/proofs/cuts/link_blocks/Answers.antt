@@ -4,6 +4,7 @@ use Rattle.heap_model.specs.Sizes.{blocks_of, words_of_class}
 use Rattle.heap_model.proofs.SizeLemmas.{four_blocks}
 use Rattle.seat_rows.specs.Costs.{no_costs}
 use Rattle.heap_rule.proofs.RawLemmas.{raw_inside}
+use Rattle.seat_rows.proofs.AskedLemmas.{asked_none, asked_then}
 use Rattle.seat_rows.proofs.RowLemmas.{marks_behind, view_row_within}
 use Rattle.seat_fill.specs.Cuts.{HasLink}
 use Rattle.seat_fill.proofs.CutLemmas.{Linking, link_end, link_next, link_raw, link_until, linking_begins, linking_on, linking_row}
@@ -18,6 +19,7 @@ loop-i-init g c = record {
   place = (let a = c.new.ensures in let b = c.capacity.ensures in let s = c.start-block.ensures in omega arith);
   few = (let four = four_blocks c.args.class.number c.args.class.is in omega arith);
   marks = λ k held marked. inl marked;
+  asked = asked_none c.args.seat.now.view c.args.chance.now;
   is_of = c.requires.seat;
 }
 
@@ -64,6 +66,7 @@ loop-i-preserved g c =
           ∙ ap (λ m. start_word v.setup.capacity c.args.d + m * words_of_class c.args.class.number) next;
       few = omega arith;
       marks = marks_behind c.args.seat.now c.loop-i.seat c.link_block.new.seat c.loop-i.invariant.linking.row c.loop-i.invariant.marks c.link_block.ensures.row;
+      asked = asked_then c.loop-i.invariant.asked c.link_block.ensures.asked;
       is_of = c.link_block.ensures.seat;
     }
 
@@ -72,3 +75,6 @@ returns-clause-row g c = let few = c.loop-i.invariant.few in record {
   view = view_row_within (record no_costs { draws = blocks_of c.args.class.number - 1 }) c.args.seat.now.view c.loop-i.seat.view (record { draws = omega arith; wins = omega arith; gives = omega arith; cuts = omega arith; taken = omega arith; moves = omega arith }) c.loop-i.invariant.linking.row;
   marks = c.loop-i.invariant.marks;
 }
+
+pub returns-in_err-link_block-clause-asked : goal.returns-in_err-link_block-clause-asked
+returns-in_err-link_block-clause-asked g c = asked_then c.loop-i.invariant.asked c.link_block.ensures.asked

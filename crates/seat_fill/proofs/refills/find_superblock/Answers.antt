@@ -1,6 +1,7 @@
 use Rattle.std.proofs.Common.{subst, arith}
 use Rattle.large_block.specs.Fresh.{HasTakenFresh, IsPast, Takes}
 use Rattle.seat_lists.specs.Pops.{HasPopped, IsEmptyList, Pops}
+use Rattle.seat_rows.proofs.AskedLemmas.{asked_then}
 use Rattle.seat_rows.proofs.RowLemmas.{row_then, view_row_then}
 use Rattle.seat_fill.proofs.RefillLemmas.{empty_list_row, fresh_behind, fresh_others, nothing_free, nothing_won, past_others}
 use Rattle.seat_fill.proofs.refills.find_superblock.Goals as goal
@@ -56,3 +57,12 @@ returns-in-Past-clause-others g c = let v = c.args.seat.now.view in let t = c.po
     let empty : IsEmptyList 0 c.in-Empty.head v t = subst (λ pop. Pops 0 pop v t) c.in-Empty.is c.in_ok-d.ensures.done in
     let past : IsPast 1 c.in-Past.used t w = subst (λ take. Takes 1 take t w) c.in-Past.is c.in_ok-take.ensures.done in
     past_others v t w c.in-Empty.head c.in-Past.used c.has_a_sound_state.ensures empty past
+
+pub returns-in_err-take-clause-asked : goal.returns-in_err-take-clause-asked
+returns-in_err-take-clause-asked g c = asked_then c.pop.ensures.asked c.take_fresh.ensures.asked
+
+pub returns-in-Got-take-clause-asked : goal.returns-in-Got-take-clause-asked
+returns-in-Got-take-clause-asked g c = asked_then c.pop.ensures.asked c.take_fresh.ensures.asked
+
+pub returns-in-Past-clause-asked : goal.returns-in-Past-clause-asked
+returns-in-Past-clause-asked g c = asked_then c.pop.ensures.asked c.take_fresh.ensures.asked

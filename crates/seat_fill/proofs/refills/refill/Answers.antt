@@ -1,6 +1,7 @@
 use Rattle.std.proofs.Common.{subst, refl, arith}
 use Rattle.seat_rows.specs.Costs.{no_costs}
 use Rattle.seat_rows.specs.Rows.{Row}
+use Rattle.seat_rows.proofs.AskedLemmas.{asked_then}
 use Rattle.seat_rows.proofs.RowLemmas.{row_moves, row_then, row_within}
 use Rattle.seat_fill.specs.Refills.{FillsFrom, Finds, HasFound, IsNoneOfClass, IsNothingFree, fill_costs}
 use Rattle.seat_fill.proofs.RefillLemmas.{cut_fills, empty_class_row, nothing_left, order_cut, order_full, order_uncut, refill_row}
@@ -60,3 +61,15 @@ returns-in-Nothing-clause-order g c = let v = c.args.seat.now.view in let t = c.
     let none : IsNoneOfClass c.args.class.number c.in-Empty.head v t = subst (λ from. FillsFrom c.args.class.number from v t) c.in-Empty.is c.in_ok-fill_from_class.ensures.done in
     let nothing : IsNothingFree c.in-Nothing.free_head c.in-Nothing.used t w = subst (λ found. Finds found t w) c.in-Nothing.is c.in_ok-d.ensures.done in
     order_full c.args.class.number _ v w (nothing_left v t w c.args.class.number c.in-Empty.head c.in-Nothing.free_head c.in-Nothing.used c.args.class.is none nothing)
+
+pub returns-in_err-d-clause-asked : goal.returns-in_err-d-clause-asked
+returns-in_err-d-clause-asked g c = asked_then c.fill_from_class.ensures.asked c.find_superblock.ensures.asked
+
+pub returns-in_err-cut-in-Got-clause-asked : goal.returns-in_err-cut-in-Got-clause-asked
+returns-in_err-cut-in-Got-clause-asked g c = asked_then (asked_then c.fill_from_class.ensures.asked c.find_superblock.ensures.asked) c.cut.ensures.asked
+
+pub returns-in_ok-cut-in-Got-clause-asked : goal.returns-in_ok-cut-in-Got-clause-asked
+returns-in_ok-cut-in-Got-clause-asked g c = asked_then (asked_then c.fill_from_class.ensures.asked c.find_superblock.ensures.asked) c.cut.ensures.asked
+
+pub returns-in-Nothing-clause-asked : goal.returns-in-Nothing-clause-asked
+returns-in-Nothing-clause-asked g c = asked_then c.fill_from_class.ensures.asked c.find_superblock.ensures.asked

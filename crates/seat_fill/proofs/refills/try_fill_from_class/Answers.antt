@@ -4,6 +4,7 @@ use Rattle.seat_lists.specs.Pops.{HasPopped, Pops}
 use Rattle.seat_lists.specs.Pushes.{HasPushed}
 use Rattle.seat_rows.specs.Costs.{no_costs, one_move}
 use Rattle.seat_rows.specs.Rows.{Row}
+use Rattle.seat_rows.proofs.AskedLemmas.{asked_then}
 use Rattle.seat_rows.proofs.RowLemmas.{row_moves, row_then, row_within, stops_later}
 use Rattle.seat_fill.specs.Takes.{HasTakenFree, IsAllFree, TakesFree}
 use Rattle.seat_fill.proofs.RefillLemmas.{empty_list_row, free_lists, free_moves, moved_on, none_of_class, taken_fills}
@@ -67,3 +68,15 @@ returns-in-Empty-clause-done g c = let v = c.args.seat.now in let w = c.pop.new.
     let row = empty_list_row c.args.class.number c.in-Empty.head v w c.in_ok-pop.pop c.in-Empty.is c.in_ok-pop.ensures.done c.pop.ensures.row in
     none_of_class v.view w.view c.args.class.number c.in-Empty.head (row_moves v w row).view
     (subst (λ pop. Pops c.args.class.number pop v.view w.view) c.in-Empty.is c.in_ok-pop.ensures.done)
+
+pub returns-in_err-take_free_blocks-in-Got-clause-asked : goal.returns-in_err-take_free_blocks-in-Got-clause-asked
+returns-in_err-take_free_blocks-in-Got-clause-asked g c = asked_then c.pop.ensures.asked c.take_free_blocks.ensures.asked
+
+pub returns-then-branch-clause-asked : goal.returns-then-branch-clause-asked
+returns-then-branch-clause-asked g c = asked_then c.pop.ensures.asked c.take_free_blocks.ensures.asked
+
+pub returns-in_err-push-in-Got-clause-asked : goal.returns-in_err-push-in-Got-clause-asked
+returns-in_err-push-in-Got-clause-asked g c = asked_then (asked_then c.pop.ensures.asked c.take_free_blocks.ensures.asked) c.push.ensures.asked
+
+pub returns-in_ok-push-in-Got-clause-asked : goal.returns-in_ok-push-in-Got-clause-asked
+returns-in_ok-push-in-Got-clause-asked g c = asked_then (asked_then c.pop.ensures.asked c.take_free_blocks.ensures.asked) c.push.ensures.asked

@@ -1,17 +1,19 @@
 use Rattle.std.proofs.Common.{inl, subst}
+use Rattle.seat_rows.proofs.AskedLemmas.{asked_none, asked_then}
 use Rattle.seat_rows.proofs.RowLemmas.{marks_behind}
 use Rattle.seat_fill.specs.Takes.{TriesFree}
 use Rattle.seat_fill.proofs.TakeLemmas.{none_row, taking_begins, taking_done, taking_on, taking_row}
 use Rattle.seat_fill.proofs.takes.take_free_blocks.Goals as goal
 
 pub loop-taken-init : goal.loop-taken-init
-loop-taken-init g c = record { taking = taking_begins c.args.seat.now.view; marks = λ k held marked. inl marked; is_of = c.requires.seat }
+loop-taken-init g c = record { taking = taking_begins c.args.seat.now.view; marks = λ k held marked. inl marked; asked = asked_none c.args.seat.now.view c.args.chance.now; is_of = c.requires.seat }
 
 pub loop-taken-preserved : goal.loop-taken-preserved
 loop-taken-preserved g c = record {
   taking = taking_on c.args.seat.now.view c.loop-taken.seat.view c.try_take.new.seat.view c.loop-taken.invariant.taking
       (subst (λ taken. TriesFree c.args.d c.args.class.number taken c.loop-taken.seat.view c.try_take.new.seat.view) c.in_default.is c.in_ok-taken.ensures.done);
   marks = marks_behind c.args.seat.now c.loop-taken.seat c.try_take.new.seat c.loop-taken.invariant.taking.row c.loop-taken.invariant.marks c.try_take.ensures.row;
+  asked = asked_then c.loop-taken.invariant.asked c.try_take.ensures.asked;
   is_of = c.try_take.ensures.seat;
 }
 
@@ -39,3 +41,9 @@ returns-in-Some-clause-none g c = λ none. record {
       (subst (λ taken. TriesFree c.args.d c.args.class.number taken c.loop-taken.seat.view c.try_take.new.seat.view) c.in-Some.is c.in_ok-taken.ensures.done)) none;
   marks = marks_behind c.args.seat.now c.loop-taken.seat c.try_take.new.seat c.loop-taken.invariant.taking.row c.loop-taken.invariant.marks c.try_take.ensures.row;
 }
+
+pub returns-in_err-taken-clause-asked : goal.returns-in_err-taken-clause-asked
+returns-in_err-taken-clause-asked g c = asked_then c.loop-taken.invariant.asked c.try_take.ensures.asked
+
+pub returns-in-Some-clause-asked : goal.returns-in-Some-clause-asked
+returns-in-Some-clause-asked g c = asked_then c.loop-taken.invariant.asked c.try_take.ensures.asked

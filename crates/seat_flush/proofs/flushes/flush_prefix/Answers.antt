@@ -1,4 +1,5 @@
 use Rattle.std.proofs.Common.{true, false, subst, arith}
+use Rattle.seat_rows.proofs.AskedLemmas.{asked_then}
 use Rattle.seat_rows.proofs.RowLemmas.{marks_behind, row_then}
 use Rattle.seat_flush.specs.Gives.{HasGiven}
 use Rattle.seat_flush.proofs.FlushLemmas.{gave_free, gave_full, given_claimed, given_free, given_listed, lifted_batch, on_ok_then, prefix_done, prefix_row}
@@ -54,3 +55,12 @@ returns-clause-flushed g c =
     (row_then c.lift_prefix.new.seat c.give.new.seat c.list.new.seat c.give.ensures.row c.list.ensures.row).view listed.by.going (let more = c.list.ensures.row.view.passes.more.gives in let gave = given.gave in omega arith)
     (given_listed v t x c.has_a_sound_state.ensures c.args.class.number c.in_ok-prefix.prefix.d c.in_ok-prefix.prefix.last c.args.class.is c.requires.no_batch c.in_ok-prefix.ensures.lifted w given listed)
     (gave_full v t x c.has_a_sound_state.ensures c.args.class.number c.in_ok-prefix.prefix.d c.in_ok-prefix.prefix.last c.args.class.is c.requires.no_batch c.in_ok-prefix.ensures.lifted w given listed)) c.list.ensures.listed
+
+pub returns-in_err-give-clause-asked : goal.returns-in_err-give-clause-asked
+returns-in_err-give-clause-asked g c = asked_then c.lift_prefix.ensures.asked c.give.ensures.asked
+
+pub returns-then-not-branch-clause-asked : goal.returns-then-not-branch-clause-asked
+returns-then-not-branch-clause-asked g c = asked_then c.lift_prefix.ensures.asked c.give.ensures.asked
+
+pub returns-clause-asked : goal.returns-clause-asked
+returns-clause-asked g c = asked_then (asked_then c.lift_prefix.ensures.asked c.give.ensures.asked) c.list.ensures.asked

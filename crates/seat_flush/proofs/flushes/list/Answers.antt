@@ -1,4 +1,5 @@
 use Rattle.std.proofs.Common.{refl}
+use Rattle.seat_rows.proofs.AskedLemmas.{asked_then}
 use Rattle.seat_rows.proofs.RowLemmas.{row_then}
 use Rattle.seat_lists.proofs.AnchorLemmas.{claim_look, claim_still}
 use Rattle.seat_flush.proofs.FlushLemmas.{listed, on_ok_then}
@@ -17,3 +18,6 @@ returns-clause-listed g c =
 
 pub returns-clause-row : goal.returns-clause-row
 returns-clause-row g c = row_then c.args.seat.now c.look_anchor.new.seat c.list_seen.new.seat c.look_anchor.ensures.row c.list_seen.ensures.row
+
+pub returns-clause-asked : goal.returns-clause-asked
+returns-clause-asked g c = asked_then c.look_anchor.ensures.asked c.list_seen.ensures.asked

@@ -3,6 +3,7 @@ use Rattle.heap_model.specs.Geometry.{start_word}
 use Rattle.heap_model.specs.Sizes.{words_of_class}
 use Rattle.heap_model.specs.Words.{anchor_first, full_anchor}
 use Rattle.core_model.proofs.PlaceLemmas.{not-eq}
+use Rattle.seat_rows.proofs.AskedLemmas.{asked_then}
 use Rattle.seat_rows.proofs.RowLemmas.{row_then}
 use Rattle.seat_flush.specs.Gives.{GivesSeen}
 use Rattle.seat_flush.proofs.GiveLemmas.{batch_inside, batch_still, can_give_full, can_give_some, given_later, given_seen, not_given_later}
@@ -51,3 +52,12 @@ pub returns-clause-given : goal.returns-clause-given
 returns-clause-given g c = let linked = c.in_ok-link_last.ensures.linked in
     not_given_later 1 false c.args.seat.now.view c.link_last.new.seat.view c.give_seen-2.new.seat.view linked.ran linked.room linked.parts_are c.link_last.ensures.row.view
     (subst (λ won. GivesSeen c.args.d won c.link_last.new.seat.view c.give_seen-2.new.seat.view) c.if-branch-2.false c.in_ok-give_seen-2.ensures.done)
+
+pub returns-in_err-give_seen-2-clause-asked : goal.returns-in_err-give_seen-2-clause-asked
+returns-in_err-give_seen-2-clause-asked g c = asked_then c.link_last.ensures.asked c.give_seen-2.ensures.asked
+
+pub returns-then-branch-2-clause-asked : goal.returns-then-branch-2-clause-asked
+returns-then-branch-2-clause-asked g c = asked_then c.link_last.ensures.asked c.give_seen-2.ensures.asked
+
+pub returns-clause-asked : goal.returns-clause-asked
+returns-clause-asked g c = asked_then c.link_last.ensures.asked c.give_seen-2.ensures.asked

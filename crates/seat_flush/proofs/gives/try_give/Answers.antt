@@ -1,3 +1,4 @@
+use Rattle.seat_rows.proofs.AskedLemmas.{asked_then}
 use Rattle.seat_rows.proofs.RowLemmas.{row_then}
 use Rattle.seat_lists.proofs.PushLemmas.{ok_then}
 use Rattle.seat_flush.proofs.GiveLemmas.{gives_later}
@@ -9,3 +10,6 @@ returns-clause-given g c = let v = c.args.seat.now.view in let t = c.look_anchor
 
 pub returns-clause-row : goal.returns-clause-row
 returns-clause-row g c = row_then c.args.seat.now c.look_anchor.new.seat c.give_looked.new.seat c.look_anchor.ensures.row c.give_looked.ensures.row
+
+pub returns-clause-asked : goal.returns-clause-asked
+returns-clause-asked g c = asked_then c.look_anchor.ensures.asked c.give_looked.ensures.asked

@@ -2,6 +2,7 @@ use Rattle.std.proofs.Common.{ℕ, sym, subst}
 use Rattle.core_model.specs.declared.event.Event.TheVariants.{Load}
 use Rattle.heap_table.specs.Plays.{IsEvent}
 use Rattle.std.specs.Prelude.{OnOk}
+use Rattle.seat_rows.proofs.AskedLemmas.{asked_step, asked_then}
 use Rattle.seat_rows.proofs.RowLemmas.{row_of, row_then}
 use Rattle.seat_rows.proofs.ShiftLemmas.{lift_draw_row}
 use Rattle.seat_rows.proofs.StoreLemmas.{load_row}
@@ -47,3 +48,6 @@ returns-clause-row g c =
     let d = c.draw_with.ensures.event going in
     row_then v x w (row_then v u x c.draw.ensures.row (row_of u x c.load_word.ensures.stores (load_row c.args.first u.view x.view c.load_word.result c.load_word.ensures.event)))
     (row_of x w c.draw_with.ensures.stores (lift_draw_row x.view d.0 d.1 going w.view d.2 c.args.class.number d.3))
+
+pub returns-clause-asked : goal.returns-clause-asked
+returns-clause-asked g c = asked_then (asked_step tt c.draw.ensures.asked c.load_word.ensures.event) c.draw_with.ensures.numbers

@@ -2,6 +2,7 @@ use Rattle.std.proofs.Common.{◌-◌, ◌/◌, sym, subst, ap, ◌∙◌, arith
 use Rattle.heap_model.specs.Geometry.{start_word}
 use Rattle.core_model.specs.Cells.{superblock_at}
 use Rattle.core_model.specs.View.{Setup}
+use Rattle.seat_rows.proofs.AskedLemmas.{asked_then}
 use Rattle.seat_rows.proofs.RowLemmas.{marks_behind}
 use Rattle.seat_flush.specs.Lifts.{IsLifting}
 use Rattle.seat_flush.proofs.LiftLemmas.{above, at_superblock, lifted_all, lifted_some, lifting_can, lifting_most, lifting_on, lifting_one, lifting_row, lifting_setup}
@@ -19,6 +20,7 @@ loop-class-init g c =
       lifting = subst (λ d. IsLifting c.args.class.number d c.cache-first.result.0 v w) (sym at)
           (lifting_one v w c.args.class.number c.cache-first.result.0 c.requires.some c.requires.no_batch c.cache-first.ensures.first c.in_ok-lift.ensures.lifted c.lift.ensures.row.view);
       marks = c.lift.ensures.row.marks;
+      asked = c.lift.ensures.asked;
       is_of = c.lift.ensures.seat;
     }
 
@@ -76,5 +78,9 @@ loop-class-preserved g c =
           c.lift-in-loop-class.new.seat.view c.cache-next.result.0 (let a = c.if-count-eq0.false in let b = c.cache-next.ensures.count in omega arith) c.cache-next.ensures.first
           (ap (superblock_at v.setup.capacity) (sym c.cache-next.ensures.first) ∙ sym at ∙ c.if-next-start.false) c.in_ok-lift-2.ensures.lifted c.lift-in-loop-class.ensures.row.view;
       marks = marks_behind c.args.seat.now c.loop-class.seat c.lift-in-loop-class.new.seat c.loop-class.invariant.lifting.row c.loop-class.invariant.marks c.lift-in-loop-class.ensures.row;
+      asked = asked_then c.loop-class.invariant.asked c.lift-in-loop-class.ensures.asked;
       is_of = c.lift-in-loop-class.ensures.seat;
     }
+
+pub returns-in_err-lift-2-clause-asked : goal.returns-in_err-lift-2-clause-asked
+returns-in_err-lift-2-clause-asked g c = asked_then c.loop-class.invariant.asked c.lift-in-loop-class.ensures.asked

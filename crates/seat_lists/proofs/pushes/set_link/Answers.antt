@@ -4,6 +4,7 @@ use Rattle.heap_rule.specs.Shown.{Can}
 use Rattle.heap_model.specs.Geometry.{link_word}
 use Rattle.heap_table.specs.Plays.{IsEvent}
 use Rattle.heap_rule.specs.Seated.{HasNewStore}
+use Rattle.seat_rows.proofs.AskedLemmas.{asked_step}
 use Rattle.seat_rows.proofs.RowLemmas.{row_then}
 use Rattle.seat_rows.proofs.StoreLemmas.{row_of_store, store_row}
 use Rattle.seat_lists.proofs.PushLemmas.{can_set_link, inside, link_not_held, link_set}
@@ -29,3 +30,6 @@ returns-clause-row g c = let e = c.store_word.ensures.event in
     let free = link_not_held c.args.seat.now.view c.has_a_sound_state.ensures c.args.d c.requires.claimed u.view w.view c.args.first e.0 c.in_ok-draw.ensures.drawn stores in
     row_then c.args.seat.now u w c.draw.ensures.row
     (row_of_store u w (link_word c.args.d) (subst (λ (n : ℕ). HasNewStore n u w) c.link-link.ensures c.store_word.ensures.stores) free (store_row (link_word c.args.d) c.args.first u.view w.view e.0 stores free))
+
+pub returns-clause-asked : goal.returns-clause-asked
+returns-clause-asked g c = asked_step tt c.draw.ensures.numbers c.store_word.ensures.event.1
