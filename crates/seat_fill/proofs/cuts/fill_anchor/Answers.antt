@@ -6,6 +6,7 @@ use Rattle.heap_rule.specs.Seated.{HasNewStore}
 use Rattle.heap_rule.specs.Shown.{Can}
 use Rattle.heap_table.specs.Plays.{IsEvent}
 use Rattle.heap_rule.proofs.RawLemmas.{raw_inside}
+use Rattle.seat_rows.proofs.AskedLemmas.{asked_step}
 use Rattle.seat_rows.proofs.RowLemmas.{row_then}
 use Rattle.seat_rows.proofs.StoreLemmas.{row_of_store, store_row}
 use Rattle.seat_fill.proofs.CutLemmas.{anchor_filled, anchor_not_held, can_fill, raw_claimed}
@@ -35,3 +36,6 @@ returns-clause-row g c = let e = c.store_word.ensures.event in
     let free = anchor_not_held v.view c.has_a_sound_state.ensures c.args.d c.requires.claimed u.view w.view e.0 c.in_ok-draw.ensures.drawn stores in
     row_then v u w c.draw.ensures.row
     (row_of_store u w (anchor_word c.args.d) (subst (λ (n : ℕ). HasNewStore n u w) c.anchor-anchor.ensures c.store_word.ensures.stores) free (store_row (anchor_word c.args.d) full_anchor u.view w.view e.0 stores free))
+
+pub returns-clause-asked : goal.returns-clause-asked
+returns-clause-asked g c = asked_step tt c.draw.ensures.numbers c.store_word.ensures.event.1

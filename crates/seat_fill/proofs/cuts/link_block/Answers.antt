@@ -1,3 +1,4 @@
+use Rattle.seat_rows.proofs.AskedLemmas.{asked_step}
 use Rattle.seat_rows.proofs.RowLemmas.{row_then}
 use Rattle.seat_rows.proofs.StoreLemmas.{row_of_store, store_row}
 use Rattle.seat_fill.proofs.CutLemmas.{can_link, word_linked, word_not_held}
@@ -15,3 +16,6 @@ returns-clause-row g c = let e = c.store_word.ensures.event in
     let v = c.args.seat.now in let u = c.draw.new.seat in let w = c.store_word.new.self in
     let free = word_not_held v.view c.has_a_sound_state.ensures c.args.word c.requires.from c.requires.until c.requires.claimed u.view w.view c.args.value e.0 c.in_ok-draw.ensures.drawn e.1 in
     row_then v u w c.draw.ensures.row (row_of_store u w c.args.word c.store_word.ensures.stores free (store_row c.args.word c.args.value u.view w.view e.0 e.1 free))
+
+pub returns-clause-asked : goal.returns-clause-asked
+returns-clause-asked g c = asked_step tt c.draw.ensures.numbers c.store_word.ensures.event.1

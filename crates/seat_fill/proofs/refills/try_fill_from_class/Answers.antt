@@ -7,7 +7,7 @@ use Rattle.seat_rows.specs.Rows.{Row}
 use Rattle.seat_rows.proofs.AskedLemmas.{asked_then}
 use Rattle.seat_rows.proofs.RowLemmas.{row_moves, row_then, row_within, stops_later}
 use Rattle.seat_fill.specs.Takes.{HasTakenFree, IsAllFree, TakesFree}
-use Rattle.seat_fill.proofs.RefillLemmas.{empty_list_row, free_lists, free_moves, moved_on, none_of_class, taken_fills}
+use Rattle.seat_fill.proofs.RefillLemmas.{empty_list_row, free_lists, free_moves, moved_on, none_of_class, popped_claim, taken_fills}
 use Rattle.seat_fill.proofs.refills.try_fill_from_class.Goals as goal
 
 pub returns-in_err-take_free_blocks-in-Got-clause-row : goal.returns-in_err-take_free_blocks-in-Got-clause-row
@@ -28,6 +28,11 @@ returns-then-branch-clause-done g c = let v = c.args.seat.now in let t = c.pop.n
       filled = taken_fills v.view t.view c.args.class.number c.in-Got.d c.args.class.is popped w.view taken;
       row = (row_moves v w (row_then v t w c.pop.ensures.row c.take_free_blocks.ensures.row)).view;
     }
+
+pub take_free_blocks-requires-clause-claim : goal.take_free_blocks-requires-clause-claim
+take_free_blocks-requires-clause-claim g c =
+    popped_claim c.args.seat.now.view c.pop.new.seat.view c.args.class.number c.in-Got.d c.args.class.is
+    (subst (λ pop. Pops c.args.class.number pop c.args.seat.now.view c.pop.new.seat.view) c.in-Got.is c.in_ok-pop.ensures.done)
 
 pub push-requires-clause-can : goal.push-requires-clause-can
 push-requires-clause-can g c = let v = c.args.seat.now.view in let t = c.pop.new.seat.view in let x = c.take_free_blocks.new.seat.view in
