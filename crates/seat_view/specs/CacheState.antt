@@ -28,6 +28,7 @@ pub record CacheState : Type 0 where
   pub table : TableId
   pub view : View
   pub marks : List Bool
+  pub stores : List ℕ
   pub small_calls : ℕ
   pub large_calls : ℕ
   pub refusals : ℕ
@@ -37,6 +38,11 @@ pub record CacheState : Type 0 where
   pub sound : ∥ HasSoundState view ∥₁
   pub between : IsBetweenCalls view
   pub counted : HasCounts small_calls large_calls refusals view
+
+-- the same with the chance that it asks
+pub record CacheValue (C : Type 0) : Type 0 where
+  pub state : CacheState
+  pub chance : C
 
 -- the blocks of a class by their first words, and those of all classes from one on
 abbrev pub blocks_of_words : ℕ → List ℕ → List Block

@@ -1,5 +1,5 @@
 -- What a step on an own word leaves, behind the draw of its ticket.
-use Rattle.std.proofs.Common.{◌≡◌, ◌<◌, ◌⊎◌, ℕ, ◌+◌, inl, inr, Bool, true, false, cond, nat_eq, get_or, Option, None, Some, refl, ap, sym, subst, ◌∙◌, arith}
+use Rattle.std.proofs.Common.{◌≡◌, ◌<◌, ◌⊎◌, ℕ, zero, suc, ◌+◌, inl, inr, Bool, true, false, cond, nat_eq, get_or, Option, None, Some, refl, ap, sym, subst, ◌∙◌, arith}
 use Rattle.std.proofs.lemmas.Bool.{cases_lt}
 use Rattle.std.proofs.lemmas.List.{get_or-set_same}
 use Rattle.heap_model.specs.Counting.{times, total}
@@ -206,3 +206,18 @@ module _ (v u w : SeatView) (drawn : HasDrawn v.view u.view) where
     runs = runs_on v.view u.view w.view drawn (ap (λ (y : View). y.stopped) fence.rest) (ap parts fence.rest) (ap (λ (y : View). y.last_ticket) fence.rest);
     durable = λ word own marked. fenced u w fence word (subst (λ (y : View). Owns y word) (sym drawn.left) own) (subst (λ m. IsMarked m word) (sym marks) marked);
   }
+
+-- a store leaves what a crash leaves
+stored_durable : (v : View) (cell : Cell) (value : ℕ) → (stored v cell value).durable ≡ v.durable
+stored_durable v used_cell value = refl
+stored_durable v (head_cell list) value = refl
+stored_durable v (info_cell d) value = refl
+stored_durable v (anchor_cell d) zero = refl
+stored_durable v (anchor_cell d) (suc n) = refl
+stored_durable v (link_cell d) value = refl
+stored_durable v (root_cell i) value = refl
+stored_durable v (data_cell word) value = refl
+stored_durable v no_cell value = refl
+
+pub store_durable : (word value : ℕ) (u w : View) (found : ℕ) → IsEvent (Store word value) u found w → w.durable ≡ u.durable
+store_durable word value u w found e = ap (λ (x : View). x.durable) e.after ∙ stored_durable (record (used_up u) { volatile = learn u.volatile word value }) (cell_at u.setup.capacity word) value

@@ -1,12 +1,13 @@
 //! What a seat does to the words of its held blocks and of its roots, each time with a ticket.
 
-ghost use Rattle.std.specs.Prelude.{◌≡◌, ◌≢◌, ℕ, IfOk, OnOk, OnErr, IfErr};
+ghost use Rattle.std.specs.Prelude.{◌≡◌, ◌≢◌, ℕ, None, IfOk, OnOk, OnErr, IfErr};
 ghost use Rattle.core_model.specs.View.{no_batch};
 ghost use Rattle.heap_rule.specs.Fences.{Owns};
 ghost use Rattle.heap_rule.specs.Seated.{IsSeatOf};
 ghost use Rattle.line_memory.specs.Marks.{IsMarked};
 ghost use Rattle.seat_rows.specs.Asked.{HasAsked};
 ghost use Rattle.seat_rows.specs.Costs.{one_draw};
+ghost use Rattle.seat_rows.specs.Draws.{LeavesAsSettled};
 ghost use Rattle.seat_rows.specs.Rows.{Row, SameLooks, Stops, StoringRow};
 ghost use Rattle.seat_rows.specs.Words.{IsHeldWord};
 ghost use Rattle.seat_words.specs.Own.{Drew, HasFenced, HasValue, HasMarkedLine, MayHave};
@@ -30,6 +31,8 @@ pub fn load<C: Chance>(
     ensures drew { Drew seat.old.view seat.new.view }
     ensures looks { SameLooks seat.old.view seat.new.view }
     ensures marks { seat.new.marks ≡ seat.old.marks }
+    ensures early { seat.old.view.stopped ≡ None
+        → LeavesAsSettled C.draw_gives seat.old seat.new chance.old chance.new }
     ensures asked { HasAsked C.draw_gives seat.old.view seat.new.view chance.old chance.new }
     ensures seat { IsSeatOf shared.now seat.new }
 {
@@ -58,6 +61,8 @@ pub fn store<C: Chance>(
     ensures looks { SameLooks seat.old.view seat.new.view }
     ensures marks { (other : ℕ) → other ≢ word → IsMarked seat.old.marks other
         → IsMarked seat.new.marks other }
+    ensures early { seat.old.view.stopped ≡ None
+        → LeavesAsSettled C.draw_gives seat.old seat.new chance.old chance.new }
     ensures asked { HasAsked C.draw_gives seat.old.view seat.new.view chance.old chance.new }
     ensures seat { IsSeatOf shared.now seat.new }
 {
@@ -82,6 +87,8 @@ pub fn write_back<C: Chance>(
     ensures drew { Drew seat.old.view seat.new.view }
     ensures looks { SameLooks seat.old.view seat.new.view }
     ensures marks { (other : ℕ) → IsMarked seat.old.marks other → IsMarked seat.new.marks other }
+    ensures early { seat.old.view.stopped ≡ None
+        → LeavesAsSettled C.draw_gives seat.old seat.new chance.old chance.new }
     ensures asked { HasAsked C.draw_gives seat.old.view seat.new.view chance.old chance.new }
     ensures seat { IsSeatOf shared.now seat.new }
 {

@@ -1,7 +1,8 @@
-use Rattle.std.proofs.Common.{subst}
+use Rattle.std.proofs.Common.{subst, ap}
 use Rattle.core_model.specs.View.{View}
 use Rattle.heap_rule.specs.Carried.{Carries}
 use Rattle.seat_words.proofs.HandedRows.{offer_row, offer_sent}
+use Rattle.seat_rows.proofs.AskedLemmas.{asked_alike}
 use Rattle.seat_words.proofs.HandedLemmas.{holds_still, may_hand}
 use Rattle.seat_words.proofs.handing.offer.Goals as goal
 
@@ -28,3 +29,6 @@ returns-clause-sent g c = offer_sent c.args.seat.now.view c.draw.new.seat.view c
 
 pub returns-clause-row : goal.returns-clause-row
 returns-clause-row g c = offer_row c.args.seat.now c.draw.new.seat c.offer.new.self c.args.block c.draw.ensures.row c.in_ok-draw.ensures.drawn c.draw.ensures.stores c.offer.ensures.view c.offer.ensures.stores
+
+pub returns-clause-asked : goal.returns-clause-asked
+returns-clause-asked g c = asked_alike c.draw.ensures.numbers (ap (λ (x : View). x.draws) c.offer.ensures.view)

@@ -1,3 +1,6 @@
+use Rattle.std.proofs.Common.{ap}
+use Rattle.core_model.specs.View.{View}
+use Rattle.seat_rows.proofs.AskedLemmas.{asked_alike}
 use Rattle.seat_rows.proofs.RowLemmas.{row_then}
 use Rattle.seat_rows.proofs.StoreLemmas.{fence_row}
 use Rattle.seat_words.proofs.OwnLemmas.{runs_drew, has_fenced}
@@ -12,3 +15,6 @@ returns-clause-row g c = row_then c.args.seat.now c.draw.new.seat c.fence.new.se
 
 pub returns-clause-drew : goal.returns-clause-drew
 returns-clause-drew g c = runs_drew c.args.seat.now.view c.fence.new.self.view (returns-clause-fenced g c).runs
+
+pub returns-clause-asked : goal.returns-clause-asked
+returns-clause-asked g c = asked_alike c.draw.ensures.numbers (ap (λ (x : View). x.draws) c.fence.ensures.fence.rest)

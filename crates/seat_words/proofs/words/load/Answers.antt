@@ -1,3 +1,6 @@
+use Rattle.std.proofs.Common.{ap}
+use Rattle.core_model.specs.View.{View}
+use Rattle.seat_rows.proofs.AskedLemmas.{settled_then}
 use Rattle.seat_rows.proofs.RowLemmas.{row_of, row_then}
 use Rattle.seat_rows.proofs.StoreLemmas.{load_row}
 use Rattle.seat_words.proofs.OwnLemmas.{runs_drew, loaded}
@@ -13,3 +16,6 @@ returns-clause-row g c = row_then c.args.seat.now c.draw.new.seat c.load_word.ne
 
 pub returns-clause-drew : goal.returns-clause-drew
 returns-clause-drew g c = runs_drew c.args.seat.now.view c.load_word.new.self.view (returns-clause-loaded g c).runs
+
+pub returns-clause-early : goal.returns-clause-early
+returns-clause-early g c = λ going. settled_then (c.draw.ensures.early going) (ap (λ (x : View). x.durable) c.load_word.ensures.event.after)

@@ -1,6 +1,7 @@
+use Rattle.seat_rows.proofs.AskedLemmas.{asked_step, settled_then}
 use Rattle.seat_rows.proofs.RowLemmas.{then_storing}
 use Rattle.seat_rows.proofs.StoreLemmas.{storing_row}
-use Rattle.seat_words.proofs.OwnLemmas.{runs_drew, can_store, has_stored, store_crash, store_looks}
+use Rattle.seat_words.proofs.OwnLemmas.{runs_drew, can_store, has_stored, store_crash, store_durable, store_looks}
 use Rattle.seat_words.proofs.words.store.Goals as goal
 
 pub store_word-requires-clause-can : goal.store_word-requires-clause-can
@@ -26,3 +27,10 @@ returns-clause-looks g c = let e = c.store_word.ensures.event in
 
 pub returns-clause-drew : goal.returns-clause-drew
 returns-clause-drew g c = runs_drew c.args.seat.now.view c.store_word.new.self.view (returns-clause-stored g c).runs
+
+pub returns-clause-asked : goal.returns-clause-asked
+returns-clause-asked g c = asked_step tt c.draw.ensures.numbers c.store_word.ensures.event.1
+
+pub returns-clause-early : goal.returns-clause-early
+returns-clause-early g c = let e = c.store_word.ensures.event in λ going.
+    settled_then (c.draw.ensures.early going) (store_durable c.args.word c.args.value c.draw.new.seat.view c.store_word.new.self.view e.0 e.1)
