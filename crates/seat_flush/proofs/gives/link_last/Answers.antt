@@ -1,3 +1,4 @@
+use Rattle.seat_rows.proofs.AskedLemmas.{asked_step}
 use Rattle.seat_rows.proofs.RowLemmas.{row_then}
 use Rattle.seat_rows.proofs.StoreLemmas.{row_of_store, store_row}
 use Rattle.seat_flush.proofs.GiveLemmas.{can_link_last, last_free, last_linked}
@@ -16,3 +17,6 @@ returns-clause-row g c = let e = c.store_word.ensures.event in
     let free = last_free c.args.seat.now.view c.has_a_sound_state.ensures c.args.d c.args.class.number c.args.last c.requires.batch c.draw.new.seat.view c.in_ok-draw.ensures.drawn in
     row_then c.args.seat.now c.draw.new.seat c.store_word.new.self c.draw.ensures.row
     (row_of_store c.draw.new.seat c.store_word.new.self c.args.last c.store_word.ensures.stores free (store_row c.args.last c.args.first c.draw.new.seat.view c.store_word.new.self.view e.0 e.1 free))
+
+pub returns-clause-asked : goal.returns-clause-asked
+returns-clause-asked g c = asked_step tt c.draw.ensures.numbers c.store_word.ensures.event.1

@@ -50,4 +50,4 @@ returns-clause-row g c =
     (row_of x w c.draw_with.ensures.stores (lift_draw_row x.view d.0 d.1 going w.view d.2 c.args.class.number d.3))
 
 pub returns-clause-asked : goal.returns-clause-asked
-returns-clause-asked g c = asked_then (asked_step tt c.draw.ensures.asked c.load_word.ensures.event) c.draw_with.ensures.numbers
+returns-clause-asked g c = asked_then (asked_step tt c.draw.ensures.numbers c.load_word.ensures.event) c.draw_with.ensures.numbers
