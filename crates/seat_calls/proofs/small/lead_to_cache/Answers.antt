@@ -1,3 +1,4 @@
+use Rattle.seat_rows.proofs.AskedLemmas.{asked_step}
 use Rattle.seat_rows.proofs.RowLemmas.{then_storing}
 use Rattle.seat_rows.proofs.StoreLemmas.{storing_row}
 use Rattle.seat_calls.proofs.SmallLemmas.{can_lead, way_left}
@@ -13,3 +14,6 @@ returns-clause-way g c = let e = c.store_word.ensures.event in
 pub returns-clause-row : goal.returns-clause-row
 returns-clause-row g c = let e = c.store_word.ensures.event in
     then_storing c.args.block c.args.seat.now c.draw.new.seat c.store_word.new.self c.draw.ensures.row (storing_row c.args.block c.cache-first.result.0 c.draw.new.seat c.store_word.new.self e.0 e.1 c.store_word.ensures.stores)
+
+pub returns-clause-asked : goal.returns-clause-asked
+returns-clause-asked g c = asked_step tt c.draw.ensures.numbers c.store_word.ensures.event.1
