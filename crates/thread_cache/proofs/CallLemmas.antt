@@ -16,17 +16,26 @@ use Rattle.core_model.specs.Effects.{seen}
 use Rattle.core_model.specs.View.{LastLook, Setup, View, of_class, one_if_some}
 use Rattle.heap_table.specs.Plays.{HasSoundState}
 use Rattle.heap_rule.specs.Seated.{SeatView}
+use Rattle.seat_rows.specs.Asked.{HasAsked}
 use Rattle.seat_rows.specs.Costs.{Costs, one_draw}
 use Rattle.seat_rows.specs.Rows.{Parts, Passes, Row, SameLooks, StoringRow, Stops, ViewRow, after_ticket, next_of}
 use Rattle.seat_rows.specs.Words.{IsHeldWord, KeepsWord as KeepsRowWord}
 use Rattle.seat_rows.proofs.RowLemmas.{not_both}
 use Rattle.seat_rows.proofs.WordLemmas.{owns_held}
 use Rattle.heap_rule.proofs.SettleLemmas.{own_below}
-use Rattle.seat_view.specs.CacheState.{CacheState, HasCounts, CallCounts, IsBetweenCalls, IsStateOf, counts_of, heap_view, heap_view_of, look_of, opened_kinds}
+use Rattle.seat_view.specs.CacheState.{CacheState, CacheValue, HasCounts, CallCounts, IsBetweenCalls, IsStateOf, counts_of, heap_view, heap_view_of, look_of, opened_kinds}
 use Rattle.seat_view.proofs.HeldLemmas.{kept_at, own_held, read_from, read_to, seat_law, word_law}
 use Rattle.seat_view.proofs.ChangedBlocks.{held_same}
 use Rattle.seat_words.specs.Own.{Drew, HasFenced, HasValue, HasMarkedLine, MayHave, RunsOn}
 use Rattle.thread_cache.specs.Keeps.{KeepsCosts}
+
+-- the state of a seat, and what it has asked its chance for, as its value was given
+pub state_is : {C : Type 0} {s t : CacheValue C} → s ≡ t → s.state ≡ t.state
+state_is same = ap (λ (s : CacheValue _). s.state) same
+
+pub asked_at : {C : Type 0} {gives : C → ℕ → C → Type 0} {before s : CacheValue C} {w : View} {new : C} → before ≡ s → HasAsked gives before.state.view w before.chance new
+    → HasAsked gives s.state.view w s.chance new
+asked_at {C} {gives} {before} {s} {w} {new} is asked = subst (λ (x : CacheValue C). HasAsked gives x.state.view w x.chance new) is asked
 
 -- a seat that has stopped is refused, and nothing changes
 pub stop_again : (s : CacheState) (step : ℕ) → s.view.stopped ≡ Some step → HeapStops step (heap_view s) (heap_view s)

@@ -3,7 +3,8 @@ use Rattle.std.specs.Prelude.{◌≡◌, ◌≤◌, ℕ, ◌+◌, ◌*◌, ◌^�
 use Rattle.core_model.specs.View.{View, one_if_some, role}
 use Rattle.seat_rows.specs.Costs.{NoneFalls}
 use Rattle.heap_rule.specs.Seated.{SeatView}
-use Rattle.seat_view.specs.CacheState.{CacheState}
+use Rattle.seat_rows.specs.Asked.{HasAsked}
+use Rattle.seat_view.specs.CacheState.{CacheState, CacheValue, no_looks}
 
 -- the most tickets that a call of alloc or free draws, exchanges that it wins, and batches that it gives, but for those that losses and moves pay
 abbrev pub most_draws : ℕ
@@ -45,11 +46,19 @@ pub record KeepsCosts (v : View) (small large : ℕ) (w : View) (smalls larges :
 abbrev pub KeepsHeap : CacheState → CacheState → Type 0
 KeepsHeap s t = (t.table ≡ s.table) × KeepsCosts s.view s.small_calls s.large_calls t.view t.small_calls t.large_calls
 
+-- and it has asked its chance for as many numbers as it drew tickets
+pub record KeepsSeat {C : Type 0} (gives : C → ℕ → C → Type 0) (s t : CacheValue C) : Type 0 where
+  pub heap : KeepsHeap s.state t.state
+  pub asked : HasAsked gives s.state.view t.state.view s.chance t.chance
+
 -- a seat that allocates, just made of a seat
 pub record IsNew (seat : SeatView) (s : CacheState) : Type 0 where
   pub table : s.table ≡ seat.table
   pub view : s.view ≡ seat.view
   pub marks : s.marks ≡ seat.marks
+  pub stores : s.stores ≡ seat.stores
   pub small : s.small_calls ≡ 0
   pub large : s.large_calls ≡ 0
   pub refusals : s.refusals ≡ 0
+  pub refused_bytes : s.refused_bytes ≡ 0
+  pub refused_looks : s.refused_looks ≡ no_looks

@@ -1,7 +1,8 @@
 -- What every call keeps goes on from call to call: the laws of what it keeps.
-use Rattle.std.proofs.Common.{refl, ◌∙◌, arith}
-use Rattle.seat_view.specs.CacheState.{CacheState}
-use Rattle.thread_cache.specs.Keeps.{KeepsCosts, KeepsHeap}
+use Rattle.std.proofs.Common.{ℕ, refl, ◌∙◌, arith}
+use Rattle.seat_rows.proofs.AskedLemmas.{asked_none, asked_then}
+use Rattle.seat_view.specs.CacheState.{CacheState, CacheValue}
+use Rattle.thread_cache.specs.Keeps.{KeepsCosts, KeepsHeap, KeepsSeat}
 
 costs_none : (s : CacheState) → KeepsCosts s.view s.small_calls s.large_calls s.view s.small_calls s.large_calls
 costs_none s = record {
@@ -49,3 +50,9 @@ keeps_none_law s = (refl, costs_none s)
 
 pub keeps_row_law : (s t u : CacheState) → KeepsHeap s t → KeepsHeap t u → KeepsHeap s u
 keeps_row_law s t u p q = (q.0 ∙ p.0, costs_row s t u p.1 q.1)
+
+pub seat_none_law : {C : Type 0} (gives : C → ℕ → C → Type 0) (s : CacheValue C) → KeepsSeat gives s s
+seat_none_law gives s = record { heap = keeps_none_law s.state; asked = asked_none s.state.view s.chance }
+
+pub seat_row_law : {C : Type 0} (gives : C → ℕ → C → Type 0) (s t u : CacheValue C) → KeepsSeat gives s t → KeepsSeat gives t u → KeepsSeat gives s u
+seat_row_law gives s t u p q = record { heap = keeps_row_law s.state t.state u.state p.heap q.heap; asked = asked_then p.asked q.asked }

@@ -31,22 +31,26 @@ pub struct CacheSeat<'a, C> {
 }
 
 impl<'a, C> Model for CacheSeat<'a, C> {
-    ghost use Rattle.seat_view.specs.CacheState.{CacheState};
+    ghost use Rattle.seat_view.specs.CacheState.{CacheValue};
 
-    ghost Value = { CacheState };
+    ghost Value = { CacheValue C };
 
     ghost view = { λ s. record {
-      table = s.seat.table;
-      view = s.seat.view;
-      marks = s.seat.marks;
-      small_calls = s.small_calls;
-      large_calls = s.large_calls;
-      refusals = s.refusals;
-      refused_bytes = s.refused_bytes;
-      refused_looks = s.refused_looks;
-      sound = s.sound;
-      between = s.between;
-      counted = s.counted;
+      state = record {
+        table = s.seat.table;
+        view = s.seat.view;
+        marks = s.seat.marks;
+        stores = s.seat.stores;
+        small_calls = s.small_calls;
+        large_calls = s.large_calls;
+        refusals = s.refusals;
+        refused_bytes = s.refused_bytes;
+        refused_looks = s.refused_looks;
+        sound = s.sound;
+        between = s.between;
+        counted = s.counted;
+      };
+      chance = s.chance;
     } };
 }
 
@@ -64,7 +68,8 @@ impl<'a, C: Chance> CacheSeat<'a, C> {
         requires going { seat.view.stopped ≡ None }
         requires idle { IsIdle seat.view }
         requires short { HasShortCaches seat.view }
-        ensures { IsNew seat result }
+        ensures state { IsNew seat result.state }
+        ensures chance { result.chance ≡ chance }
     {
         seat.has_a_sound_state();
         CacheSeat {
@@ -85,25 +90,26 @@ impl<'a, C: Chance> CacheSeat<'a, C> {
 
     /// The ticket at which the seat stopped, if it has.
     pub fn stopped(&self) -> Option<u64>
-        ensures { result ≡ self.now.view.stopped }
+        ensures { result ≡ self.now.state.view.stopped }
     {
         self.seat.stopped()
     }
 
     /// The seat again, as it is: what closes the heap asks for all its seats.
     pub fn into_seat(self) -> Seat
-        ensures table { result.table ≡ self.entry.table }
-        ensures view { result.view ≡ self.entry.view }
-        ensures marks { result.marks ≡ self.entry.marks }
+        ensures table { result.table ≡ self.entry.state.table }
+        ensures view { result.view ≡ self.entry.state.view }
+        ensures marks { result.marks ≡ self.entry.state.marks }
+        ensures stores { result.stores ≡ self.entry.state.stores }
     {
         self.seat
     }
 
     /// Refuses the call if the seat has stopped.
     pub(crate) fn check_running(&self) -> Result<(), Stopped>
-        ensures ok { OnOk result (self.now.view.stopped ≡ None) }
+        ensures ok { OnOk result (self.now.state.view.stopped ≡ None) }
         ensures stopped { IfErr result (λ e. Stops e.step
-            (heap_view self.now) (heap_view self.now)) }
+            (heap_view self.now.state) (heap_view self.now.state)) }
     {
         match self.seat.stopped() {
             Some(step) => Err(Stopped { step }),

@@ -34,40 +34,42 @@ impl<'a, C: Chance> HeapSeat for CacheSeat<'a, C> {
     ghost use Rattle.seat_rows.specs.Rows.{Passes};
     ghost use Rattle.seat_view.specs.CacheState.{heap_view};
     ghost use Rattle.seat_view.proofs.HeldLemmas.{may_be_law, mixed_law, named_law, seat_law, stored_law};
-    ghost use Rattle.thread_cache.specs.Keeps.{KeepsHeap};
+    ghost use Rattle.thread_cache.specs.Keeps.{KeepsSeat};
     ghost use Rattle.thread_cache.specs.Serving.{IsPutBack, IsServed, IsTurnedAway};
-    ghost use Rattle.thread_cache.specs.Laws.{keeps_none_law, keeps_row_law};
+    ghost use Rattle.thread_cache.specs.Laws.{seat_none_law, seat_row_law};
 
-    ghost view = { heap_view };
+    ghost view = { λ s. heap_view s.state };
 
-    ghost images = { λ s image. MayBeLeft s.view image };
+    ghost images = { λ s image. MayBeLeft s.state.view image };
 
-    ghost has_room = { λ s t bytes. IsServed bytes s.view t.view };
+    ghost has_room = { λ s t bytes. IsServed bytes s.state.view t.state.view };
 
-    ghost has_none = { λ s t bytes looks. IsTurnedAway bytes looks s.view t.view };
+    ghost has_none = { λ s t bytes looks. IsTurnedAway bytes looks s.state.view t.state.view };
 
-    ghost gives_back = { λ s t b. IsPutBack b s.view t.view };
+    ghost gives_back = { λ s t b. IsPutBack b s.state.view t.state.view };
 
-    ghost keeps = { KeepsHeap };
+    ghost keeps = { KeepsSeat C.draw_gives };
 
     /// Holds a block of at least so many bytes, as the trait says. Beside that: what it may cost, also
     /// where it stops.
     fn alloc(&mut self, bytes: u64) -> Result<Block, AllocFault>
         ensures ok { IfOk result (λ b. Allocates bytes b
-            (heap_view self.old) (heap_view self.new)) }
+            (heap_view self.old.state) (heap_view self.new.state)) }
         ensures cause { IfErr result (λ fault. FailsBy bytes fault
-            (heap_view self.old) (heap_view self.new)) }
-        ensures room { OnOk result (IsServed bytes self.old.view self.new.view) }
+            (heap_view self.old.state) (heap_view self.new.state)) }
+        ensures room { OnOk result (IsServed bytes self.old.state.view self.new.state.view) }
         ensures none { IfErr result (λ fault. (looks : Looks) → fault ≡ Full looks
-            → IsTurnedAway bytes looks self.old.view self.new.view) }
-        ensures unchanged { OnErr result (KeepsOwn (heap_view self.old) (heap_view self.new)) }
-        ensures counted { IsLargeCall (span_of bytes) (heap_view self.old) (heap_view self.new) }
-        ensures idle { (ticket : ℕ) → (heap_view self.old).stopped ≡ Some ticket
+            → IsTurnedAway bytes looks self.old.state.view self.new.state.view) }
+        ensures unchanged { OnErr result (KeepsOwn
+            (heap_view self.old.state) (heap_view self.new.state)) }
+        ensures counted { IsLargeCall (span_of bytes)
+            (heap_view self.old.state) (heap_view self.new.state) }
+        ensures idle { (ticket : ℕ) → (heap_view self.old.state).stopped ≡ Some ticket
             → self.new ≡ self.old }
-        ensures kept { KeepsHeap self.old self.new }
+        ensures kept { KeepsSeat C.draw_gives self.old self.new }
         ensures costs { Passes
-            (request_costs bytes (self.new.view.moves - self.old.view.moves))
-            self.old.view self.new.view }
+            (request_costs bytes (self.new.state.view.moves - self.old.state.view.moves))
+            self.old.state.view self.new.state.view }
     {
         self.check_running()?;
         self.seat.has_a_low_budget();
@@ -89,17 +91,17 @@ impl<'a, C: Chance> HeapSeat for CacheSeat<'a, C> {
     /// Frees a held block, as the trait says. Beside that: what it may cost, also where it stops. It
     /// cuts nothing.
     fn free(&mut self, b: Block) -> Result<(), Stopped>
-        requires { Contains (heap_view self.old).held b }
-        ensures ok { OnOk result (Frees b (heap_view self.old) (heap_view self.new)) }
-        ensures given { OnOk result (IsPutBack b self.old.view self.new.view) }
+        requires { Contains (heap_view self.old.state).held b }
+        ensures ok { OnOk result (Frees b (heap_view self.old.state) (heap_view self.new.state)) }
+        ensures given { OnOk result (IsPutBack b self.old.state.view self.new.state.view) }
         ensures stopped { IfErr result (λ e. Stops e.step
-            (heap_view self.old) (heap_view self.new)) }
-        ensures others { MayHaveFreed b (heap_view self.old) (heap_view self.new) }
-        ensures counted { IsLargeCall 0 (heap_view self.old) (heap_view self.new) }
-        ensures idle { (ticket : ℕ) → (heap_view self.old).stopped ≡ Some ticket
+            (heap_view self.old.state) (heap_view self.new.state)) }
+        ensures others { MayHaveFreed b (heap_view self.old.state) (heap_view self.new.state) }
+        ensures counted { IsLargeCall 0 (heap_view self.old.state) (heap_view self.new.state) }
+        ensures idle { (ticket : ℕ) → (heap_view self.old.state).stopped ≡ Some ticket
             → self.new ≡ self.old }
-        ensures kept { KeepsHeap self.old self.new }
-        ensures costs { Passes most_free_costs self.old.view self.new.view }
+        ensures kept { KeepsSeat C.draw_gives self.old self.new }
+        ensures costs { Passes most_free_costs self.old.state.view self.new.state.view }
     {
         self.check_running()?;
         self.seat.has_a_low_budget();
@@ -158,17 +160,17 @@ impl<'a, C: Chance> HeapSeat for CacheSeat<'a, C> {
         self.seat.block(self.shared, offset)
     }
 
-    ghost seat = { seat_law };
+    ghost seat = { λ s. seat_law s.state };
 
-    ghost mixed = { mixed_law };
+    ghost mixed = { λ s. mixed_law s.state };
 
-    ghost stored_kinds = { stored_law };
+    ghost stored_kinds = { λ s. stored_law s.state };
 
-    ghost named = { named_law };
+    ghost named = { λ s. named_law s.state };
 
-    ghost keeps_none = { keeps_none_law };
+    ghost keeps_none = { seat_none_law C.draw_gives };
 
-    ghost keeps_row = { keeps_row_law };
+    ghost keeps_row = { seat_row_law C.draw_gives };
 
-    ghost may_be = { may_be_law };
+    ghost may_be = { λ s. may_be_law s.state };
 }

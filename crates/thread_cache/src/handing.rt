@@ -14,11 +14,12 @@ impl<'a, C: Chance> CacheSeat<'a, C> {
 
     /// Gives a held block to a carrier. Where the seat stops it is still held.
     pub fn offer(&mut self, block: Block) -> Result<Carrier, Stopped>
-        requires held { IsHeld self.old.view block }
-        ensures offered { IfOk result (λ carrier. HasOffered block carrier self.old.table
-            self.old.view self.new.view) }
-        ensures counted { IfOk result (λ _. self.new.small_calls ≡ self.old.small_calls + 1) }
-        ensures table { self.new.table ≡ self.old.table }
+        requires held { IsHeld self.old.state.view block }
+        ensures offered { IfOk result (λ carrier. HasOffered block carrier self.old.state.table
+            self.old.state.view self.new.state.view) }
+        ensures counted { IfOk result (λ _. self.new.state.small_calls
+            ≡ self.old.state.small_calls + 1) }
+        ensures table { self.new.state.table ≡ self.old.state.table }
     {
         self.check_running()?;
         self.seat.has_a_low_budget();
@@ -31,12 +32,13 @@ impl<'a, C: Chance> CacheSeat<'a, C> {
 
     /// Takes the block of a carrier of this heap, which comes back where the seat stops.
     pub fn accept(&mut self, carrier: Carrier) -> Result<Block, (Stopped, Carrier)>
-        requires table { carrier.table ≡ self.old.table }
+        requires table { carrier.table ≡ self.old.state.table }
         ensures accepted { IfOk result (λ block. HasAccepted block carrier
-            self.old.view self.new.view) }
+            self.old.state.view self.new.state.view) }
         ensures back { IfErr result (λ e. e.1 ≡ carrier) }
-        ensures counted { IfOk result (λ _. self.new.small_calls ≡ self.old.small_calls + 1) }
-        ensures table { self.new.table ≡ self.old.table }
+        ensures counted { IfOk result (λ _. self.new.state.small_calls
+            ≡ self.old.state.small_calls + 1) }
+        ensures table { self.new.state.table ≡ self.old.state.table }
     {
         match self.check_running() {
             Err(stopped) => Err((stopped, carrier)),

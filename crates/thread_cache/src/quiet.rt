@@ -12,14 +12,14 @@ impl<'a, C: Chance> CacheSeat<'a, C> {
     ghost use Rattle.seat_flush.specs.All.{HasFlushedAll, all_costs, cached};
     ghost use Rattle.seat_rows.specs.Rows.{Passes};
     ghost use Rattle.seat_view.specs.CacheState.{heap_view};
-    ghost use Rattle.thread_cache.specs.Keeps.{KeepsHeap};
+    ghost use Rattle.thread_cache.specs.Keeps.{KeepsSeat};
     ghost use Rattle.thread_cache.specs.Quiet.{HasEmptyCaches, IsQuietCall};
 
     /// Whether a cache has a block.
     fn has_cached(&self) -> bool
-        requires going { self.now.view.stopped ≡ None }
-        ensures yes { IsTrue result → 1 ≤ cached self.now.view }
-        ensures no { result ≡ false → HasEmptyCaches self.now }
+        requires going { self.now.state.view.stopped ≡ None }
+        ensures yes { IsTrue result → 1 ≤ cached self.now.state.view }
+        ensures no { result ≡ false → HasEmptyCaches self.now.state }
     {
         for number in 1..=LAST_CLASS {
             let (_, count) = self.seat.cache(self.shared, SizeClass::new(number));
@@ -33,22 +33,24 @@ impl<'a, C: Chance> CacheSeat<'a, C> {
     /// Gives all cached blocks back to their superblocks: other threads can have them then. It takes
     /// no superblock, and draws nothing where no cache has a block.
     pub fn quiet(&mut self) -> Result<(), Stopped>
-        ensures quiet { OnOk result (HasEmptyCaches self.new) }
-        ensures runs { OnOk result (self.new.view.stopped ≡ None) }
-        ensures stopped { IfErr result (λ e. Stops e.step (heap_view self.old) (heap_view self.new)) }
-        ensures unchanged { KeepsOwn (heap_view self.old) (heap_view self.new) }
+        ensures quiet { OnOk result (HasEmptyCaches self.new.state) }
+        ensures runs { OnOk result (self.new.state.view.stopped ≡ None) }
+        ensures stopped { IfErr result (λ e. Stops e.step
+            (heap_view self.old.state) (heap_view self.new.state)) }
+        ensures unchanged { KeepsOwn (heap_view self.old.state) (heap_view self.new.state) }
         ensures pending { (word : ℕ)
-            → IsOwn (heap_view self.old).held self.old.view.roots word
-            → KeepsPending (heap_view self.old) (heap_view self.new) word }
-        ensures counted { IsQuietCall self.old self.new }
-        ensures costs { Passes (all_costs self.old.view) self.old.view self.new.view }
-        ensures gave { OnOk result (self.old.view.gives < self.new.view.gives
-            → HasFlushedAll self.old.view self.new.view) }
-        ensures light { OnOk result (self.new.view.gives ≡ self.old.view.gives
+            → IsOwn (heap_view self.old.state).held self.old.state.view.roots word
+            → KeepsPending (heap_view self.old.state) (heap_view self.new.state) word }
+        ensures counted { IsQuietCall self.old.state self.new.state }
+        ensures costs { Passes (all_costs self.old.state.view)
+            self.old.state.view self.new.state.view }
+        ensures gave { OnOk result (self.old.state.view.gives < self.new.state.view.gives
+            → HasFlushedAll self.old.state.view self.new.state.view) }
+        ensures light { OnOk result (self.new.state.view.gives ≡ self.old.state.view.gives
             → self.new ≡ self.old) }
-        ensures idle { (ticket : ℕ) → self.old.view.stopped ≡ Some ticket
+        ensures idle { (ticket : ℕ) → self.old.state.view.stopped ≡ Some ticket
             → self.new ≡ self.old }
-        ensures kept { KeepsHeap self.old self.new }
+        ensures kept { KeepsSeat C.draw_gives self.old self.new }
     {
         self.check_running()?;
         if !self.has_cached() {

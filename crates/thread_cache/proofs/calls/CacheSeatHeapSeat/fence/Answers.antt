@@ -1,11 +1,11 @@
 use Rattle.std.proofs.Common.{ap, refl, ◌∙◌, sym}
 use Rattle.seat_view.specs.CacheState.{CacheState}
-use Rattle.thread_cache.proofs.CallLemmas.{between_then, counts_then, small_counted, small_fences, small_keeps, small_own, small_step, small_stops}
+use Rattle.thread_cache.proofs.CallLemmas.{asked_at, between_then, counts_then, small_counted, small_fences, small_keeps, small_own, small_step, small_stops, state_is}
 use Rattle.thread_cache.proofs.calls.CacheSeatHeapSeat.fence.Goals as goal
 
 pub invariant_of-self-inside : goal.invariant_of-self-inside
 invariant_of-self-inside g c =
-    let ran = ap (λ (s : CacheState). s.view.stopped) c.self.view_is ∙ c.in_ok-check_running.ensures.ok in (
+    let ran = ap (λ (s : CacheState). s.view.stopped) (state_is c.self.view_is) ∙ c.in_ok-check_running.ensures.ok in (
       c.fence-answer.ensures.seat,
       (
         ∣ c.has_a_sound_state-2.ensures ∣₁,
@@ -17,16 +17,19 @@ invariant_of-self-inside g c =
     )
 
 pub returns-clause-unchanged : goal.returns-clause-unchanged
-returns-clause-unchanged g c = small_own c.args.self.now c.self.inside.seat c.fence-answer.new.seat _ (small_step _ c.args.self.now c.self.view_is c.self.inside.seat c.fence-answer.new.seat refl refl c.has_a_sound_state-2.ensures c.in_ok-check_running.ensures.ok) c.fence-answer.ensures.row.view.passes c.fence-answer.ensures.row
+returns-clause-unchanged g c = small_own c.args.self.now.state c.self.inside.seat c.fence-answer.new.seat _ (small_step _ c.args.self.now.state (state_is c.self.view_is) c.self.inside.seat c.fence-answer.new.seat refl refl c.has_a_sound_state-2.ensures c.in_ok-check_running.ensures.ok) c.fence-answer.ensures.row.view.passes c.fence-answer.ensures.row
 
 pub returns-clause-counted : goal.returns-clause-counted
-returns-clause-counted g c = small_counted c.args.self.now c.self.inside.seat c.fence-answer.new.seat _ (small_step _ c.args.self.now c.self.view_is c.self.inside.seat c.fence-answer.new.seat refl refl c.has_a_sound_state-2.ensures c.in_ok-check_running.ensures.ok) c.fence-answer.ensures.row.view.passes c.fence-answer.ensures.looks
+returns-clause-counted g c = small_counted c.args.self.now.state c.self.inside.seat c.fence-answer.new.seat _ (small_step _ c.args.self.now.state (state_is c.self.view_is) c.self.inside.seat c.fence-answer.new.seat refl refl c.has_a_sound_state-2.ensures c.in_ok-check_running.ensures.ok) c.fence-answer.ensures.row.view.passes c.fence-answer.ensures.looks
 
 pub returns-clause-kept : goal.returns-clause-kept
-returns-clause-kept g c = (c.fence-answer.ensures.seat.table ∙ sym c.self.inside.of.table ∙ ap (λ (s : CacheState). s.table) c.self.view_is, small_keeps c.args.self.now c.self.inside.seat c.fence-answer.new.seat _ (small_step _ c.args.self.now c.self.view_is c.self.inside.seat c.fence-answer.new.seat refl refl c.has_a_sound_state-2.ensures c.in_ok-check_running.ensures.ok) c.fence-answer.ensures.row.view.passes c.fence-answer.ensures.row.view.large)
+returns-clause-kept g c = record {
+  heap = (c.fence-answer.ensures.seat.table ∙ sym c.self.inside.of.table ∙ ap (λ (s : CacheState). s.table) (state_is c.self.view_is), small_keeps c.args.self.now.state c.self.inside.seat c.fence-answer.new.seat _ (small_step _ c.args.self.now.state (state_is c.self.view_is) c.self.inside.seat c.fence-answer.new.seat refl refl c.has_a_sound_state-2.ensures c.in_ok-check_running.ensures.ok) c.fence-answer.ensures.row.view.passes c.fence-answer.ensures.row.view.large);
+  asked = asked_at c.self.view_is c.fence-answer.ensures.asked;
+}
 
 pub returns-clause-stopped : goal.returns-clause-stopped
-returns-clause-stopped g c = small_stops c.args.self.now c.self.inside.seat c.fence-answer.new.seat _ (small_step _ c.args.self.now c.self.view_is c.self.inside.seat c.fence-answer.new.seat refl refl c.has_a_sound_state-2.ensures c.in_ok-check_running.ensures.ok) c.fence-answer.ensures.row.view.passes c.fence-answer.result c.fence-answer.ensures.stopped
+returns-clause-stopped g c = small_stops c.args.self.now.state c.self.inside.seat c.fence-answer.new.seat _ (small_step _ c.args.self.now.state (state_is c.self.view_is) c.self.inside.seat c.fence-answer.new.seat refl refl c.has_a_sound_state-2.ensures c.in_ok-check_running.ensures.ok) c.fence-answer.ensures.row.view.passes c.fence-answer.result c.fence-answer.ensures.stopped
 
 pub returns-clause-ok : goal.returns-clause-ok
-returns-clause-ok g c = small_fences c.args.self.now c.self.inside.seat c.fence-answer.new.seat _ (small_step _ c.args.self.now c.self.view_is c.self.inside.seat c.fence-answer.new.seat refl refl c.has_a_sound_state-2.ensures c.in_ok-check_running.ensures.ok) c.fence-answer.result c.fence-answer.ensures.fenced
+returns-clause-ok g c = small_fences c.args.self.now.state c.self.inside.seat c.fence-answer.new.seat _ (small_step _ c.args.self.now.state (state_is c.self.view_is) c.self.inside.seat c.fence-answer.new.seat refl refl c.has_a_sound_state-2.ensures c.in_ok-check_running.ensures.ok) c.fence-answer.result c.fence-answer.ensures.fenced
