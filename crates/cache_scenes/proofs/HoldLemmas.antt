@@ -10,10 +10,10 @@ use Rattle.heap_seat.specs.View.{View}
 use Rattle.heap_seat.specs.Alloc.{Adds}
 use Rattle.heap_seat.specs.Free.{MayHaveFreed}
 use Rattle.heap_rule.specs.Seated.{SeatView}
-use Rattle.seat_view.specs.CacheState.{CacheState, held_blocks}
+use Rattle.seat_view.specs.CacheState.{CacheValue, held_blocks}
 use Rattle.seat_view.proofs.ListedBlocks.{listed}
-use Rattle.thread_cache.specs.Keeps.{KeepsHeap}
-use Rattle.cache_scenes.specs.Holding.{AreRootsOf, HasRootsOf, Holds, IsNoneOf, OwnsRoots}
+use Rattle.thread_cache.specs.Keeps.{KeepsSeat}
+use Rattle.cache_scenes.specs.Holding.{AreRootsOf, HasRootsOf, Holds, IsNoneOf, OwnsRoots, anything}
 use Rattle.std.proofs.lemmas.List.{get_or_append_left, length-append}
 use Rattle.std.proofs.Math.Seq.{get_or-append_seam}
 use Rattle.heap_model.specs.Counting.{times}
@@ -78,5 +78,5 @@ pub owns : (number count : ℕ) (owned : List ℕ) (seat : SeatView) → AreRoot
 owns number count owned seat are has = record { each = λ root in_owned. let r = All-contains (λ root. (root < roots) × (root % count ≡ number)) owned root are in_owned in has root r.0 r.1 }
 
 -- so are they behind each call
-pub still_owns : (owned : List ℕ) (s t : CacheState) → KeepsHeap s t → OwnsRoots owned s.view.roots → OwnsRoots owned t.view.roots
-still_owns owned s t kept own = subst (OwnsRoots owned) (sym kept.1.roots) own
+pub still_owns : {C : Type 0} (owned : List ℕ) (s t : CacheValue C) → KeepsSeat anything s t → OwnsRoots owned s.state.view.roots → OwnsRoots owned t.state.view.roots
+still_owns owned s t kept own = subst (OwnsRoots owned) (sym kept.heap.1.roots) own

@@ -1,5 +1,5 @@
 -- What the seats of the tests are at first, and what they hold.
-use Rattle.std.specs.Prelude.{◌≡◌, ◌≢◌, ◌<◌, ◌%◌, ℕ, All, None, Some, Option, List, Contains, get_or, length}
+use Rattle.std.specs.Prelude.{◌≡◌, ◌≢◌, ◌<◌, ◌%◌, ⊤, ℕ, All, None, Some, Option, List, Contains, get_or, length}
 use Rattle.heap_model.specs.declared.block.Block.{Block}
 use Rattle.heap_model.specs.Geometry.{roots}
 use Rattle.core_model.specs.View.{View, no_role, role}
@@ -8,6 +8,10 @@ use Rattle.heap_rule.specs.Seated.{IsSeatOf, SeatView}
 use Rattle.seat_rows.specs.Idle.{HasShortCaches, IsIdle}
 use Rattle.seat_view.specs.CacheState.{held_blocks}
 use Rattle.size_table.specs.declared.size_class.SizeClass.{SizeClass}
+
+-- a chance that may give any number
+abbrev pub anything : {C : Type 0} → C → ℕ → C → Type 0
+anything old number new = ⊤
 
 -- a seat of a heap that was opened just now may be one that allocates
 pub record IsFresh (v : View) : Type 0 where

@@ -32,8 +32,8 @@ fn index_in(given: &[Block], d: u64) -> usize {
 
 /// Frees four blocks, each of the superblock that a digit of the number in base 4 tells.
 fn free_in_order(who: &mut Holder<'_>, order: u64) -> Result<(), Halt>
-    requires { Holds (heap_view who.old.seat).held who.old.given.items }
-    ensures { OnOk result (Holds (heap_view who.new.seat).held who.new.given.items) }
+    requires { Holds (heap_view who.old.seat.state).held who.old.given.items }
+    ensures { OnOk result (Holds (heap_view who.new.seat.state).held who.new.given.items) }
 {
     let mut rest = order;
     for _nth in 0..FOUR {
@@ -46,8 +46,8 @@ fn free_in_order(who: &mut Holder<'_>, order: u64) -> Result<(), Halt>
 
 /// A seat takes so many blocks.
 fn take_blocks(who: &mut Holder<'_>, count: u64) -> Result<(), Halt>
-    requires { Holds (heap_view who.old.seat).held who.old.given.items }
-    ensures { OnOk result (Holds (heap_view who.new.seat).held who.new.given.items) }
+    requires { Holds (heap_view who.old.seat.state).held who.old.given.items }
+    ensures { OnOk result (Holds (heap_view who.new.seat.state).held who.new.given.items) }
 {
     take_all(&mut who.seat, &mut who.given, BYTES, count)
 }
@@ -55,10 +55,10 @@ fn take_blocks(who: &mut Holder<'_>, count: u64) -> Result<(), Halt>
 /// One seat has all sixteen blocks, and frees four in this order. The other one takes these, and
 /// frees them: then the first one has all again.
 fn trade(a: &mut Holder<'_>, b: &mut Holder<'_>, order: u64) -> Result<(), Halt>
-    requires a { Holds (heap_view a.old.seat).held a.old.given.items }
-    requires b { Holds (heap_view b.old.seat).held b.old.given.items }
-    ensures a { OnOk result (Holds (heap_view a.new.seat).held a.new.given.items) }
-    ensures b { OnOk result (Holds (heap_view b.new.seat).held b.new.given.items) }
+    requires a { Holds (heap_view a.old.seat.state).held a.old.given.items }
+    requires b { Holds (heap_view b.old.seat.state).held b.old.given.items }
+    ensures a { OnOk result (Holds (heap_view a.new.seat.state).held a.new.given.items) }
+    ensures b { OnOk result (Holds (heap_view b.new.seat.state).held b.new.given.items) }
 {
     free_in_order(a, order)?;
     take_blocks(b, FOUR)?;
@@ -68,8 +68,8 @@ fn trade(a: &mut Holder<'_>, b: &mut Holder<'_>, order: u64) -> Result<(), Halt>
 
 /// Trades in each order. The first seat has all blocks then.
 pub fn trade_all(a: &mut Holder<'_>, b: &mut Holder<'_>) -> Result<(), Fail>
-    requires a { Holds (heap_view a.old.seat).held a.old.given.items }
-    requires b { Holds (heap_view b.old.seat).held b.old.given.items }
+    requires a { Holds (heap_view a.old.seat.state).held a.old.given.items }
+    requires b { Holds (heap_view b.old.seat.state).held b.old.given.items }
 {
     take_blocks(a, 16)?;
     for order in 0..256 {

@@ -42,8 +42,8 @@ fn own_blocks(
     held: &[Block],
     number: usize,
 ) -> Result<Vec<Block>, AllocError>
-    requires { HasBlocksOf number 2 held.now seat.now.view }
-    ensures { IfOk result (λ given. Holds (heap_view seat.now).held given.items) }
+    requires { HasBlocksOf number 2 held.now seat.now.state.view }
+    ensures { IfOk result (λ given. Holds (heap_view seat.now.state).held given.items) }
 {
     let mut given = Vec::new(alloc);
     for (index, b) in held.iter().enumerate() {
@@ -66,7 +66,7 @@ fn last_holder<'a>(
     requires blocks { HaveBlocks 2 held.now seats.old.items }
     ensures fresh { OnOk result (All (IsFreshSeatOf shared.now) seats.new.items) }
     ensures blocks { OnOk result (HaveBlocks 2 held.now seats.new.items) }
-    ensures holds { IfOk result (λ h. Holds (heap_view h.seat).held h.given.items) }
+    ensures holds { IfOk result (λ h. Holds (heap_view h.seat.state).held h.given.items) }
 {
     let Some(seat) = last_seat(shared, seats) else {
         return Err("no seat".into());
@@ -90,8 +90,8 @@ fn line_of(line: &str) -> Option<(bool, Act)> {
 
 /// A seat does what it is told, and has no root.
 fn perform_rootless(who: &mut Holder<'_>, act: Act) -> Result<(), Halt>
-    requires { Holds (heap_view who.old.seat).held who.old.given.items }
-    ensures { OnOk result (Holds (heap_view who.new.seat).held who.new.given.items) }
+    requires { Holds (heap_view who.old.seat.state).held who.old.given.items }
+    ensures { OnOk result (Holds (heap_view who.new.seat.state).held who.new.given.items) }
 {
     let dealt = Dealt {
         number: 0,
@@ -102,8 +102,8 @@ fn perform_rootless(who: &mut Holder<'_>, act: Act) -> Result<(), Halt>
 
 /// Two seats do what the lines tell, in their order.
 pub fn play(a: &mut Holder<'_>, b: &mut Holder<'_>, lines: &str) -> Result<(), Halt>
-    requires a { Holds (heap_view a.old.seat).held a.old.given.items }
-    requires b { Holds (heap_view b.old.seat).held b.old.given.items }
+    requires a { Holds (heap_view a.old.seat.state).held a.old.given.items }
+    requires b { Holds (heap_view b.old.seat.state).held b.old.given.items }
 {
     for line in lines.split('\n') {
         let Some((is_first, act)) = line_of(line) else {
@@ -120,8 +120,8 @@ pub fn play(a: &mut Holder<'_>, b: &mut Holder<'_>, lines: &str) -> Result<(), H
 
 /// Two seats do their part.
 fn play_part(a: &mut Holder<'_>, b: &mut Holder<'_>, part: Part<'_>) -> Result<(), Fail>
-    requires a { Holds (heap_view a.old.seat).held a.old.given.items }
-    requires b { Holds (heap_view b.old.seat).held b.old.given.items }
+    requires a { Holds (heap_view a.old.seat.state).held a.old.given.items }
+    requires b { Holds (heap_view b.old.seat.state).held b.old.given.items }
 {
     match part {
         Part::Acts(lines) => Ok(play(a, b, lines)?),

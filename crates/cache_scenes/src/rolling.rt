@@ -2,8 +2,8 @@
 
 ghost use Rattle.std.specs.Prelude.{◌≡◌, ◌<◌, Contains, OnOk, length};
 ghost use Rattle.seat_view.specs.CacheState.{heap_view};
-ghost use Rattle.thread_cache.specs.Keeps.{KeepsHeap};
-ghost use Rattle.cache_scenes.specs.Holding.{Holds};
+ghost use Rattle.thread_cache.specs.Keeps.{KeepsSeat};
+ghost use Rattle.cache_scenes.specs.Holding.{anything, Holds};
 
 use crate::dice::Dice;
 use crate::holders::{Halt, give_back, take};
@@ -110,8 +110,8 @@ fn act<H: HeapSeat>(
 
 /// A seat's caches are emptied.
 pub fn quiet(seat: &mut CacheSeat<'_, Turn<'_>>) -> Result<(), Halt>
-    ensures held { (heap_view seat.new).held ≡ (heap_view seat.old).held }
-    ensures kept { KeepsHeap seat.old seat.new }
+    ensures held { (heap_view seat.new.state).held ≡ (heap_view seat.old.state).held }
+    ensures kept { KeepsSeat anything seat.old seat.new }
 {
     Ok(seat.quiet()?)
 }
@@ -123,9 +123,9 @@ pub fn roll(
     dice: &mut Dice,
     number: u64,
 ) -> Result<(), Halt>
-    requires { Holds (heap_view seat.old).held given.old.items }
-    ensures holds { OnOk result (Holds (heap_view seat.new).held given.new.items) }
-    ensures kept { KeepsHeap seat.old seat.new }
+    requires { Holds (heap_view seat.old.state).held given.old.items }
+    ensures holds { OnOk result (Holds (heap_view seat.new.state).held given.new.items) }
+    ensures kept { KeepsSeat anything seat.old seat.new }
 {
     if dice.below(16) == 0 {
         quiet(seat)
@@ -141,9 +141,9 @@ pub fn roll_often(
     number: u64,
     count: u64,
 ) -> Result<(), Halt>
-    requires { Holds (heap_view seat.old).held given.old.items }
-    ensures holds { OnOk result (Holds (heap_view seat.new).held given.new.items) }
-    ensures kept { KeepsHeap seat.old seat.new }
+    requires { Holds (heap_view seat.old.state).held given.old.items }
+    ensures holds { OnOk result (Holds (heap_view seat.new.state).held given.new.items) }
+    ensures kept { KeepsSeat anything seat.old seat.new }
 {
     let mut dice = Dice::new(number);
     for _turn in 0..count {

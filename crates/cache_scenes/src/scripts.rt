@@ -19,8 +19,8 @@
 
 ghost use Rattle.std.specs.Prelude.{◌≡◌, OnOk};
 ghost use Rattle.seat_view.specs.CacheState.{heap_view};
-ghost use Rattle.thread_cache.specs.Keeps.{KeepsHeap};
-ghost use Rattle.cache_scenes.specs.Holding.{Holds, OwnsRoots};
+ghost use Rattle.thread_cache.specs.Keeps.{KeepsSeat};
+ghost use Rattle.cache_scenes.specs.Holding.{anything, Holds, OwnsRoots};
 
 use crate::holders::{Halt, give_back, give_back_last, take, take_all};
 use crate::order::Turn;
@@ -142,9 +142,9 @@ fn must_be_full(
     bytes: u64,
     wanted: Wanted,
 ) -> Result<(), Halt>
-    requires { Holds (heap_view seat.old).held given.old.items }
-    ensures holds { OnOk result (Holds (heap_view seat.new).held given.new.items) }
-    ensures kept { KeepsHeap seat.old seat.new }
+    requires { Holds (heap_view seat.old.state).held given.old.items }
+    ensures holds { OnOk result (Holds (heap_view seat.new.state).held given.new.items) }
+    ensures kept { KeepsSeat anything seat.old seat.new }
 {
     let answer = take(seat, given, bytes);
     if is_full(&answer, wanted) {
@@ -171,9 +171,9 @@ pub struct Dealt<'a> {
 
 /// Roots of the seat lead to its blocks, in order.
 fn publish(seat: &mut CacheSeat<'_, Turn<'_>>, owned: &[u64], given: &[Block]) -> Result<(), Halt>
-    requires { OwnsRoots owned.now seat.old.view.roots }
-    ensures held { OnOk result ((heap_view seat.new).held ≡ (heap_view seat.old).held) }
-    ensures kept { KeepsHeap seat.old seat.new }
+    requires { OwnsRoots owned.now seat.old.state.view.roots }
+    ensures held { OnOk result ((heap_view seat.new.state).held ≡ (heap_view seat.old.state).held) }
+    ensures kept { KeepsSeat anything seat.old seat.new }
 {
     for (index, b) in given.iter().enumerate() {
         put(seat, owned, index as u64, Some(b))?;
@@ -188,10 +188,10 @@ fn perform_dealt(
     dealt: Dealt<'_>,
     act: Act,
 ) -> Result<(), Halt>
-    requires holds { Holds (heap_view seat.old).held given.old.items }
-    requires owns { OwnsRoots dealt.roots.now seat.old.view.roots }
-    ensures holds { OnOk result (Holds (heap_view seat.new).held given.new.items) }
-    ensures kept { KeepsHeap seat.old seat.new }
+    requires holds { Holds (heap_view seat.old.state).held given.old.items }
+    requires owns { OwnsRoots dealt.roots.now seat.old.state.view.roots }
+    ensures holds { OnOk result (Holds (heap_view seat.new.state).held given.new.items) }
+    ensures kept { KeepsSeat anything seat.old seat.new }
 {
     match act {
         Act::Put { root } => put(seat, dealt.roots, root, given.last()),
@@ -209,10 +209,10 @@ pub fn perform(
     dealt: Dealt<'_>,
     act: Act,
 ) -> Result<(), Halt>
-    requires holds { Holds (heap_view seat.old).held given.old.items }
-    requires owns { OwnsRoots dealt.roots.now seat.old.view.roots }
-    ensures holds { OnOk result (Holds (heap_view seat.new).held given.new.items) }
-    ensures kept { KeepsHeap seat.old seat.new }
+    requires holds { Holds (heap_view seat.old.state).held given.old.items }
+    requires owns { OwnsRoots dealt.roots.now seat.old.state.view.roots }
+    ensures holds { OnOk result (Holds (heap_view seat.new.state).held given.new.items) }
+    ensures kept { KeepsSeat anything seat.old seat.new }
 {
     match act {
         Act::Take { bytes, count } => take_all(seat, given, bytes, count),
@@ -234,9 +234,9 @@ pub fn follow(
     acts: &str,
     done: &mut usize,
 ) -> Result<(), Halt>
-    requires holds { Holds (heap_view seat.old).held given.old.items }
-    requires owns { OwnsRoots dealt.roots.now seat.old.view.roots }
-    ensures { KeepsHeap seat.old seat.new }
+    requires holds { Holds (heap_view seat.old.state).held given.old.items }
+    requires owns { OwnsRoots dealt.roots.now seat.old.state.view.roots }
+    ensures { KeepsSeat anything seat.old seat.new }
 {
     for told in acts.split(", ") {
         let Some(act) = act_of(told) else {

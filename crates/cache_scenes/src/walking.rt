@@ -16,8 +16,8 @@ const STEPS: u64 = 3_000;
 
 /// A seat takes a step. The last block that it has is apart from all others.
 fn step(who: &mut Holder<'_>, other: &Holder<'_>, number: u64, dice: &mut Dice) -> Result<(), Halt>
-    requires { Holds (heap_view who.old.seat).held who.old.given.items }
-    ensures { OnOk result (Holds (heap_view who.new.seat).held who.new.given.items) }
+    requires { Holds (heap_view who.old.seat.state).held who.old.given.items }
+    ensures { OnOk result (Holds (heap_view who.new.seat.state).held who.new.given.items) }
 {
     roll(&mut who.seat, &mut who.given, dice, number)?;
     if !last_is_apart(&who.given, &other.given) {
@@ -28,10 +28,10 @@ fn step(who: &mut Holder<'_>, other: &Holder<'_>, number: u64, dice: &mut Dice) 
 
 /// Two seats go by turns.
 fn walk(a: &mut Holder<'_>, b: &mut Holder<'_>, seed: u64) -> Result<(), Halt>
-    requires a { Holds (heap_view a.old.seat).held a.old.given.items }
-    requires b { Holds (heap_view b.old.seat).held b.old.given.items }
-    ensures a { OnOk result (Holds (heap_view a.new.seat).held a.new.given.items) }
-    ensures b { OnOk result (Holds (heap_view b.new.seat).held b.new.given.items) }
+    requires a { Holds (heap_view a.old.seat.state).held a.old.given.items }
+    requires b { Holds (heap_view b.old.seat.state).held b.old.given.items }
+    ensures a { OnOk result (Holds (heap_view a.new.seat.state).held a.new.given.items) }
+    ensures b { OnOk result (Holds (heap_view b.new.seat.state).held b.new.given.items) }
 {
     let mut dice = Dice::new(seed);
     for _step in 0..STEPS {
@@ -43,8 +43,8 @@ fn walk(a: &mut Holder<'_>, b: &mut Holder<'_>, seed: u64) -> Result<(), Halt>
 
 /// A seat frees all its blocks, and its caches are emptied.
 fn end(who: &mut Holder<'_>) -> Result<(), Halt>
-    requires { Holds (heap_view who.old.seat).held who.old.given.items }
-    ensures { OnOk result (Holds (heap_view who.new.seat).held who.new.given.items) }
+    requires { Holds (heap_view who.old.seat.state).held who.old.given.items }
+    ensures { OnOk result (Holds (heap_view who.new.seat.state).held who.new.given.items) }
 {
     let count = who.given.len() as u64;
     give_back_last(&mut who.seat, &mut who.given, count)?;
@@ -78,8 +78,8 @@ a full 262144 4";
 
 /// A walk with these dice over an empty heap, and what the heap has then.
 pub fn walk_and_end(a: &mut Holder<'_>, b: &mut Holder<'_>, seed: u64) -> Result<(), Fail>
-    requires a { Holds (heap_view a.old.seat).held a.old.given.items }
-    requires b { Holds (heap_view b.old.seat).held b.old.given.items }
+    requires a { Holds (heap_view a.old.seat.state).held a.old.given.items }
+    requires b { Holds (heap_view b.old.seat.state).held b.old.given.items }
 {
     walk(a, b, seed)?;
     end(a)?;

@@ -10,7 +10,7 @@ ghost use Rattle.core_model.specs.Opening.{AreOwners};
 ghost use Rattle.core_model.specs.View.{no_role, role};
 ghost use Rattle.heap_rule.specs.Seated.{IsSeatOf};
 ghost use Rattle.seat_view.specs.CacheState.{heap_view};
-ghost use Rattle.thread_cache.specs.Keeps.{KeepsHeap};
+ghost use Rattle.thread_cache.specs.Keeps.{KeepsSeat};
 ghost use Rattle.first_threads.specs.Working.{HasWorked, IsFreshSeatOf, IsQuiet, Tells};
 
 use crate::chain::{pop, push};
@@ -19,7 +19,7 @@ use heap_rule::{
     open_shared, seats_that_hand_nothing_leave_no_carrier,
 };
 use heap_seat::{AllocFault, HeapSeat};
-use line_memory::ConstantChance;
+use line_memory::{Chance, ConstantChance};
 use seat_notes::Owners;
 use seat_rows::an_opened_seat_is_idle;
 use std::alloc::{AllocError, Global};
@@ -111,10 +111,10 @@ fn push_all<H: HeapSeat>(seat: &mut H, root: u64) -> Result<(Chain, Block), Allo
 /// Builds a chain of two small blocks and a large one, and leaves all free blocks to the other
 /// thread.
 fn build(seat: &mut CacheSeat<'_, ConstantChance>, root: u64) -> Result<Chain, AllocFault>
-    requires { Contains seat.old.view.roots root }
-    ensures held { (b : Block) → Tells result b → Contains (heap_view seat.new).held b }
-    ensures quiet { OnOk result (IsQuiet seat.new.view) }
-    ensures kept { KeepsHeap seat.old seat.new }
+    requires { Contains seat.old.state.view.roots root }
+    ensures held { (b : Block) → Tells result b → Contains (heap_view seat.new.state).held b }
+    ensures quiet { OnOk result (IsQuiet seat.new.state.view) }
+    ensures kept { KeepsSeat ⟦<ConstantChance as Chance>⟧.draw_gives seat.old seat.new }
 {
     let (chain, last) = push_all(seat, root)?;
     pop(seat, root, last)?;

@@ -22,3 +22,4 @@ pub mod TurnLemmas
 pub mod UsedLemmas
 pub mod WorkerLemmas
 pub mod ScrambledLemmas
+pub mod StateLemmas

@@ -36,7 +36,7 @@ pub(crate) struct Worked {
 
 /// Empties the caches of a seat, unless it has stopped, and tells whether it has stopped by now.
 fn empty_caches<C: Chance>(seat: &mut CacheSeat<'_, C>, stopped: bool) -> bool
-    ensures { HasSettled stopped result seat.old seat.new }
+    ensures { HasSettled stopped result seat.old.state seat.new.state }
 {
     stopped || seat.quiet().is_err()
 }

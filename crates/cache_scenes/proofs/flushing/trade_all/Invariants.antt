@@ -3,4 +3,4 @@ use Rattle.cache_scenes.specs.Holding.{Holds}
 use Rattle.cache_scenes.proofs.flushing.trade_all.Given as goal
 
 abbrev pub invariant-loop-order : goal.invariant-loop-order
-invariant-loop-order l = Holds (heap_view l.a.seat).held l.a.given.items × Holds (heap_view l.b.seat).held l.b.given.items
+invariant-loop-order l = Holds (heap_view l.a.seat.state).held l.a.given.items × Holds (heap_view l.b.seat.state).held l.b.given.items

@@ -6,12 +6,12 @@ use Rattle.first_threads.specs.Working.{IsQuiet}
 use Rattle.first_threads.proofs.threads.work.Goals as goal
 
 pub build-chain-requires : goal.build-chain-requires
-build-chain-requires c = subst (λ (v : View). Contains v.roots c.args.root) (sym c.new-seat.ensures.view) c.requires.root_is
+build-chain-requires c = subst (λ (v : View). Contains v.roots c.args.root) (sym c.new-seat.ensures.state.view) c.requires.root_is
 
 pub returns : goal.returns
 returns c =
-    let new = c.new-seat.ensures in
-    let kept = c.build-chain.ensures.kept in
+    let new = c.new-seat.ensures.state in
+    let kept = c.build-chain.ensures.kept.heap in
     let back = c.into_seat-seat.ensures in
     let of = c.requires.of in
     record {
