@@ -1,9 +1,11 @@
 -- Worked examples by computation: what rows of calls leave of the heap, and what they may cost.
-use Rattle.std.proofs.Common.{◌≡◌, ◌≤◌, ◌+◌, ◌*◌, ℕ, [], ◌∷◌, Some, length, refl, ap, sym, ◌∙◌, arith}
+use Rattle.std.proofs.Common.{◌≡◌, ◌≤◌, ◌+◌, ◌-◌, ◌*◌, ℕ, [], ◌∷◌, Some, length, refl, ap, sym, subst, ◌∙◌, arith}
 use Rattle.heap_rule.specs.Seated.{SeatView}
 use Rattle.core_model.specs.View.{Role, Setup, View}
-use Rattle.seat_view.specs.CacheState.{CacheState}
-use Rattle.thread_cache.specs.Keeps.{IsNew, KeepsCosts, KeepsHeap, light_draws, most_draws, most_gives, most_wins, traces}
+use Rattle.seat_rows.specs.Asked.{AsksFor}
+use Rattle.seat_rows.specs.Examples.{counts}
+use Rattle.seat_view.specs.CacheState.{CacheState, CacheValue, no_looks}
+use Rattle.thread_cache.specs.Keeps.{IsNew, KeepsCosts, KeepsHeap, KeepsSeat, light_draws, most_draws, most_gives, most_wins, traces}
 use Rattle.cache_examples.specs.Seats.{before, later}
 
 -- the most of a call, and of a light one
@@ -115,13 +117,26 @@ mark_falls k = let less : 1 ≤ 0 = k.floor in omega (arith, less)
 pub draws_fall : Keeps (record before { draws = 3 }) 1 0 → ⊥
 draws_fall k = let less : 4 ≤ 3 = k.none_falls.draws in omega (arith, less)
 
--- a seat that was just made has its seat's table, view and marks, and has counted no call
-pub just_made : (seat : SeatView) (s : CacheState) → s.table ≡ seat.table → s.view ≡ seat.view → s.marks ≡ seat.marks → (s.small_calls ≡ 0) × (s.large_calls ≡ 0) × (s.refusals ≡ 0)
-    → IsNew seat s
-just_made seat s table view marks none = record { table = table; view = view; marks = marks; small = none.0; large = none.1; refusals = none.2 }
+-- a seat that was just made has its seat's table, view, marks and stores, has counted no call, and tells of no refusal
+pub just_made : (seat : SeatView) (s : CacheState) → (s.table ≡ seat.table) × (s.view ≡ seat.view) × (s.marks ≡ seat.marks) × (s.stores ≡ seat.stores)
+    → (s.small_calls ≡ 0) × (s.large_calls ≡ 0) × (s.refusals ≡ 0) → (s.refused_bytes ≡ 0) × (s.refused_looks ≡ no_looks) → IsNew seat s
+just_made seat s parts none refused = record {
+  table = parts.0;
+  view = parts.1;
+  marks = parts.2;
+  stores = parts.3;
+  small = none.0;
+  large = none.1;
+  refusals = none.2;
+  refused_bytes = refused.0;
+  refused_looks = refused.1;
+}
 
-pub not_just_made : (seat : SeatView) (s : CacheState) → 1 ≤ s.small_calls + s.large_calls + s.refusals → IsNew seat s → ⊥
-not_just_made seat s some new = let small = new.small in let large = new.large in let refusals = new.refusals in omega (arith, some, small, large, refusals)
+pub not_just_made : (seat : SeatView) (s : CacheState) → 1 ≤ s.small_calls + s.large_calls + s.refusals + s.refused_bytes → IsNew seat s → ⊥
+not_just_made seat s some new = let small = new.small in let large = new.large in let refusals = new.refusals in let bytes = new.refused_bytes in omega (arith, some, small, large, refusals, bytes)
+
+pub has_stored : (seat : SeatView) (s : CacheState) → seat.stores ≡ [] → s.stores ≡ 1080 ∷ [] → IsNew seat s → ⊥
+has_stored seat s none one new = let e : 1 ≡ 0 = ap length (sym one ∙ new.stores ∙ none) in omega (arith, e)
 
 pub of_another_seat : (seat : SeatView) (s : CacheState) → seat.view ≡ later 1 0 0 before → s.view ≡ before → IsNew seat s → ⊥
 of_another_seat seat s view other new = let e : 4 ≡ 5 = ap (λ (v : View). v.draws) (sym other ∙ new.view ∙ view) in omega (arith, e)
@@ -139,3 +154,12 @@ costs_of_the_views s t was is small large k =
     let none : traces s.view + length s.view.large + s.view.losses + s.view.moves ≡ 0 = ap (λ (v : View). traces v + length v.large + v.losses + v.moves) was in
     let none_too : traces t.view + length t.view.large + t.view.losses + t.view.moves ≡ 0 = ap (λ (v : View). traces v + length v.large + v.losses + v.moves) is in
     omega (arith, light, draws, drawn, none, none_too, small, large)
+
+-- a seat asks its chance once for a ticket; this one counts the numbers that it has given
+pub asks_none : (s t : CacheValue ℕ) → s.state.view ≡ before → t.state.view ≡ later 1 0 0 before → t.chance ≡ s.chance → KeepsSeat counts s t → ⊥
+asks_none s t was is same k =
+    let none : s.state.view.draws ≡ 4 = ap (λ (v : View). v.draws) was in
+    let one : t.state.view.draws ≡ 5 = ap (λ (v : View). v.draws) is in
+    let once : t.state.view.draws - s.state.view.draws ≡ 1 = omega (arith, none, one) in
+    let asks : AsksFor counts 1 s.chance t.chance = subst (λ n. AsksFor counts n s.chance t.chance) once k.asked.asks in
+    let first = asks.1.1 in let last = asks.2 in omega (arith, same, first, last)
