@@ -20,6 +20,7 @@ use Rattle.core_model.proofs.OpenedHeldLemmas.{holds_exactly, owns_root}
 use Rattle.core_model.proofs.OpenedLemmas.{opened}
 use Rattle.core_model.proofs.QuietLemmas.{own_same}
 use Rattle.heap_table.specs.Plays.{HasSoundState}
+use Rattle.heap_table.proofs.ReachedLemmas.{opened_counted}
 use Rattle.heap_rule.proofs.RecordLemmas.{only_at}
 use Rattle.heap_rule.proofs.SettleLemmas.{own_below}
 use Rattle.heap_seat.specs.Words.{IsOwn}
@@ -62,7 +63,8 @@ module _ (words : List ℕ) (held : List Block) (workers budget : ℕ) (block_ow
       views = tabulate (opened_view k held block_owners root_owners) 0 workers;
       seat = i;
       sound = opened words held budget workers block_owners root_owners ready by_root.fits;
-      count = length_tabulate (opened_view k held block_owners root_owners) 0 workers;
+      counted = opened_counted (record { words = words; held = held; block_owners = block_owners; root_owners = root_owners; seats = workers; budget = budget });
+      is_seat = refl;
       below = (let l = length_tabulate (opened_view k held block_owners root_owners) 0 workers in omega arith);
       at = tabulate_at (opened_view k held block_owners root_owners) 0 workers i v below ∙ ap (opened_view k held block_owners root_owners) (let e : 0 + i ≡ i = omega arith in e);
     }
