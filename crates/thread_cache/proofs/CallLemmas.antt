@@ -13,7 +13,7 @@ use Rattle.line_memory.specs.Marks.{IsMarked, marked_words}
 use Rattle.line_memory.specs.Marked.{marked_words-has, marked_words-only}
 use Rattle.heap_model.specs.Geometry.{image_words, root_word}
 use Rattle.core_model.specs.Effects.{seen}
-use Rattle.core_model.specs.View.{LastLook, Setup, View, of_class, one_if_some}
+use Rattle.core_model.specs.View.{LastLook, Role, Setup, View, of_class, one_if_some, role}
 use Rattle.heap_table.specs.Plays.{HasSoundState}
 use Rattle.heap_rule.specs.Seated.{SeatView}
 use Rattle.seat_rows.specs.Asked.{HasAsked}
@@ -134,23 +134,25 @@ module _ (s : CacheState) (x y : SeatView) (n : CallCounts) (step : SmallStep s 
     refusals = record { count = step.refusals; bytes = step.bytes; looks = step.refused };
   }
 
-  pub small_keeps : y.view.large ≡ x.view.large → KeepsCosts s.view s.small_calls s.large_calls y.view n.small_calls n.large_calls
-  small_keeps same = record {
-    setup = passes.setup;
-    roots = passes.roots;
-    role_is = passes.role_is;
-    floor = passes.floor;
-    none_falls = passes.more;
-    small_rise = let e = step.small in omega arith;
-    large_rise = let e = step.large in omega arith;
-    draws = let e = step.small in let f = step.large in let l = passes.more.losses in let m = passes.more.moves in let d = passes.most.draws in omega arith;
-    wins = let f = step.large in let d = passes.most.wins in let m = passes.more.moves in omega arith;
-    gives = let f = step.large in let d = passes.most.gives in omega arith;
-    cuts = let f = step.large in let d = passes.most.cuts in omega arith;
-    light = let e = step.small in let f = step.large in let l = passes.more.losses in let d = passes.most.draws in
-        let c = passes.more.cuts in let g = passes.more.gives in let t = passes.more.taken in
-        let ran = ap one_if_some step.ran in let spans = ap length (at_state (λ v. y.view.large ≡ v.large) s x step.was same) in omega arith;
-  }
+  pub small_keeps : y.view.large ≡ x.view.large → KeepsCosts s.view s.small_calls s.large_calls y.view n.small_calls n.large_calls × (role y.view ≡ role s.view)
+  small_keeps same = (
+    record {
+      setup = passes.setup;
+      roots = passes.roots;
+      floor = passes.floor;
+      none_falls = passes.more;
+      small_rise = let e = step.small in omega arith;
+      large_rise = let e = step.large in omega arith;
+      draws = let e = step.small in let f = step.large in let l = passes.more.losses in let m = passes.more.moves in let d = passes.most.draws in omega arith;
+      wins = let f = step.large in let d = passes.most.wins in let m = passes.more.moves in omega arith;
+      gives = let f = step.large in let d = passes.most.gives in omega arith;
+      cuts = let f = step.large in let d = passes.most.cuts in omega arith;
+      light = let e = step.small in let f = step.large in let l = passes.more.losses in let d = passes.most.draws in
+          let c = passes.more.cuts in let g = passes.more.gives in let t = passes.more.taken in
+          let r = ap (λ (x : Role). x.accepts) passes.role_is in let ran = ap one_if_some step.ran in let spans = ap length (at_state (λ v. y.view.large ≡ v.large) s x step.was same) in omega arith;
+    },
+    passes.role_is,
+  )
 
   pub small_own : {a : Costs} → Row a x y → KeepsOwn (heap_view s) (heap_view_of y.view y.marks n)
   small_own {a} row = kept_at s y.view (heap_view_of y.view y.marks n) refl refl refl refl (at_state (λ v. ViewRow a v y.view) s x step.was row.view)
@@ -162,6 +164,10 @@ module _ (s : CacheState) (x y : SeatView) (n : CallCounts) (step : SmallStep s 
   pub small_unstored : {A : Type 0} (result : Result A Stopped) → OnErr result (Row one_draw x y) → OnErr result (KeepsOwn (heap_view s) (heap_view_of y.view y.marks n))
   small_unstored (Ok a) row = tt
   small_unstored (Err e) row = small_own row
+
+-- beside the table
+pub kept_with : {A B C : Type 0} → A → B × C → A × B × C
+kept_with a rest = (a, rest.0, rest.1)
 
 -- the facts that a state has, after a call
 pub between_then : (v w : View) → Drew v w → v.stopped ≡ None → IsBetweenCalls v → IsBetweenCalls w

@@ -5,7 +5,7 @@ use Rattle.heap_seat.specs.Looks.{IsMade as IsMadeHeap}
 use Rattle.heap_seat.specs.Tickets.{Stops as HeapStops}
 use Rattle.heap_seat.specs.Words.{IsOwn, KeepsOwn, KeepsPending}
 use Rattle.line_memory.specs.declared.memory.Stopped.{Stopped}
-use Rattle.core_model.specs.View.{LastLook, View}
+use Rattle.core_model.specs.View.{LastLook, Role, View, one_if_some, role}
 use Rattle.heap_table.specs.Plays.{HasSoundState}
 use Rattle.heap_rule.specs.Seated.{SeatView}
 use Rattle.seat_rows.specs.Costs.{Costs}
@@ -45,11 +45,15 @@ abbrev pub IsPaid : View → View → Type 0
 IsPaid v w = w.draws + most_draws * (traces v + length w.large) + 16 * v.losses + 16 * v.moves
     ≤ v.draws + light_draws + most_draws * (traces w + length v.large) + 16 * w.losses + 16 * w.moves
 
-pub paid_light : (a : Costs) (v w : View) → a.draws ≤ light_draws + a.credit → Passes a v w → traces v + length w.large ≤ traces w + length v.large → IsPaid v w
-paid_light a v w few passes left = let d = passes.most.draws in let l = passes.more.losses in omega arith
+-- of these no accept is one
+abbrev left_behind : View → ℕ
+left_behind v = v.cuts + v.gives + v.taken + one_if_some v.stopped
 
-pub paid_most : (a : Costs) (v w : View) → IsFew a → Passes a v w → traces v + length w.large + 1 ≤ traces w + length v.large → IsPaid v w
-paid_most a v w few passes left = let most = few.draws in let d = passes.most.draws in let l = passes.more.losses in omega arith
+pub paid_light : (a : Costs) (v w : View) → a.draws ≤ light_draws + a.credit → Passes a v w → left_behind v + length w.large ≤ left_behind w + length v.large → IsPaid v w
+paid_light a v w few passes left = let r = ap (λ (x : Role). x.accepts) passes.role_is in let d = passes.most.draws in let l = passes.more.losses in omega arith
+
+pub paid_most : (a : Costs) (v w : View) → IsFew a → Passes a v w → left_behind v + length w.large + 1 ≤ left_behind w + length v.large → IsPaid v w
+paid_most a v w few passes left = let r = ap (λ (x : Role). x.accepts) passes.role_is in let most = few.draws in let d = passes.most.draws in let l = passes.more.losses in omega arith
 
 -- a last look, for the core and for the heap
 look_law : (v w : View) (before now : LastLook) → IsKeptOrMade v w before now
@@ -74,21 +78,23 @@ module _ {a : Costs} (s : CacheState) (x y : SeatView) (n : CallCounts) (step : 
     };
   }
 
-  pub large_keeps : IsFew a → IsPaid x.view y.view → KeepsCosts s.view s.small_calls s.large_calls y.view n.small_calls n.large_calls
-  large_keeps few paid = record {
-    setup = passes.setup;
-    roots = passes.roots;
-    role_is = passes.role_is;
-    floor = passes.floor;
-    none_falls = passes.more;
-    small_rise = let e = step.small in omega arith;
-    large_rise = let e = step.large in omega arith;
-    draws = let e = step.small in let f = step.large in let l = passes.more.losses in let m = passes.more.moves in let d = passes.most.draws in let most = few.draws in omega arith;
-    wins = let f = step.large in let d = passes.most.wins in let m = passes.more.moves in let most = few.wins in omega arith;
-    gives = let f = step.large in let d = passes.most.gives in let most = few.gives in omega arith;
-    cuts = let f = step.large in let d = passes.most.cuts in let most = few.cuts in omega arith;
-    light = let e = step.small in let f = step.large in let p : IsPaid s.view y.view = at_state (λ v. IsPaid v y.view) s x step.was paid in omega arith;
-  }
+  pub large_keeps : IsFew a → IsPaid x.view y.view → KeepsCosts s.view s.small_calls s.large_calls y.view n.small_calls n.large_calls × (role y.view ≡ role s.view)
+  large_keeps few paid = (
+    record {
+      setup = passes.setup;
+      roots = passes.roots;
+      floor = passes.floor;
+      none_falls = passes.more;
+      small_rise = let e = step.small in omega arith;
+      large_rise = let e = step.large in omega arith;
+      draws = let e = step.small in let f = step.large in let l = passes.more.losses in let m = passes.more.moves in let d = passes.most.draws in let most = few.draws in omega arith;
+      wins = let f = step.large in let d = passes.most.wins in let m = passes.more.moves in let most = few.wins in omega arith;
+      gives = let f = step.large in let d = passes.most.gives in let most = few.gives in omega arith;
+      cuts = let f = step.large in let d = passes.most.cuts in let most = few.cuts in omega arith;
+      light = let e = step.small in let f = step.large in let p : IsPaid s.view y.view = at_state (λ v. IsPaid v y.view) s x step.was paid in omega arith;
+    },
+    passes.role_is,
+  )
 
   pub large_own : {b : Costs} → Row b x y → KeepsOwn (heap_view s) (heap_view_of y.view y.marks n)
   large_own {b} row = kept_at s y.view (heap_view_of y.view y.marks n) refl refl refl refl (at_state (λ v. ViewRow b v y.view) s x step.was row.view)

@@ -20,17 +20,16 @@ most_gives = 2 ^ 14
 abbrev pub light_draws : ℕ
 light_draws = 64
 
--- what calls that are not light leave behind: superblocks cut and taken, batches given, and a stop
+-- what pays for calls that are not light: superblocks cut and taken, batches given, blocks accepted, and a stop
 abbrev pub traces : View → ℕ
-traces v = v.cuts + v.gives + v.taken + one_if_some v.stopped
+traces v = v.cuts + v.gives + v.taken + v.accepts + one_if_some v.stopped
 
--- Between two views of a seat, with so many small and large calls by then, the setup and the owned roots stay, no block was offered or accepted, no count falls, and what is known of the durable
+-- Between two views of a seat, with so many small and large calls by then, the setup and the owned roots stay, no count falls, and what is known of the durable
 -- mark does not. A small call draws one ticket at most, and any other the most; it cuts one superblock at most. To that come 16 tickets for each lost exchange and
 -- each move, and 2 wins for each move. A large call draws as many tickets as a light one, with the most for each trace and for each large block that is held no more.
 pub record KeepsCosts (v : View) (small large : ℕ) (w : View) (smalls larges : ℕ) : Type 0 where
   pub setup : w.setup ≡ v.setup
   pub roots : w.roots ≡ v.roots
-  pub role_is : role w ≡ role v
   pub floor : v.floor ≤ w.floor
   pub none_falls : NoneFalls v w
   pub small_rise : small ≤ smalls
@@ -42,9 +41,12 @@ pub record KeepsCosts (v : View) (small large : ℕ) (w : View) (smalls larges :
   pub light : w.draws + small + light_draws * large + most_draws * (traces v + length w.large) + 16 * v.losses + 16 * v.moves
       ≤ v.draws + smalls + light_draws * larges + most_draws * (traces w + length v.large) + 16 * w.losses + 16 * w.moves
 
--- it is a seat of the same heap
+abbrev pub KeepsCounts : CacheState → CacheState → Type 0
+KeepsCounts s t = KeepsCosts s.view s.small_calls s.large_calls t.view t.small_calls t.large_calls
+
+-- it is a seat of the same heap, and no block was offered or accepted
 abbrev pub KeepsHeap : CacheState → CacheState → Type 0
-KeepsHeap s t = (t.table ≡ s.table) × KeepsCosts s.view s.small_calls s.large_calls t.view t.small_calls t.large_calls
+KeepsHeap s t = (t.table ≡ s.table) × KeepsCounts s t × (role t.view ≡ role s.view)
 
 -- and it has asked its chance for as many numbers as it drew tickets
 pub record KeepsSeat {C : Type 0} (gives : C → ℕ → C → Type 0) (s t : CacheValue C) : Type 0 where

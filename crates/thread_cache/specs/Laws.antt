@@ -8,7 +8,6 @@ costs_none : (s : CacheState) → KeepsCosts s.view s.small_calls s.large_calls 
 costs_none s = record {
   setup = refl;
   roots = refl;
-  role_is = refl;
   floor = omega arith;
   none_falls = record { draws = omega arith; wins = omega arith; losses = omega arith; gives = omega arith; moves = omega arith; cuts = omega arith; taken = omega arith };
   small_rise = omega arith;
@@ -25,7 +24,6 @@ costs_row : (s t u : CacheState) → KeepsCosts s.view s.small_calls s.large_cal
 costs_row s t u p q = record {
   setup = q.setup ∙ p.setup;
   roots = q.roots ∙ p.roots;
-  role_is = q.role_is ∙ p.role_is;
   floor = let x = p.floor in let y = q.floor in omega arith;
   none_falls = let a = p.none_falls in let b = q.none_falls in record {
     draws = let x = a.draws in let y = b.draws in omega arith;
@@ -46,10 +44,10 @@ costs_row s t u p q = record {
 }
 
 pub keeps_none_law : (s : CacheState) → KeepsHeap s s
-keeps_none_law s = (refl, costs_none s)
+keeps_none_law s = (refl, costs_none s, refl)
 
 pub keeps_row_law : (s t u : CacheState) → KeepsHeap s t → KeepsHeap t u → KeepsHeap s u
-keeps_row_law s t u p q = (q.0 ∙ p.0, costs_row s t u p.1 q.1)
+keeps_row_law s t u p q = (q.0 ∙ p.0, costs_row s t u p.1 q.1, q.2 ∙ p.2)
 
 pub seat_none_law : {C : Type 0} (gives : C → ℕ → C → Type 0) (s : CacheValue C) → KeepsSeat gives s s
 seat_none_law gives s = record { heap = keeps_none_law s.state; asked = asked_none s.state.view s.chance }

@@ -1,3 +1,4 @@
+pub mod Handing
 pub mod Keeps
 pub mod Laws
 pub mod Quiet

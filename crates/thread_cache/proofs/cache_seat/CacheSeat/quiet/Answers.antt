@@ -6,6 +6,7 @@ use Rattle.seat_rows.specs.Rows.{Passes}
 use Rattle.seat_view.specs.CacheState.{CacheState}
 use Rattle.thread_cache.proofs.CallLemmas.{asked_at, state_is}
 use Rattle.thread_cache.specs.Quiet.{as_large, had_stopped}
+use Rattle.thread_cache.proofs.CallLemmas.{kept_with}
 use Rattle.thread_cache.proofs.LargeLemmas.{large_counted, large_counts_then, large_keeps, large_own, large_pending, large_step}
 use Rattle.thread_cache.proofs.QuietLemmas.{quiet_between, quiet_few, quiet_later, quiet_paid}
 use Rattle.thread_cache.proofs.cache_seat.CacheSeat.quiet.Goals as goal
@@ -38,15 +39,13 @@ returns-clause-pending g c = large_pending c.args.self.now.state c.self.inside.s
 
 pub returns-clause-kept : goal.returns-clause-kept
 returns-clause-kept g c = record {
-  heap = (
-    c.flush_all-answer.ensures.seat.table ∙ sym c.self.inside.of.table ∙ ap (λ (s : CacheState). s.table) (state_is c.self.view_is),
-    large_keeps c.args.self.now.state c.self.inside.seat c.flush_all-answer.new.seat _ (large_step _ c.args.self.now.state (state_is c.self.view_is) c.self.inside.seat c.flush_all-answer.new.seat refl refl c.has_a_sound_state-2.ensures c.in_ok-check_running.ensures.ok) c.flush_all-answer.ensures.row.view.passes
-        (quiet_few c.self.inside.seat.view c.has_a_sound_state.ensures (c.self.inside.between (ap (λ (s : CacheState). s.view.stopped) (state_is c.self.view_is) ∙ c.in_ok-check_running.ensures.ok)).1)
-        (quiet_paid c.self.inside.seat.view c.flush_all-answer.new.seat.view c.flush_all-answer.result (ap (λ (s : CacheState). s.view.stopped) (state_is c.self.view_is) ∙ c.in_ok-check_running.ensures.ok)
-        (let some = ap (λ (s : CacheState). cached s.view) (state_is c.self.view_is) in let more = c.has_cached.ensures.yes c.if-not-has_cached.false in omega (some, more, arith))
-        (quiet_few c.self.inside.seat.view c.has_a_sound_state.ensures (c.self.inside.between (ap (λ (s : CacheState). s.view.stopped) (state_is c.self.view_is) ∙ c.in_ok-check_running.ensures.ok)).1)
-        c.flush_all-answer.ensures.row.view.passes c.flush_all-answer.ensures.row.view.large c.flush_all-answer.ensures.flushed c.flush_all-answer.ensures.stopped),
-  );
+  heap = kept_with (c.flush_all-answer.ensures.seat.table ∙ sym c.self.inside.of.table ∙ ap (λ (s : CacheState). s.table) (state_is c.self.view_is))
+      (large_keeps c.args.self.now.state c.self.inside.seat c.flush_all-answer.new.seat _ (large_step _ c.args.self.now.state (state_is c.self.view_is) c.self.inside.seat c.flush_all-answer.new.seat refl refl c.has_a_sound_state-2.ensures c.in_ok-check_running.ensures.ok) c.flush_all-answer.ensures.row.view.passes
+      (quiet_few c.self.inside.seat.view c.has_a_sound_state.ensures (c.self.inside.between (ap (λ (s : CacheState). s.view.stopped) (state_is c.self.view_is) ∙ c.in_ok-check_running.ensures.ok)).1)
+      (quiet_paid c.self.inside.seat.view c.flush_all-answer.new.seat.view c.flush_all-answer.result (ap (λ (s : CacheState). s.view.stopped) (state_is c.self.view_is) ∙ c.in_ok-check_running.ensures.ok)
+      (let some = ap (λ (s : CacheState). cached s.view) (state_is c.self.view_is) in let more = c.has_cached.ensures.yes c.if-not-has_cached.false in omega (some, more, arith))
+      (quiet_few c.self.inside.seat.view c.has_a_sound_state.ensures (c.self.inside.between (ap (λ (s : CacheState). s.view.stopped) (state_is c.self.view_is) ∙ c.in_ok-check_running.ensures.ok)).1)
+      c.flush_all-answer.ensures.row.view.passes c.flush_all-answer.ensures.row.view.large c.flush_all-answer.ensures.flushed c.flush_all-answer.ensures.stopped));
   asked = asked_at c.self.view_is c.flush_all-answer.ensures.asked;
 }
 

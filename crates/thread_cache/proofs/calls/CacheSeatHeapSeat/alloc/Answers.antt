@@ -1,7 +1,7 @@
 use Rattle.std.proofs.Common.{◌+◌, ap, arith, refl, sym, ◌∙◌}
 use Rattle.seat_view.specs.CacheState.{CacheState}
 use Rattle.thread_cache.proofs.AllocLemmas.{alloc_between, alloc_costs, alloc_none, alloc_ok, alloc_paid, alloc_room, full_cause, full_counts_then, full_step, request_few, stop_cause}
-use Rattle.thread_cache.proofs.CallLemmas.{asked_at, next_low, state_is}
+use Rattle.thread_cache.proofs.CallLemmas.{asked_at, kept_with, next_low, state_is}
 use Rattle.thread_cache.proofs.LargeLemmas.{large_counted, large_counts_then, large_keeps, large_refused, large_step}
 use Rattle.thread_cache.proofs.calls.CacheSeatHeapSeat.alloc.Goals as goal
 
@@ -56,11 +56,9 @@ returns-in-Some-clause-counted g c = large_counted c.args.self.now.state c.self.
 
 pub returns-in-Some-clause-kept : goal.returns-in-Some-clause-kept
 returns-in-Some-clause-kept g c = record {
-  heap = (
-    c.alloc-answer.ensures.seat.table ∙ sym c.self.inside.of.table ∙ ap (λ (s : CacheState). s.table) (state_is c.self.view_is),
-    large_keeps c.args.self.now.state c.self.inside.seat c.alloc-answer.new.seat _ (full_step _ c.args.self.now.state (state_is c.self.view_is) c.args.bytes c.in-Some.looks c.self.inside.seat c.alloc-answer.new.seat refl refl c.has_a_sound_state-2.ensures c.in_ok-check_running.ensures.ok) c.alloc-answer.ensures.row.passes (request_few c.args.bytes _)
-        (alloc_paid c.args.bytes _ c.self.inside.seat c.alloc-answer.new.seat (ap (λ (s : CacheState). s.view.stopped) (state_is c.self.view_is) ∙ c.in_ok-check_running.ensures.ok) c.alloc-answer.ensures.row.passes c.alloc-answer.result c.alloc-answer.ensures.answers c.alloc-answer.ensures.light c.alloc-answer.ensures.none),
-  );
+  heap = kept_with (c.alloc-answer.ensures.seat.table ∙ sym c.self.inside.of.table ∙ ap (λ (s : CacheState). s.table) (state_is c.self.view_is))
+      (large_keeps c.args.self.now.state c.self.inside.seat c.alloc-answer.new.seat _ (full_step _ c.args.self.now.state (state_is c.self.view_is) c.args.bytes c.in-Some.looks c.self.inside.seat c.alloc-answer.new.seat refl refl c.has_a_sound_state-2.ensures c.in_ok-check_running.ensures.ok) c.alloc-answer.ensures.row.passes (request_few c.args.bytes _)
+      (alloc_paid c.args.bytes _ c.self.inside.seat c.alloc-answer.new.seat (ap (λ (s : CacheState). s.view.stopped) (state_is c.self.view_is) ∙ c.in_ok-check_running.ensures.ok) c.alloc-answer.ensures.row.passes c.alloc-answer.result c.alloc-answer.ensures.answers c.alloc-answer.ensures.light c.alloc-answer.ensures.none));
   asked = asked_at c.self.view_is c.alloc-answer.ensures.asked;
 }
 
@@ -72,11 +70,9 @@ returns-in-None-clause-counted g c = large_counted c.args.self.now.state c.self.
 
 pub returns-in-None-clause-kept : goal.returns-in-None-clause-kept
 returns-in-None-clause-kept g c = record {
-  heap = (
-    c.alloc-answer.ensures.seat.table ∙ sym c.self.inside.of.table ∙ ap (λ (s : CacheState). s.table) (state_is c.self.view_is),
-    large_keeps c.args.self.now.state c.self.inside.seat c.alloc-answer.new.seat _ (large_step _ c.args.self.now.state (state_is c.self.view_is) c.self.inside.seat c.alloc-answer.new.seat refl refl c.has_a_sound_state-2.ensures c.in_ok-check_running.ensures.ok) c.alloc-answer.ensures.row.passes (request_few c.args.bytes _)
-        (alloc_paid c.args.bytes _ c.self.inside.seat c.alloc-answer.new.seat (ap (λ (s : CacheState). s.view.stopped) (state_is c.self.view_is) ∙ c.in_ok-check_running.ensures.ok) c.alloc-answer.ensures.row.passes c.alloc-answer.result c.alloc-answer.ensures.answers c.alloc-answer.ensures.light c.alloc-answer.ensures.none),
-  );
+  heap = kept_with (c.alloc-answer.ensures.seat.table ∙ sym c.self.inside.of.table ∙ ap (λ (s : CacheState). s.table) (state_is c.self.view_is))
+      (large_keeps c.args.self.now.state c.self.inside.seat c.alloc-answer.new.seat _ (large_step _ c.args.self.now.state (state_is c.self.view_is) c.self.inside.seat c.alloc-answer.new.seat refl refl c.has_a_sound_state-2.ensures c.in_ok-check_running.ensures.ok) c.alloc-answer.ensures.row.passes (request_few c.args.bytes _)
+      (alloc_paid c.args.bytes _ c.self.inside.seat c.alloc-answer.new.seat (ap (λ (s : CacheState). s.view.stopped) (state_is c.self.view_is) ∙ c.in_ok-check_running.ensures.ok) c.alloc-answer.ensures.row.passes c.alloc-answer.result c.alloc-answer.ensures.answers c.alloc-answer.ensures.light c.alloc-answer.ensures.none));
   asked = asked_at c.self.view_is c.alloc-answer.ensures.asked;
 }
 

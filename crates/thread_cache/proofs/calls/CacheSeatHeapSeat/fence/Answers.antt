@@ -1,6 +1,6 @@
 use Rattle.std.proofs.Common.{ap, refl, ◌∙◌, sym}
 use Rattle.seat_view.specs.CacheState.{CacheState}
-use Rattle.thread_cache.proofs.CallLemmas.{asked_at, between_then, counts_then, small_counted, small_fences, small_keeps, small_own, small_step, small_stops, state_is}
+use Rattle.thread_cache.proofs.CallLemmas.{asked_at, between_then, counts_then, kept_with, small_counted, small_fences, small_keeps, small_own, small_step, small_stops, state_is}
 use Rattle.thread_cache.proofs.calls.CacheSeatHeapSeat.fence.Goals as goal
 
 pub invariant_of-self-inside : goal.invariant_of-self-inside
@@ -24,7 +24,8 @@ returns-clause-counted g c = small_counted c.args.self.now.state c.self.inside.s
 
 pub returns-clause-kept : goal.returns-clause-kept
 returns-clause-kept g c = record {
-  heap = (c.fence-answer.ensures.seat.table ∙ sym c.self.inside.of.table ∙ ap (λ (s : CacheState). s.table) (state_is c.self.view_is), small_keeps c.args.self.now.state c.self.inside.seat c.fence-answer.new.seat _ (small_step _ c.args.self.now.state (state_is c.self.view_is) c.self.inside.seat c.fence-answer.new.seat refl refl c.has_a_sound_state-2.ensures c.in_ok-check_running.ensures.ok) c.fence-answer.ensures.row.view.passes c.fence-answer.ensures.row.view.large);
+  heap = kept_with (c.fence-answer.ensures.seat.table ∙ sym c.self.inside.of.table ∙ ap (λ (s : CacheState). s.table) (state_is c.self.view_is))
+      (small_keeps c.args.self.now.state c.self.inside.seat c.fence-answer.new.seat _ (small_step _ c.args.self.now.state (state_is c.self.view_is) c.self.inside.seat c.fence-answer.new.seat refl refl c.has_a_sound_state-2.ensures c.in_ok-check_running.ensures.ok) c.fence-answer.ensures.row.view.passes c.fence-answer.ensures.row.view.large);
   asked = asked_at c.self.view_is c.fence-answer.ensures.asked;
 }
 

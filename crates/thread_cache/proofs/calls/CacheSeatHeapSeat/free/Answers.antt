@@ -1,6 +1,6 @@
 use Rattle.std.proofs.Common.{ap, arith, refl, sym, ◌∙◌}
 use Rattle.seat_view.specs.CacheState.{CacheState}
-use Rattle.thread_cache.proofs.CallLemmas.{asked_at, next_low, state_is}
+use Rattle.thread_cache.proofs.CallLemmas.{asked_at, kept_with, next_low, state_is}
 use Rattle.thread_cache.proofs.FreeLemmas.{free_between, free_costs, free_few, free_ok, free_others, free_paid, free_put, held_block}
 use Rattle.thread_cache.proofs.LargeLemmas.{large_counted, large_counts_then, large_keeps, large_step, large_stops}
 use Rattle.thread_cache.proofs.calls.CacheSeatHeapSeat.free.Goals as goal
@@ -43,11 +43,9 @@ returns-clause-counted g c = large_counted c.args.self.now.state c.self.inside.s
 
 pub returns-clause-kept : goal.returns-clause-kept
 returns-clause-kept g c = record {
-  heap = (
-    c.free-answer.ensures.seat.table ∙ sym c.self.inside.of.table ∙ ap (λ (s : CacheState). s.table) (state_is c.self.view_is),
-    large_keeps c.args.self.now.state c.self.inside.seat c.free-answer.new.seat _ (large_step _ c.args.self.now.state (state_is c.self.view_is) c.self.inside.seat c.free-answer.new.seat refl refl c.has_a_sound_state-2.ensures c.in_ok-check_running.ensures.ok) c.free-answer.ensures.row.passes free_few
-        (free_paid c.args.b c.self.inside.seat c.free-answer.new.seat (ap (λ (s : CacheState). s.view.stopped) (state_is c.self.view_is) ∙ c.in_ok-check_running.ensures.ok) c.free-answer.ensures.row.passes c.free-answer.result c.free-answer.ensures.freed c.free-answer.ensures.may c.free-answer.ensures.stopped c.free-answer.ensures.light),
-  );
+  heap = kept_with (c.free-answer.ensures.seat.table ∙ sym c.self.inside.of.table ∙ ap (λ (s : CacheState). s.table) (state_is c.self.view_is))
+      (large_keeps c.args.self.now.state c.self.inside.seat c.free-answer.new.seat _ (large_step _ c.args.self.now.state (state_is c.self.view_is) c.self.inside.seat c.free-answer.new.seat refl refl c.has_a_sound_state-2.ensures c.in_ok-check_running.ensures.ok) c.free-answer.ensures.row.passes free_few
+      (free_paid c.args.b c.self.inside.seat c.free-answer.new.seat (ap (λ (s : CacheState). s.view.stopped) (state_is c.self.view_is) ∙ c.in_ok-check_running.ensures.ok) c.free-answer.ensures.row.passes c.free-answer.result c.free-answer.ensures.freed c.free-answer.ensures.may c.free-answer.ensures.stopped c.free-answer.ensures.light));
   asked = asked_at c.self.view_is c.free-answer.ensures.asked;
 }
 

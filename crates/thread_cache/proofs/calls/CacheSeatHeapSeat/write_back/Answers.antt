@@ -6,7 +6,7 @@ use Rattle.seat_rows.proofs.WordLemmas.{owns_held}
 use Rattle.seat_rows.specs.Words.{IsHeldWord}
 use Rattle.seat_view.specs.CacheState.{CacheState}
 use Rattle.seat_words.specs.Own.{HasMarkedLine}
-use Rattle.thread_cache.proofs.CallLemmas.{asked_at, between_then, counts_then, small_counted, small_keeps, small_own, small_step, small_stops, small_writes_back, spot_held, spot_low, state_is}
+use Rattle.thread_cache.proofs.CallLemmas.{asked_at, between_then, counts_then, kept_with, small_counted, small_keeps, small_own, small_step, small_stops, small_writes_back, spot_held, spot_low, state_is}
 use Rattle.thread_cache.proofs.calls.CacheSeatHeapSeat.write_back.Goals as goal
 
 pub word-word-requires : goal.word-word-requires
@@ -38,7 +38,8 @@ returns-clause-counted g c = small_counted c.args.self.now.state c.self.inside.s
 
 pub returns-clause-kept : goal.returns-clause-kept
 returns-clause-kept g c = record {
-  heap = (c.write_back-answer.ensures.seat.table ∙ sym c.self.inside.of.table ∙ ap (λ (s : CacheState). s.table) (state_is c.self.view_is), small_keeps c.args.self.now.state c.self.inside.seat c.write_back-answer.new.seat _ (small_step _ c.args.self.now.state (state_is c.self.view_is) c.self.inside.seat c.write_back-answer.new.seat refl refl c.has_a_sound_state-2.ensures c.in_ok-check_running.ensures.ok) c.write_back-answer.ensures.row.view.passes c.write_back-answer.ensures.row.view.large);
+  heap = kept_with (c.write_back-answer.ensures.seat.table ∙ sym c.self.inside.of.table ∙ ap (λ (s : CacheState). s.table) (state_is c.self.view_is))
+      (small_keeps c.args.self.now.state c.self.inside.seat c.write_back-answer.new.seat _ (small_step _ c.args.self.now.state (state_is c.self.view_is) c.self.inside.seat c.write_back-answer.new.seat refl refl c.has_a_sound_state-2.ensures c.in_ok-check_running.ensures.ok) c.write_back-answer.ensures.row.view.passes c.write_back-answer.ensures.row.view.large);
   asked = asked_at c.self.view_is c.write_back-answer.ensures.asked;
 }
 
