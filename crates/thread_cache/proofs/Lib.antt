@@ -4,3 +4,4 @@ pub mod QuietLemmas
 pub mod AllocLemmas
 pub mod FreeLemmas
 pub mod HandedLemmas
+pub mod HandedWords

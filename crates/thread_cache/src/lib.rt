@@ -5,6 +5,8 @@
 mod cache_seat;
 mod calls;
 mod handing;
+mod laws;
 mod quiet;
 
 pub use cache_seat::CacheSeat;
+pub use laws::a_block_comes_as_it_went;
