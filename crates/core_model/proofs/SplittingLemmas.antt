@@ -36,7 +36,7 @@ chosen_less test n (x ∷ xs) = by_test (test x) (chosen_less test n xs) where
   by_test true rest = omega arith
   by_test false rest = omega arith
 
-lists_both : (test : ℕ → Bool) (n : ℕ) (xss : List (List ℕ)) → total (times n) (chosen_lists (λ x. not (test x)) xss) + total (times n) (chosen_lists test xss) ≡ total (times n) xss
+pub lists_both : (test : ℕ → Bool) (n : ℕ) (xss : List (List ℕ)) → total (times n) (chosen_lists (λ x. not (test x)) xss) + total (times n) (chosen_lists test xss) ≡ total (times n) xss
 lists_both test n [] = refl
 lists_both test n (xs ∷ xss) = let here = chosen_both test n xs in let rest = lists_both test n xss in omega arith
 
@@ -49,7 +49,7 @@ length_lists : (test : ℕ → Bool) (xss : List (List ℕ)) → length (chosen_
 length_lists test [] = refl
 length_lists test (xs ∷ xss) = ap suc (length_lists test xss)
 
-spans_both : (test : ℕ → Bool) (d : ℕ) (spans : List Span) → times_large d (chosen_spans (λ x. not (test x)) spans) + times_large d (chosen_spans test spans) ≡ times_large d spans
+pub spans_both : (test : ℕ → Bool) (d : ℕ) (spans : List Span) → times_large d (chosen_spans (λ x. not (test x)) spans) + times_large d (chosen_spans test spans) ≡ times_large d spans
 spans_both test d [] = refl
 spans_both test d (span ∷ spans) = by_test (test span.first) (spans_both test d spans) where
   by_test : (t : Bool) → times_large d (chosen_spans (λ y. not (test y)) spans) + times_large d (chosen_spans test spans) ≡ times_large d spans

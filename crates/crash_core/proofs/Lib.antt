@@ -29,3 +29,6 @@ pub mod EventSteps
 pub mod RunSteps
 pub mod OpenedBlocks
 pub mod OpenedCore
+pub mod ChosenLemmas
+pub mod HandSteps
+pub mod OfferSteps

@@ -1,13 +1,13 @@
 -- What is kept of a heap at rest, as it is opened for some seats.
-use Rattle.std.proofs.Common.{◌≡◌, ◌≢◌, ℕ, ◌+◌, ◌<◌, ◌≤◌, nat_eq, List, [], ◌∷◌, ◌++◌, Contains, get_or, length, replicate, slice_index, refl, ap, sym, subst, ◌∙◌, arith}
+use Rattle.std.proofs.Common.{◌≡◌, ◌≢◌, ℕ, zero, suc, ◌+◌, ◌<◌, ◌≤◌, nat_eq, List, [], ◌∷◌, ◌++◌, Contains, get_or, length, replicate, slice_index, refl, ap, sym, subst, ◌∙◌, arith}
 use Rattle.std.proofs.lemmas.List.{get_or-replicate, length-replicate}
 use Rattle.heap_model.specs.declared.block.Block.{Block}
 use Rattle.heap_model.specs.Geometry.{roots, capacity_word}
-use Rattle.heap_model.specs.Counting.{one_if}
+use Rattle.heap_model.specs.Counting.{one_if, total}
 use Rattle.heap_model.specs.Rest.{IsReady}
-use Rattle.core_model.specs.Opening.{AreOwners, picked, plain_view, setup_of, opened_view, opened_state}
+use Rattle.core_model.specs.Opening.{AreOwners, picked, plain_view, tabulate, setup_of, opened_view, opened_state}
 use Rattle.core_model.specs.Effects.{steps, trimmed}
-use Rattle.core_model.specs.View.{Setup, View}
+use Rattle.core_model.specs.View.{Setup, View, one_if_some}
 use Rattle.core_model.proofs.OpenedSeats.{seats_counted}
 use Rattle.core_model.proofs.PlaceLemmas.{not-eq, skip}
 use Rattle.heap_model.proofs.MemberLemmas.{in_head, in_rest}
@@ -62,10 +62,12 @@ stands c words held budget seats block_owners root_owners is ready owners few lo
   };
   order = record {
     counted = seats_counted k V (λ i. refl) 0 seats;
+    few = few;
     all = (let l = length_tabulate V 0 seats in omega arith);
     first = λ i v less at. ap (λ (x : View). x.carries) (sym (sym (tabulate_at V 0 seats i v less) ∙ at));
     behind = λ j u past below at. absurd (let l = length_tabulate V 0 seats in omega (arith, l, past, below));
   };
+  made = (let l = length_tabulate V 0 seats in let z = no_tickets 0 seats in omega arith);
 } where
   k : Setup
   k = setup_of words budget seats
@@ -101,3 +103,7 @@ stands c words held budget seats block_owners root_owners is ready owners few lo
         superblocks = h.superblocks;
         roots = h.roots;
       }
+
+  no_tickets : (i n : ℕ) → total (λ (v : View). one_if_some v.ticket) (tabulate V i n) ≡ 0
+  no_tickets i zero = refl
+  no_tickets i (suc n) = let rest = no_tickets (i + 1) n in omega arith

@@ -19,7 +19,7 @@ use Rattle.core_model.specs.Carriers.{AreSeatsAndCarriers, IsCarrier, IsEmptied}
 use Rattle.core_model.specs.Handing.{AcceptsTo, OffersTo}
 use Rattle.core_model.specs.Held.{IsHeld}
 use Rattle.core_model.specs.Opening.{plain_view}
-use Rattle.core_model.specs.View.{Setup, View, times_block, times_classed, times_large, times_raw}
+use Rattle.core_model.specs.View.{Setup, View, one_if_some, times_block, times_classed, times_large, times_raw}
 use Rattle.core_model.specs.Guards.{IsThere, HasTicketFor, MayDo}
 use Rattle.core_model.specs.Sound.{Sound}
 use Rattle.core_model.specs.Steps.{TableState, StepsTo, Runs, state_after, seat_after}
@@ -118,6 +118,7 @@ pub record IsLaden (u : View) : Type 0 where
 -- the seats come first, and behind them each carrier, with its block or with nothing
 pub record AreInOrder (k : Setup) (views : List View) : Type 0 where
   pub counted : AreSeatsAndCarriers k views
+  pub few : k.seats ≤ 8
   pub all : k.seats ≤ length views
   pub first : (i : ℕ) (v : View) → i < k.seats → get_or views i v ≡ v → v.carries ≡ 0
   pub behind : (j : ℕ) (u : View) → k.seats ≤ j → j < length views → get_or views j u ≡ u → IsLaden u ⊎ IsEmptied u
@@ -127,6 +128,8 @@ pub record StandsFor (c : CoreState) (k : Setup) (s : TableState) : Type 0 where
   pub words : c.words.items ≡ s.words
   pub keeps : KeepsViews c k s.views
   pub order : AreInOrder k s.views
+  -- each carrier took a ticket
+  pub made : length s.views + total (λ (v : View). one_if_some v.ticket) s.views ≤ k.seats + (memory_of k.capacity s.words).drawn
 
 -- the blocks of a list have another owner, and all others stay
 pub record HasNewOwner (old new : List BlockOwner) (blocks : List ℕ) (owner : BlockOwner) : Type 0 where
