@@ -32,3 +32,4 @@ pub mod OpenedCore
 pub mod ChosenLemmas
 pub mod HandSteps
 pub mod OfferSteps
+pub mod LargeOffers

@@ -31,7 +31,7 @@ use Rattle.seat_notes.proofs.RangeLemmas.{range_mine, range_theirs}
 use Rattle.seat_notes.proofs.WordLemmas.{entry_there}
 use Rattle.seat_notes.proofs.CountLemmas.{no_span}
 
-large_only : (x : SuperblockUsage) → 0 < large_in x → (raw_in x ≡ 0) × (split_in x ≡ 0) × (cutting_in x ≡ 0) × (classed_in x ≡ 0) × (class_in x ≡ 0) × (large_in x ≡ 1)
+pub large_only : (x : SuperblockUsage) → 0 < large_in x → (raw_in x ≡ 0) × (split_in x ≡ 0) × (cutting_in x ≡ 0) × (classed_in x ≡ 0) × (class_in x ≡ 0) × (large_in x ≡ 1)
 large_only usage.Nothing some = absurd (omega arith)
 large_only usage.Raw some = absurd (omega arith)
 large_only usage.Split some = absurd (omega arith)
@@ -84,7 +84,7 @@ module _ (c : CoreState) (k : Setup) (views : List View) (i : ℕ) (v : View) (t
     some : 0 < n
     some = subst (λ m. 0 < span_count m v.large) d_v may.held
 
-    covered : (e : ℕ) → d ≤ e → e < d + n → 0 < large_in (usage_for i (get_or c.superblocks.items e no_superblock))
+    pub covered : (e : ℕ) → d ≤ e → e < d + n → 0 < large_in (usage_for i (get_or c.superblocks.items e no_superblock))
     covered e low high = let o = (kept.superblocks e).is_large in let h = span_covers d e v.large some low high in omega arith
 
     large_low : (e : ℕ) → d ≤ e → e < d + n → e < k.capacity
