@@ -167,18 +167,29 @@ module _ (c : CoreState) (k : Setup) (s : TableState) (i : ℕ) (v : View) (t : 
 
     pub large_offer : StandsFor c' k (after_offer s i v x)
     large_offer = offer_stands c c' k s i v t x stands at at_t large_may handed
-      (record {
-        blocks = subst (λ os. HasBlocksOf os i (chosen_lists (λ e. not (nat_eq e x)) v.small) v.caches v.batch.blocks) (sym same)
-            (λ e. let o = kept.blocks e in let l = lists_both (λ f. nat_eq f x) e v.small in let z = blocks_go e in record { held = (let h = o.held in omega arith); cached = o.cached; batched = o.batched });
-        superblocks = after (λ os. HasSuperblocks os i v.raw v.split v.cutting v.classed (chosen_spans (λ f. not (nat_eq f d)) v.large)) mine;
-      })
-      (record {
-        blocks = subst (λ os. HasBlocksOf os j (chosen_lists (λ e. nat_eq e x) v.small) (nobody k).caches []) (sym same)
-            (λ e. let o = (keeps.none j (omega arith)).blocks e in record { held = blocks_go e ∙ o.held; cached = o.cached; batched = o.batched });
-        superblocks = after (λ os. HasSuperblocks os j [] [] [] [] (chosen_spans (λ f. nat_eq f d) v.large)) (subst (HasSuperblocks (set rest d (record { seat = j; usage = usage.Large n })) j [] [] [] []) (sym chosen_is) new);
-      })
-      laden
-      (λ e u other old h. record {
-        blocks = subst (λ os. HasBlocksOf os e u.small u.caches u.batch.blocks) (sym same) h.blocks;
-        superblocks = after (λ os. HasSuperblocks os e u.raw u.split u.cutting u.classed u.large) (theirs e u other old h);
-      })
+        (record {
+          blocks = subst (λ os. HasBlocksOf os i (chosen_lists (λ e. not (nat_eq e x)) v.small) v.caches v.batch.blocks) (sym same)
+              (λ e. let o = kept.blocks e in let l = lists_both (λ f. nat_eq f x) e v.small in let z = blocks_go e in record { held = (let h = o.held in omega arith); cached = o.cached; batched = o.batched });
+          superblocks = after (λ os. HasSuperblocks os i v.raw v.split v.cutting v.classed (chosen_spans (λ f. not (nat_eq f d)) v.large)) mine;
+        })
+        (record {
+          blocks = subst (λ os. HasBlocksOf os j (chosen_lists (λ e. nat_eq e x) v.small) (nobody k).caches []) (sym same)
+              (λ e. let o = (keeps.none j (omega arith)).blocks e in record { held = blocks_go e ∙ o.held; cached = o.cached; batched = o.batched });
+          superblocks = after (λ os. HasSuperblocks os j [] [] [] [] (chosen_spans (λ f. nat_eq f d) v.large)) (subst (HasSuperblocks (set rest d (record { seat = j; usage = usage.Large n })) j [] [] [] []) (sym chosen_is) new);
+        })
+        laden
+        (λ e u other old h. record {
+          blocks = subst (λ os. HasBlocksOf os e u.small u.caches u.batch.blocks) (sym same) h.blocks;
+          superblocks = after (λ os. HasSuperblocks os e u.raw u.split u.cutting u.classed u.large) (theirs e u other old h);
+        })
+
+-- the same, with the numbers as they are found
+pub large_at : (c : CoreState) (k : Setup) (s : TableState) (i : ℕ) (v : View) (t : SeatNotes) (x : ℕ) (stands : StandsFor c k s) (at : get_or s.views i v ≡ v) (at_t : IsSeatAt c i t) (hand : MayHand v)
+    (may : MaySplit v x) (no_small : total (times x) v.small ≡ 0) (c' : CoreState) (handed : IsHanded c c' i t) (same : c'.blocks.items ≡ c.blocks.items) (rest : List SuperblockOwner) (d' n' j' : ℕ)
+    → d' ≡ superblock_at v.setup.capacity x → n' ≡ span_count (superblock_at v.setup.capacity x) v.large → j' ≡ length s.views
+    → IsRange c.superblocks.items rest d' n' (record { seat = j'; usage = usage.Large 0 }) → c'.superblocks.items ≡ set rest d' (record { seat = j'; usage = usage.Large n' }) → d' < length rest → StandsFor c' k (after_offer s i v x)
+large_at c k s i v t x stands at at_t hand may no_small c' handed same rest d' n' j' d_is n_is j_is range first long =
+    large_offer c k s i v t x stands at at_t hand may no_small c' handed same rest
+    (subst (λ (p : ℕ × (ℕ × ℕ)). IsRange c.superblocks.items rest p.0 p.1.0 (record { seat = p.1.1; usage = usage.Large 0 })) (λ h. (d_is h, (n_is h, j_is h))) range)
+    (subst (λ (p : ℕ × (ℕ × ℕ)). c'.superblocks.items ≡ set rest p.0 (record { seat = p.1.1; usage = usage.Large p.1.0 })) (λ h. (d_is h, (n_is h, j_is h))) first)
+    (subst (λ m. m < length rest) d_is long)

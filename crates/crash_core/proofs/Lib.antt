@@ -33,3 +33,4 @@ pub mod ChosenLemmas
 pub mod HandSteps
 pub mod OfferSteps
 pub mod LargeOffers
+pub mod OfferDecision

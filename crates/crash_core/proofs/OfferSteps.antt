@@ -102,40 +102,40 @@ module _ (c : CoreState) (k : Setup) (s : TableState) (i : ℕ) (v : View) (t : 
   module _ (c' : CoreState) (handed : IsHanded c c' i t) (blocks_are : c'.blocks.items ≡ set c.blocks.items x (record { seat = j; place = place.Held })) (same : c'.superblocks.items ≡ c.superblocks.items) where
     pub small_offer : StandsFor c' k (after_offer s i v x)
     small_offer = offer_stands c c' k s i v t x stands at at_t small_may handed
-      (record {
-        blocks = subst (λ os. HasBlocksOf os i (chosen_lists (λ e. not (nat_eq e x)) v.small) v.caches v.batch.blocks) (sym blocks_are) mine;
-        superblocks = λ e. subst (λ os. IsUsage e (usage_for i (get_or os e no_superblock)) v.raw v.split v.cutting v.classed (chosen_spans (λ f. not (nat_eq f d)) v.large)) (sym same)
-            (subst (λ l. IsUsage e (usage_for i (get_or c.superblocks.items e no_superblock)) v.raw v.split v.cutting v.classed l) (sym spans.1) (kept.superblocks e));
-      })
-      (record {
-        blocks = subst (λ os. HasBlocksOf os j (chosen_lists (λ e. nat_eq e x) v.small) (nobody k).caches []) (sym blocks_are) new;
-        superblocks = λ e. subst (λ os. IsUsage e (usage_for j (get_or os e no_superblock)) [] [] [] [] (chosen_spans (λ f. nat_eq f d) v.large)) (sym same)
-            (subst (λ l. IsUsage e (usage_for j (get_or c.superblocks.items e no_superblock)) [] [] [] [] l) (sym spans.0) ((keeps.none j (omega arith)).superblocks e));
-      })
-      laden
-      (λ e u other old h. record {
-        blocks = subst (λ os. HasBlocksOf os e u.small u.caches u.batch.blocks) (sym blocks_are)
-            (places_theirs c.blocks.items j e x place.Held (λ b p. IsPlace b p u.small u.caches u.batch.blocks) there old (theirs e other) h.blocks);
-        superblocks = λ b. subst (λ os. IsUsage b (usage_for e (get_or os b no_superblock)) u.raw u.split u.cutting u.classed u.large) (sym same) (h.superblocks b);
-      }) where
-        new : HasBlocksOf (set c.blocks.items x (record { seat = j; place = place.Held })) j (chosen_lists (λ e. nat_eq e x) v.small) (nobody k).caches []
-        new = places_mine c.blocks.items j x place.Held (λ b p. IsPlace b p (chosen_lists (λ e. nat_eq e x) v.small) (nobody k).caches []) there
-            (let none = (keeps.none j (omega arith)).blocks x in record { held = lists_go x v.small ∙ one_there; cached = refl; batched = refl })
-            (λ e other. let none = (keeps.none j (omega arith)).blocks e in record { held = lists_stay x e other v.small ∙ none.held; cached = none.cached; batched = none.batched })
+        (record {
+          blocks = subst (λ os. HasBlocksOf os i (chosen_lists (λ e. not (nat_eq e x)) v.small) v.caches v.batch.blocks) (sym blocks_are) mine;
+          superblocks = λ e. subst (λ os. IsUsage e (usage_for i (get_or os e no_superblock)) v.raw v.split v.cutting v.classed (chosen_spans (λ f. not (nat_eq f d)) v.large)) (sym same)
+              (subst (λ l. IsUsage e (usage_for i (get_or c.superblocks.items e no_superblock)) v.raw v.split v.cutting v.classed l) (sym spans.1) (kept.superblocks e));
+        })
+        (record {
+          blocks = subst (λ os. HasBlocksOf os j (chosen_lists (λ e. nat_eq e x) v.small) (nobody k).caches []) (sym blocks_are) new;
+          superblocks = λ e. subst (λ os. IsUsage e (usage_for j (get_or os e no_superblock)) [] [] [] [] (chosen_spans (λ f. nat_eq f d) v.large)) (sym same)
+              (subst (λ l. IsUsage e (usage_for j (get_or c.superblocks.items e no_superblock)) [] [] [] [] l) (sym spans.0) ((keeps.none j (omega arith)).superblocks e));
+        })
+        laden
+        (λ e u other old h. record {
+          blocks = subst (λ os. HasBlocksOf os e u.small u.caches u.batch.blocks) (sym blocks_are)
+              (places_theirs c.blocks.items j e x place.Held (λ b p. IsPlace b p u.small u.caches u.batch.blocks) there old (theirs e other) h.blocks);
+          superblocks = λ b. subst (λ os. IsUsage b (usage_for e (get_or os b no_superblock)) u.raw u.split u.cutting u.classed u.large) (sym same) (h.superblocks b);
+        }) where
+          new : HasBlocksOf (set c.blocks.items x (record { seat = j; place = place.Held })) j (chosen_lists (λ e. nat_eq e x) v.small) (nobody k).caches []
+          new = places_mine c.blocks.items j x place.Held (λ b p. IsPlace b p (chosen_lists (λ e. nat_eq e x) v.small) (nobody k).caches []) there
+              (let none = (keeps.none j (omega arith)).blocks x in record { held = lists_go x v.small ∙ one_there; cached = refl; batched = refl })
+              (λ e other. let none = (keeps.none j (omega arith)).blocks e in record { held = lists_stay x e other v.small ∙ none.held; cached = none.cached; batched = none.batched })
 
-        left : (e : ℕ) → total (times e) (chosen_lists (λ f. not (nat_eq f x)) v.small) + total (times e) (chosen_lists (λ f. nat_eq f x) v.small) ≡ total (times e) v.small
-        left e = lists_both (λ f. nat_eq f x) e v.small
+          left : (e : ℕ) → total (times e) (chosen_lists (λ f. not (nat_eq f x)) v.small) + total (times e) (chosen_lists (λ f. nat_eq f x) v.small) ≡ total (times e) v.small
+          left e = lists_both (λ f. nat_eq f x) e v.small
 
-        mine : HasBlocksOf (set c.blocks.items x (record { seat = j; place = place.Held })) i (chosen_lists (λ e. not (nat_eq e x)) v.small) v.caches v.batch.blocks
-        mine e = elim (cases_eq e x) [
-          | inl here ↦ subst (λ n. IsPlace n (place_for i (get_or (set c.blocks.items x (record { seat = j; place = place.Held })) n no_block)) (chosen_lists (λ f. not (nat_eq f x)) v.small) v.caches v.batch.blocks) (sym here)
-              (subst (λ p. IsPlace x p (chosen_lists (λ f. not (nat_eq f x)) v.small) v.caches v.batch.blocks)
-              (sym (ap (place_for i) (get_or-set_same c.blocks.items x (record { seat = j; place = place.Held }) no_block there) ∙ place_theirs j i place.Held (λ h. apart (sym h))))
-              (let o = kept.blocks x in let l = left x in let g = lists_go x v.small in let h = held in record {
-                held = (let one = one_there in omega arith);
-                cached = o.cached ∙ ap cached_in held;
-                batched = o.batched ∙ ap batched_in held;
-              }))
-          | inr other ↦ subst (λ o. IsPlace e (place_for i o) (chosen_lists (λ f. not (nat_eq f x)) v.small) v.caches v.batch.blocks) (sym (get_or-set_other c.blocks.items x e (record { seat = j; place = place.Held }) no_block other))
-              (let o = kept.blocks e in let l = left e in let g = lists_stay x e other v.small in record { held = (let h = o.held in omega arith); cached = o.cached; batched = o.batched })
-        ]
+          mine : HasBlocksOf (set c.blocks.items x (record { seat = j; place = place.Held })) i (chosen_lists (λ e. not (nat_eq e x)) v.small) v.caches v.batch.blocks
+          mine e = elim (cases_eq e x) [
+            | inl here ↦ subst (λ n. IsPlace n (place_for i (get_or (set c.blocks.items x (record { seat = j; place = place.Held })) n no_block)) (chosen_lists (λ f. not (nat_eq f x)) v.small) v.caches v.batch.blocks) (sym here)
+                (subst (λ p. IsPlace x p (chosen_lists (λ f. not (nat_eq f x)) v.small) v.caches v.batch.blocks)
+                (sym (ap (place_for i) (get_or-set_same c.blocks.items x (record { seat = j; place = place.Held }) no_block there) ∙ place_theirs j i place.Held (λ h. apart (sym h))))
+                (let o = kept.blocks x in let l = left x in let g = lists_go x v.small in let h = held in record {
+                  held = (let one = one_there in omega arith);
+                  cached = o.cached ∙ ap cached_in held;
+                  batched = o.batched ∙ ap batched_in held;
+                }))
+            | inr other ↦ subst (λ o. IsPlace e (place_for i o) (chosen_lists (λ f. not (nat_eq f x)) v.small) v.caches v.batch.blocks) (sym (get_or-set_other c.blocks.items x e (record { seat = j; place = place.Held }) no_block other))
+                (let o = kept.blocks e in let l = left e in let g = lists_stay x e other v.small in record { held = (let h = o.held in omega arith); cached = o.cached; batched = o.batched })
+          ]

@@ -197,6 +197,10 @@ abbrev pub RunsOn : CoreState → List (ℕ × Event) → List StepAnswer → Co
 RunsOn old events answers new = (k : Setup) (s : TableState) → StandsFor old k s
     → (next : TableState) × Runs k s events answers next × StandsFor new k next
 
+-- the seat goes on, and has a ticket in hand
+abbrev pub MayHandAt : CoreState → ℕ → Type 0
+MayHandAt c i = (t : SeatNotes) → IsSeatAt c i t → (t.stopped ≡ None) × IsThere t.ticket
+
 -- of each state that the core stands for, a seat's parts have become those of another view; no word changed, nor its tickets
 pub record IsMoved (old new : CoreState) (views : List View) (i : ℕ) (t : SeatNotes) (w : View) : Type 0 where
   pub after : SeatNotes

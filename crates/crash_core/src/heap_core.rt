@@ -10,9 +10,10 @@ ghost use Rattle.core_model.specs.Opening.{AreOwners, setup_of, opened_state};
 ghost use Rattle.core_model.specs.Steps.{TableState};
 ghost use Rattle.core_model.specs.View.{Setup};
 ghost use Rattle.crash_image.specs.Crash.{GivesAll, transient_words};
-ghost use Rattle.crash_core.specs.Standing.{StandsFor, Follows, RunsOn};
+ghost use Rattle.crash_core.specs.Standing.{StandsFor, Follows, Offers, RunsOn};
 
 use crate::crash::durable_words;
+use crate::handing::offer;
 use crate::opened::opened_core;
 use crate::runs::run;
 use crate::state::CoreState;
@@ -85,6 +86,20 @@ impl Core {
     {
         self.spare -= 1;
         step(&mut self.state, seat, event)
+    }
+
+    /// Offers the held block that begins at a word to a new carrier, if the seat may do so now: it has
+    /// a ticket in hand, and holds such a block. The carriers are numbered in the order in which they
+    /// were made, from the number of seats on.
+    pub fn offer(&mut self, seat: usize, block: u64) -> StepAnswer
+        requires seat { seat < length self.old.state.seats.items }
+        requires spare { 1 ≤ self.old.spare }
+        ensures follows { Offers self.old.state seat block result self.new.state }
+        ensures seats { length self.new.state.seats.items ≡ length self.old.state.seats.items }
+        ensures spare { self.new.spare + 1 ≡ self.old.spare }
+    {
+        self.spare -= 1;
+        offer(&mut self.state, seat, block)
     }
 
     /// Tries the events in their order, and gives the answer of each. Where memory runs out, none

@@ -7,6 +7,7 @@ mod chains;
 mod crash;
 mod cuts;
 mod fresh;
+mod handing;
 mod heap_core;
 mod laws;
 mod lists;
