@@ -19,6 +19,8 @@ mod fixtures;
 #[cfg(test)]
 mod guards;
 #[cfg(test)]
+mod offers;
+#[cfg(test)]
 mod own_words;
 #[cfg(test)]
 mod pieces;
