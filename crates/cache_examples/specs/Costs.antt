@@ -12,9 +12,12 @@ use Rattle.cache_examples.specs.Seats.{before, later}
 pub the_most : most_draws ∷ most_wins ∷ most_gives ∷ light_draws ∷ [] ≡ 131072 ∷ 32768 ∷ 16384 ∷ 64 ∷ []
 the_most = refl
 
--- what calls that are not light leave behind: a cut, two gives, a superblock taken and a stop
+-- what calls that are not light leave behind: a cut, two gives, a superblock taken and a stop; and an accept, which may bring a large block
 pub five_traces : traces (record before { cuts = 1; gives = 2; taken = 1; stopped = Some 9 }) ≡ 5
 five_traces = refl
+
+pub accepted_trace : traces (record before { accepts = 1 }) ≡ 1
+accepted_trace = refl
 
 pub no_trace : traces (record before { draws = 9; wins = 3; losses = 2; moves = 1 }) ≡ 0
 no_trace = refl
@@ -32,7 +35,6 @@ pub keeps : (draws wins gives losses moves cuts smalls larges : ℕ)
 keeps draws wins gives losses moves cuts smalls larges few few_light few_wins few_gives few_cuts = record {
   setup = refl;
   roots = refl;
-  role_is = refl;
   floor = omega arith;
   none_falls = record { draws = omega arith; wins = omega arith; losses = omega arith; gives = omega arith; moves = omega arith; cuts = omega arith; taken = omega arith };
   small_rise = omega arith;
@@ -101,15 +103,12 @@ one_call_less k = let rise : 1 ≤ 0 = k.small_rise in omega (arith, rise)
 pub one_large_call_less : KeepsCosts before 0 1 before 0 0 → ⊥
 one_large_call_less k = let rise : 1 ≤ 0 = k.large_rise in omega (arith, rise)
 
--- setup, roots, carriers, the durable mark and the counts stay or rise
+-- setup, roots, the durable mark and the counts stay or rise
 pub another_budget : Keeps (record (later 1 0 0 before) { setup = record before.setup { budget = 1001 } }) 1 0 → ⊥
 another_budget k = let e : 1001 ≡ 1000 = ap (λ (setup : Setup). setup.budget) k.setup in omega (arith, e)
 
 pub another_root : Keeps (record (later 1 0 0 before) { roots = 5 ∷ [] }) 1 0 → ⊥
 another_root k = let e : 1 ≡ 0 = ap length k.roots in omega (arith, e)
-
-pub one_offered : Keeps (record (later 1 0 0 before) { offers = 1 }) 1 0 → ⊥
-one_offered k = let e : 1 ≡ 0 = ap (λ (r : Role). r.offers) k.role_is in omega (arith, e)
 
 pub mark_falls : Keeps (record (later 1 0 0 before) { floor = 0 }) 1 0 → ⊥
 mark_falls k = let less : 1 ≤ 0 = k.floor in omega (arith, less)
@@ -144,6 +143,14 @@ of_another_seat seat s view other new = let e : 4 ≡ 5 = ap (λ (v : View). v.d
 -- what a call keeps is of one heap
 pub keeps_the_table : (s t : CacheState) → KeepsHeap s t → t.table ≡ s.table
 keeps_the_table s t k = k.0
+
+-- no call of the trait offers a block
+pub one_offered : (s t : CacheState) → s.view ≡ before → t.view ≡ record (later 1 0 0 before) { offers = 1 } → KeepsHeap s t → ⊥
+one_offered s t was is k =
+    let none : s.view.offers ≡ 0 = ap (λ (v : View). v.offers) was in
+    let one : t.view.offers ≡ 1 = ap (λ (v : View). v.offers) is in
+    let same : t.view.offers ≡ s.view.offers = ap (λ (r : Role). r.offers) k.2 in
+    omega (arith, none, one, same)
 
 -- and costs what its views and counts say
 pub costs_of_the_views : (s t : CacheState) → s.view ≡ before → t.view ≡ later 65 2 0 before → t.small_calls ≡ s.small_calls → t.large_calls ≡ s.large_calls + 1 → KeepsHeap s t → ⊥

@@ -37,7 +37,7 @@ part_keeps image workers requests worker replies stopped s t part =
 pub part_role : (shared : SharedView) (requests : List Request) (workers worker : ℕ) (seat : SeatView) (replies : Replies) (stopped : Bool)
     → IsPartOf shared requests workers worker seat replies stopped → role seat.view ≡ no_role
 part_role shared requests workers worker seat replies stopped part =
-    ap role (sym part.last_is) ∙ (part_keeps _ workers requests worker replies stopped part.first part.last part.part).1.role_is ∙ ap role part.fresh.view_is
+    ap role (sym part.last_is) ∙ (part_keeps _ workers requests worker replies stopped part.first part.last part.part).2 ∙ ap role part.fresh.view_is
 
 -- each worker's seat is one of the heap, there are as many as it was opened for, and no carrier is left
 pub parts_back : (shared : SharedView) (requests : List Request) (workers : ℕ) (seats : List SeatView) (told : List Queue) (stopped : Bool) → AreParts shared requests workers seats told stopped

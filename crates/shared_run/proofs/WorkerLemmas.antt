@@ -30,7 +30,7 @@ module _ {words : List ℕ} {held : List Block} {workers budget : ℕ} {requests
 
   -- no worker's seat is a carrier
   pub is_seat : (worker : ℕ) → worker < workers → (h.last worker).view.carries ≡ 0
-  is_seat worker below = ap (λ (r : Role). r.carries) ((kept_all worker below).1.role_is ∙ ap role (h.fresh worker below).view_is)
+  is_seat worker below = ap (λ (r : Role). r.carries) ((kept_all worker below).2 ∙ ap role (h.fresh worker below).view_is)
 
   -- what is so of each view is so of each worker's, and a sum over the views is one over the workers
   pub of_each : (P : View → Type 0) → Each h.views P → (worker : ℕ) → worker < workers → P (last_view worker)

@@ -19,7 +19,7 @@ returns c =
         table = back.table ∙ kept.0 ∙ new.table ∙ of.table;
         setup = ap (λ (v : View). v.setup) back.view ∙ kept.1.setup ∙ ap (λ (v : View). v.setup) new.view ∙ of.setup;
       };
-      role_is = ap role back.view ∙ kept.1.role_is ∙ ap role new.view ∙ c.requires.role_is;
+      role_is = ap role back.view ∙ kept.2 ∙ ap role new.view ∙ c.requires.role_is;
       held = λ b tells. held_is c.into_seat-seat.result.view c.has_a_sound_state.ensures b
           (subst (λ (v : View). Contains (held_blocks v) b) (sym back.view) (c.build-chain.ensures.held b tells));
       quiet = subst (λ (v : View). OnOk c.build-chain.result (IsQuiet v)) (sym back.view) c.build-chain.ensures.quiet;
