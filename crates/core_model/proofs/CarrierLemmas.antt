@@ -34,12 +34,12 @@ both_class n (suc class) (xs ∷ xss) [] = omega arith
 both_class n zero (xs ∷ xss) (ys ∷ yss) = times_append n xs ys
 both_class n (suc class) (xs ∷ xss) (ys ∷ yss) = both_class n class xss yss
 
-both_length : (xss yss : List (List ℕ)) → length xss ≡ length yss → length (both_lists xss yss) ≡ length yss
+pub both_length : (xss yss : List (List ℕ)) → length xss ≡ length yss → length (both_lists xss yss) ≡ length yss
 both_length [] yss same = refl
 both_length (xs ∷ xss) [] same = same
 both_length (xs ∷ xss) (ys ∷ yss) same = let rest = both_length xss yss (omega (arith, same)) in omega arith
 
-within_append : (words word : ℕ) (xs ys : List ℕ) → times_within words word (xs ++ ys) ≡ times_within words word xs + times_within words word ys
+pub within_append : (words word : ℕ) (xs ys : List ℕ) → times_within words word (xs ++ ys) ≡ times_within words word xs + times_within words word ys
 within_append words word [] ys = omega arith
 within_append words word (x ∷ xs) ys = let rest = within_append words word xs ys in omega arith
 
@@ -53,7 +53,7 @@ large_append d [] ys = omega arith
 large_append d (x ∷ xs) ys = let rest = large_append d xs ys in omega arith
 
 -- the first of the spans that begin there is one of either
-count_append : (d : ℕ) (xs ys : List Span) → ((span : Span) → Contains xs span → 1 ≤ span.count) → ((0 < span_count d xs) × (span_count d (xs ++ ys) ≡ span_count d xs)) ⊎ (span_count d (xs ++ ys) ≡ span_count d ys)
+pub count_append : (d : ℕ) (xs ys : List Span) → ((span : Span) → Contains xs span → 1 ≤ span.count) → ((0 < span_count d xs) × (span_count d (xs ++ ys) ≡ span_count d xs)) ⊎ (span_count d (xs ++ ys) ≡ span_count d ys)
 count_append d [] ys counted = inr refl
 count_append d (x ∷ xs) ys counted = by_test (nat_eq x.first d) (count_append d xs ys (λ span there. counted span (in_rest x span xs there))) where
   by_test : (t : Bool) → ((0 < span_count d xs) × (span_count d (xs ++ ys) ≡ span_count d xs)) ⊎ (span_count d (xs ++ ys) ≡ span_count d ys)
@@ -61,12 +61,12 @@ count_append d (x ∷ xs) ys counted = by_test (nat_eq x.first d) (count_append 
   by_test true rest = inl (counted x (in_head x xs), refl)
   by_test false rest = rest
 
-either_length : (xs ys : List (Option ℕ)) → length (either_of xs ys) ≡ length ys
+pub either_length : (xs ys : List (Option ℕ)) → length (either_of xs ys) ≡ length ys
 either_length [] ys = refl
 either_length (x ∷ xs) [] = refl
 either_length (x ∷ xs) (y ∷ ys) = ap suc (either_length xs ys)
 
-either_at : (xs ys : List (Option ℕ)) (n value : ℕ) → get_or (either_of xs ys) n None ≡ Some value → (get_or xs n None ≡ Some value) ⊎ (get_or ys n None ≡ Some value)
+pub either_at : (xs ys : List (Option ℕ)) (n value : ℕ) → get_or (either_of xs ys) n None ≡ Some value → (get_or xs n None ≡ Some value) ⊎ (get_or ys n None ≡ Some value)
 either_at [] ys n value e = inr e
 either_at (x ∷ xs) [] n value e = inr e
 either_at (None ∷ xs) (y ∷ ys) zero value e = inr e
@@ -287,7 +287,7 @@ carries_block v block = record {
   no_roots [] = refl
   no_roots (x ∷ roots) = no_roots roots
 
-twice : (xs : List View) (i : ℕ) (a b : View) → set (set xs i a) i b ≡ set xs i b
+pub twice : (xs : List View) (i : ℕ) (a b : View) → set (set xs i a) i b ≡ set xs i b
 twice [] i a b = refl
 twice (x ∷ xs) zero a b = refl
 twice (x ∷ xs) (suc i) a b = ap (λ l. x ∷ l) (twice xs i a b)
