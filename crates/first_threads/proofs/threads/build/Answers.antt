@@ -1,5 +1,6 @@
 use Rattle.heap_seat.proofs.CallerLemmas.{held_in}
 use Rattle.seat_view.specs.CacheState.{heap_view}
+use Rattle.thread_cache.specs.Laws.{seat_row_law}
 use Rattle.first_threads.proofs.threads.build.Goals as goal
 
 pub returns-clause-held : goal.returns-clause-held
@@ -14,3 +15,12 @@ returns-clause-quiet c =
       idle = (c.quiet.new.self.state.between going).0;
       empty = c.in_ok-quiet.ensures.quiet.each;
     }
+
+pub returns-in_err-pop-clause-kept : goal.returns-in_err-pop-clause-kept
+returns-in_err-pop-clause-kept c = seat_row_law _ c.args.seat.now c.push_all.new.seat c.pop.new.seat c.push_all.ensures.kept c.pop.ensures.kept
+
+pub returns-in_err-quiet-clause-kept : goal.returns-in_err-quiet-clause-kept
+returns-in_err-quiet-clause-kept c = seat_row_law _ c.args.seat.now c.pop.new.seat c.quiet.new.self (seat_row_law _ c.args.seat.now c.push_all.new.seat c.pop.new.seat c.push_all.ensures.kept c.pop.ensures.kept) c.quiet.ensures.kept
+
+pub returns-clause-kept : goal.returns-clause-kept
+returns-clause-kept c = seat_row_law _ c.args.seat.now c.pop.new.seat c.quiet.new.self (seat_row_law _ c.args.seat.now c.push_all.new.seat c.pop.new.seat c.push_all.ensures.kept c.pop.ensures.kept) c.quiet.ensures.kept
