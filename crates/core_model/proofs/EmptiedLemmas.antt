@@ -1,5 +1,5 @@
 -- A carrier whose block was accepted stays as a view that has nothing.
-use Rattle.std.proofs.Common.{◌≡◌, ◌≢◌, ℕ, zero, suc, ◌+◌, ◌-◌, ◌<◌, ◌≤◌, ◌⊎◌, inl, inr, nat_eq, set, List, [], ◌∷◌, ◌++◌, Contains, replicate, get_or, length, refl, ap, sym, subst, ◌∙◌, length-set, arith}
+use Rattle.std.proofs.Common.{◌≡◌, ◌≢◌, ℕ, ◌+◌, ◌-◌, ◌<◌, ◌⊎◌, inl, inr, nat_eq, set, List, [], ◌∷◌, ◌++◌, Contains, replicate, get_or, length, refl, ap, sym, subst, ◌∙◌, length-set, arith}
 use Rattle.std.proofs.lemmas.List.{get_or-set_other}
 use Rattle.std.proofs.lemmas.List.Elements.{Contains-append_left, Contains-append_right}
 use Rattle.heap_model.specs.Geometry.{lists}

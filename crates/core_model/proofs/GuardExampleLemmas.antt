@@ -1,5 +1,5 @@
 -- Worked examples of what each condition of a guard refuses by itself: of a superblock that is cut, of stores to anchors and to blocks, and of blocks that go between seats.
-use Rattle.std.proofs.Common.{◌≡◌, ◌<◌, ◌≤◌, ◌⊎◌, ℕ, [], ◌∷◌, replicate, set, Option, None, Some, true, inl, inr, refl, ap, subst, arith}
+use Rattle.std.proofs.Common.{◌≡◌, ℕ, [], ◌∷◌, replicate, set, Option, None, Some, true, inl, inr, refl, ap, subst, arith}
 use Rattle.heap_model.specs.Sizes.{class_sizes, words_of_class, blocks_of}
 use Rattle.heap_model.specs.Counting.{total}
 use Rattle.heap_model.proofs.MemberLemmas.{in_head, in_rest, in_none, head_or_rest}

@@ -1,5 +1,5 @@
 -- Worked examples by computation: a seat that holds two blocks of class 20, or a large one, offers one of them, and takes it in again.
-use Rattle.std.specs.Prelude.{◌≡◌, ℕ, [], ◌∷◌, List, replicate, None, Some, refl, set}
+use Rattle.std.specs.Prelude.{◌≡◌, [], ◌∷◌, List, replicate, None, Some, refl, set}
 use Rattle.heap_model.specs.Sizes.{class_sizes, words_of_class}
 use Rattle.core_model.specs.Cells.{data_cell}
 use Rattle.core_model.specs.View.{View, Span, of_class, known}

@@ -1,5 +1,5 @@
 -- What a sound state comes to is sound.
-use Rattle.std.proofs.Common.{◌≡◌, ◌⊎◌, ℕ, zero, suc, ◌+◌, ◌-◌, ◌<◌, ◌≤◌, inl, inr, true, List, [], ◌∷◌, ◌++◌, Contains, get_or, set, length, refl, ap, sym, subst, ◌∙◌, arith}
+use Rattle.std.proofs.Common.{◌≡◌, ◌⊎◌, ℕ, zero, suc, ◌+◌, ◌-◌, ◌<◌, ◌≤◌, inl, inr, true, List, [], ◌∷◌, Contains, get_or, set, length, refl, ap, sym, subst, ◌∙◌, arith}
 use Rattle.heap_model.specs.Rest.{IsReady}
 use Rattle.core_model.specs.Cells.{cell_at, is_cell}
 use Rattle.core_model.specs.Guards.{IsOwn}

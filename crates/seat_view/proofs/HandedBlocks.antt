@@ -1,21 +1,21 @@
 -- A block that a seat offers goes from the held ones, one that it accepts comes to them, and all others stay.
-use Rattle.std.proofs.Common.{◌≡◌, ◌≢◌, ◌<◌, ◌≤◌, ◌⊎◌, ℕ, zero, suc, ◌+◌, ◌*◌, inl, inr, Bool, true, false, cond, not, nat_eq, List, [], ◌∷◌, ◌++◌, get_or, refl, ap, sym, subst, ◌∙◌, eq-eqb, ne_eqb, eqb-true, arith}
+use Rattle.std.proofs.Common.{◌≡◌, ◌≢◌, ◌<◌, ◌⊎◌, ℕ, zero, suc, ◌+◌, ◌*◌, inl, inr, Bool, true, false, cond, not, nat_eq, List, [], ◌∷◌, ◌++◌, refl, ap, sym, subst, ◌∙◌, eq-eqb, ne_eqb, eqb-true, arith}
 use Rattle.std.specs.Prelude.{Contains}
 use Rattle.std.proofs.lemmas.Bool.{cases_eq, cases_lt}
 use Rattle.std.proofs.lemmas.List.Elements.{Contains-append_cases}
 use Rattle.heap_model.proofs.MemberLemmas.{head_or_rest, in_none}
 use Rattle.heap_model.specs.declared.block.Block.{Block}
-use Rattle.heap_model.specs.Blocks.{AreOneOrApart, IsIn}
-use Rattle.heap_model.specs.Counting.{one_if, times, total}
+use Rattle.heap_model.specs.Blocks.{IsIn}
+use Rattle.heap_model.specs.Counting.{one_if, times}
 use Rattle.heap_model.specs.Geometry.{start_word, superblock_words}
 use Rattle.heap_model.specs.Sizes.{words_of_class}
 use Rattle.heap_model.proofs.PartLemmas.{same_fields}
-use Rattle.core_model.specs.Carriers.{accepted, both_lists, offered}
+use Rattle.core_model.specs.Carriers.{accepted, offered}
 use Rattle.core_model.specs.Cells.{cell_at, data_cell, superblock_at}
 use Rattle.core_model.specs.Effects.{span_count}
 use Rattle.core_model.specs.Held.{IsHeld, a_small, a_large}
 use Rattle.core_model.specs.Splitting.{chosen, chosen_lists, chosen_spans}
-use Rattle.core_model.specs.View.{Setup, Span, View, of_class, times_in_classes, times_large}
+use Rattle.core_model.specs.View.{Setup, Span, View, of_class, times_large}
 use Rattle.core_model.proofs.CarrierLemmas.{both_class, both_within, large_append}
 use Rattle.core_model.proofs.OwnerLemmas.{in_lists_total, which_class}
 use Rattle.core_model.proofs.TotalLemmas.{eq-eqb-one, ne-eqb-none}

@@ -1,5 +1,5 @@
 -- What an offer and an accept leave of the seat, and of the words that go and come.
-use Rattle.std.proofs.Common.{◌≡◌, ◌<◌, ◌≤◌, ℕ, zero, suc, ◌+◌, inl, inr, Bool, true, false, cond, not, nat_eq, List, [], ◌∷◌, get_or, length, Option, None, Some, refl, ap, sym, subst, ◌∙◌, arith}
+use Rattle.std.proofs.Common.{◌≡◌, ◌<◌, ◌≤◌, ℕ, zero, suc, ◌+◌, inl, Bool, true, false, cond, not, nat_eq, List, [], ◌∷◌, get_or, length, Option, None, Some, refl, ap, sym, subst, ◌∙◌, arith}
 use Rattle.heap_model.specs.declared.block.Block.{Block}
 use Rattle.heap_model.specs.Counting.{times}
 use Rattle.heap_model.specs.Geometry.{image_words}
@@ -9,7 +9,7 @@ use Rattle.core_model.specs.Carriers.{IsCarrier, accepted, carrier_of, either_kn
 use Rattle.core_model.specs.Cells.{Cell, used_cell, head_cell, info_cell, anchor_cell, link_cell, root_cell, data_cell, no_cell, cell_at, index_of, is_cell, superblock_at}
 use Rattle.core_model.specs.Memory.{memory_of}
 use Rattle.core_model.specs.Splitting.{chosen, chosen_lists}
-use Rattle.core_model.specs.View.{Batch, Role, View, known, role, times_classed, times_in_classes, times_large, times_own, times_raw, times_within}
+use Rattle.core_model.specs.View.{Batch, Role, View, times_classed, times_in_classes, times_large, times_own, times_raw, times_within}
 use Rattle.core_model.proofs.CarrierLemmas.{both_within, large_append}
 use Rattle.core_model.proofs.HeldOnceLemmas as once
 use Rattle.core_model.proofs.SplittingLemmas.{chosen_less, spans_less}
@@ -22,9 +22,9 @@ use Rattle.heap_rule.proofs.RawLemmas.{volatile_long, durable_long}
 use Rattle.heap_rule.proofs.SettleLemmas.{own_below, own_index, own_there}
 use Rattle.seat_rows.specs.Costs.{one_draw}
 use Rattle.seat_rows.specs.Rows.{HasDrawn, Passes, Row, ViewRow}
-use Rattle.seat_rows.specs.Words.{IsHeldWord, KeepsWord, left_at, seen_at, times_held}
+use Rattle.seat_rows.specs.Words.{IsHeldWord, KeepsWord, times_held}
 use Rattle.seat_rows.proofs.RowLemmas.{row_held, row_holds}
-use Rattle.seat_rows.proofs.WordLemmas.{at_cell, held_own, owns_held, trimmed_word, word_same, word_then}
+use Rattle.seat_rows.proofs.WordLemmas.{owns_held, trimmed_word, word_same, word_then}
 use Rattle.seat_words.specs.Handed.{AcceptRow, ComesWith, GoesWith, OfferRow}
 
 -- words of chosen blocks

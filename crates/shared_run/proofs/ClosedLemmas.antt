@@ -1,5 +1,5 @@
 -- A heap that is closed after a run: all seats are back, and its words are whole images.
-use Rattle.std.proofs.Common.{◌≡◌, ◌<◌, ℕ, inl, inr, Bool, List, [], ◌∷◌, ◌++◌, length, slice_index, refl, subst, sym, ap, ◌∙◌, arith}
+use Rattle.std.proofs.Common.{◌≡◌, ◌<◌, ℕ, inl, inr, List, [], ◌∷◌, ◌++◌, length, slice_index, refl, sym, ap, ◌∙◌, arith}
 use Rattle.heap_model.specs.declared.block.Block.{Block}
 use Rattle.heap_model.specs.Durability.{Mixes}
 use Rattle.heap_model.specs.Geometry.{capacity_word, image_words}
@@ -8,12 +8,10 @@ use Rattle.heap_model.specs.Image.{Image}
 use Rattle.heap_model.specs.Rest.{IsReady}
 use Rattle.core_model.specs.Opening.{setup_of}
 use Rattle.core_model.specs.View.{View}
-use Rattle.dict_model.specs.Requests.{Request}
-use Rattle.heap_table.specs.AtTable.{IsClosedSound, SharedView}
+use Rattle.heap_table.specs.AtTable.{IsClosedSound}
 use Rattle.heap_rule.proofs.ClosedLemmas.{mixed_is}
 use Rattle.heap_rule.proofs.SeatImageLemmas.{mixed_fixed}
 use Rattle.worker_run.specs.Left.{AreWholeImage}
-use Rattle.shared_run.specs.Dealing.{AreParts, Queue}
 
 -- the first of some
 pub first_of : {X : Type 0} (xs : List X) → 0 < length xs → X

@@ -1,5 +1,5 @@
 -- What is so of a seat with its chance is so of its state.
-use Rattle.std.proofs.Common.{◌≡◌, ℕ, List, [], ◌∷◌, ap}
+use Rattle.std.proofs.Common.{ℕ, List, [], ◌∷◌, ap}
 use Rattle.heap_seat.specs.View.{View as HeapView}
 use Rattle.heap_seat.specs.declared.fault.Looks.{Looks}
 use Rattle.dict_model.specs.Requests.{Request, Reply}

@@ -1,14 +1,13 @@
 -- What is so of each worker of a run: what its seat kept, that it was unused, and which of its requests are answered.
-use Rattle.std.proofs.Common.{◌≡◌, ℕ, ◌+◌, ◌<◌, ◌≤◌, Bool, List, [], ◌∷◌, slice_index, sum_by, ap, subst, sym, ◌∙◌, arith}
+use Rattle.std.proofs.Common.{◌≡◌, ℕ, ◌+◌, ◌<◌, ◌≤◌, Bool, List, slice_index, sum_by, ap, ◌∙◌, arith}
 use Rattle.heap_model.specs.declared.block.Block.{Block}
 use Rattle.heap_model.specs.Counting.{total}
-use Rattle.dict_model.specs.Requests.{Request, Reply}
+use Rattle.dict_model.specs.Requests.{Request}
 use Rattle.heap_model.specs.Geometry.{used_word}
 use Rattle.heap_rule.proofs.ClosedLemmas.{taken_in_all}
 use Rattle.core_model.specs.Opening.{setup_of}
 use Rattle.core_model.specs.Sound.{Each}
 use Rattle.core_model.specs.View.{Role, View, role}
-use Rattle.seat_view.specs.CacheState.{CacheState, heap_view}
 use Rattle.thread_cache.specs.Keeps.{KeepsHeap}
 use Rattle.run_model.specs.Runs.{answered, unanswered, worker_answered, worker_unanswered, worker_span, span_taken, first_span}
 use Rattle.run_model.specs.Needs.{shards_put_into}

@@ -1,6 +1,5 @@
-use Rattle.std.proofs.Common.{◌≡◌, List, [], ◌++◌, append-nil, ap, subst, sym, ◌∙◌}
+use Rattle.std.proofs.Common.{List, ◌++◌, append-nil, ap, subst, sym, ◌∙◌}
 use Rattle.std.proofs.lemmas.Result.{IfOk-weaker}
-use Rattle.core_model.specs.View.{View}
 use Rattle.heap_table.specs.AtTable.{IsClosedReached, IsClosedSound}
 use Rattle.heap_table.specs.Rule.{setup_for}
 use Rattle.heap_rule.specs.Carried.{AreAllOf, CarrierView, carried_views}
