@@ -1,11 +1,13 @@
 //! What follows for a heap's seat that is one of the core, as functions with nothing to run.
 
-ghost use Rattle.std.specs.Prelude.{◌≡◌, ℕ, Bool};
+ghost use Rattle.std.specs.Prelude.{◌≡◌, ◌↔◌, ℕ, Bool, Contains};
 ghost use Rattle.heap_model.specs.declared.block.Block.{Block};
 ghost use Rattle.heap_model.specs.Image.{Image};
+ghost use Rattle.core_model.specs.Held.{IsHeld};
 ghost use Rattle.heap_seat.specs.Alloc.{Adds};
 ghost use Rattle.heap_seat.specs.Sound.{IsSeat};
 ghost use Rattle.heap_seat.specs.Words.{HasPicked, IsOwn, KeepsOwn, KeepsPending, MixesOwn, NamesAll, StoresKinds};
+ghost use Rattle.heap_table.specs.Plays.{HasSoundState};
 ghost use Rattle.heap_rule.specs.Left.{MayBeLeft};
 ghost use Rattle.heap_rule.specs.Seated.{SeatView};
 ghost use Rattle.seat_rows.specs.Costs.{Costs};
@@ -13,12 +15,14 @@ ghost use Rattle.seat_rows.specs.Rows.{Passes, Row};
 ghost use Rattle.seat_view.specs.CacheState.{CacheState, IsStateOf, heap_view};
 ghost use Rattle.seat_view.specs.Changes.{GivesBlock, GivesSpan, HoldsBlock, HoldsSpan, Loses};
 
-/// A heap's seat that is one of the core keeps the laws of such seats, whatever is left of it: a
-/// mixture of volatile and durable words, or what a crash leaves, or a close, has the kinds of the
-/// roots; and a row of steps keeps these kinds, and one that leaves held blocks alone keeps its own
-/// words too, and their pending write-backs.
+/// A heap's seat that is one of the core keeps the laws of such seats, and holds the blocks that the
+/// core says. Whatever is left of it has the kinds of the roots: a mixture of volatile and durable
+/// words, or what a crash leaves, or a close. A row of steps keeps these kinds, and one that leaves
+/// held blocks alone keeps its own words too, and their pending write-backs.
 pub fn a_seat_of_the_core_is_a_seat_of_a_heap()
     ensures seat { (s : CacheState) → IsSeat (heap_view s) }
+    ensures held { (s : CacheState) → HasSoundState s.view
+        → (b : Block) → Contains (heap_view s).held b ↔ IsHeld s.view b }
     ensures mixed { (s : CacheState) (image : Image) → MayBeLeft s.view image
         → MixesOwn (heap_view s) image }
     ensures named { (s : CacheState) (image : Image) → MayBeLeft s.view image

@@ -1,8 +1,12 @@
-use Rattle.seat_view.proofs.HeldLemmas.{kinds_law, may_be_law, mixed_law, named_law, pending_law, row_law, seat_law, stored_law}
+use Rattle.seat_view.proofs.HeldLemmas.{held_is, kinds_law, may_be_law, mixed_law, named_law, pending_law, row_law, seat_law, stored_law}
+use Rattle.seat_view.proofs.ListedBlocks.{listed}
 use Rattle.seat_view.proofs.laws.a_seat_of_the_core_is_a_seat_of_a_heap.Goals as goal
 
 pub returns-clause-seat : goal.returns-clause-seat
 returns-clause-seat c = seat_law
+
+pub returns-clause-held : goal.returns-clause-held
+returns-clause-held c s has b = (held_is s.view has b, listed s.view b)
 
 pub returns-clause-mixed : goal.returns-clause-mixed
 returns-clause-mixed c = mixed_law
