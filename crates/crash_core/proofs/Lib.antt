@@ -34,3 +34,7 @@ pub mod HandSteps
 pub mod OfferSteps
 pub mod LargeOffers
 pub mod OfferDecision
+pub mod GivenOver
+pub mod AcceptSteps
+pub mod AcceptOwners
+pub mod AcceptDecision

@@ -23,7 +23,8 @@ use Rattle.core_model.specs.View.{Setup, View, one_if_some, times_block, times_c
 use Rattle.core_model.specs.Guards.{IsThere, HasTicketFor, MayDo}
 use Rattle.core_model.specs.Sound.{Sound}
 use Rattle.core_model.specs.Steps.{TableState, StepsTo, Runs, state_after, seat_after}
-use Rattle.seat_notes.specs.Superblocks.{HasSuperblocks}
+use Rattle.seat_notes.specs.declared.superblocks.SuperblockOwner.{SuperblockOwner}
+use Rattle.seat_notes.specs.Superblocks.{HasSuperblocks, count_in, no_superblock, usage_for}
 use Rattle.seat_notes.specs.Notes.{HasNotes, HasCaches, HasBatch}
 
 -- where seat i has the block
@@ -136,6 +137,30 @@ pub record HasNewOwner (old new : List BlockOwner) (blocks : List ℕ) (owner : 
   pub long : length new ≡ length old
   pub inside : (b : ℕ) → 0 < times b blocks → get_or new b no_block ≡ owner
   pub outside : (b : ℕ) → times b blocks ≡ 0 → get_or new b no_block ≡ get_or old b no_block
+
+-- the owner, once one gives all that it has to another
+abbrev pub owner_after : ℕ → ℕ → ℕ → ℕ
+owner_after from to owner = cond (nat_eq owner from) to owner
+
+abbrev pub block_given : ℕ → ℕ → BlockOwner → BlockOwner
+block_given from to o = record o { seat = owner_after from to o.seat }
+
+abbrev pub superblock_given : ℕ → ℕ → SuperblockOwner → SuperblockOwner
+superblock_given from to o = record o { seat = owner_after from to o.seat }
+
+-- a small block is held, and a large one
+pub record OwnsSmall (c : CoreState) (j : ℕ) : Type 0 where
+  pub block : ℕ
+  pub held : 0 < held_in (place_for j (get_or c.blocks.items block no_block))
+
+pub record OwnsLarge (c : CoreState) (j : ℕ) : Type 0 where
+  pub first : ℕ
+  pub some : 0 < count_in (usage_for j (get_or c.superblocks.items first no_superblock))
+
+-- the number is no seat's, and a block is its own
+pub record CarriesBlock (c : CoreState) (j : ℕ) : Type 0 where
+  pub behind : length c.seats.items ≤ j
+  pub owns : OwnsSmall c j ⊎ OwnsLarge c j
 
 -- the memory that its words are
 abbrev pub memory_at : CoreState → Memory

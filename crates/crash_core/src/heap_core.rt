@@ -10,8 +10,9 @@ ghost use Rattle.core_model.specs.Opening.{AreOwners, setup_of, opened_state};
 ghost use Rattle.core_model.specs.Steps.{TableState};
 ghost use Rattle.core_model.specs.View.{Setup};
 ghost use Rattle.crash_image.specs.Crash.{GivesAll, transient_words};
-ghost use Rattle.crash_core.specs.Standing.{StandsFor, Follows, Offers, RunsOn};
+ghost use Rattle.crash_core.specs.Standing.{Accepts, StandsFor, Follows, Offers, RunsOn};
 
+use crate::accepting::accept;
 use crate::crash::durable_words;
 use crate::handing::offer;
 use crate::opened::opened_core;
@@ -100,6 +101,19 @@ impl Core {
     {
         self.spare -= 1;
         offer(&mut self.state, seat, block)
+    }
+
+    /// Accepts what a carrier has, by its number, if the seat may do so now: it has a ticket in hand,
+    /// and the carrier has its block. It takes time by the words of the image, whatever the block.
+    pub fn accept(&mut self, seat: usize, carrier: usize) -> StepAnswer
+        requires seat { seat < length self.old.state.seats.items }
+        requires spare { 1 ≤ self.old.spare }
+        ensures follows { Accepts self.old.state seat carrier result self.new.state }
+        ensures seats { length self.new.state.seats.items ≡ length self.old.state.seats.items }
+        ensures spare { self.new.spare + 1 ≡ self.old.spare }
+    {
+        self.spare -= 1;
+        accept(&mut self.state, seat, carrier)
     }
 
     /// Tries the events in their order, and gives the answer of each. Where memory runs out, none

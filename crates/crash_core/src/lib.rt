@@ -2,6 +2,7 @@
 //! their atomic steps in any order, and makes the image that a crash leaves.
 #![tactic(auto)]
 
+mod accepting;
 mod anchors;
 mod chains;
 mod crash;
