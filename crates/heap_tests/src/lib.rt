@@ -5,6 +5,8 @@
 #![tactic(auto)]
 
 #[cfg(test)]
+mod accepts;
+#[cfg(test)]
 mod blocks;
 #[cfg(test)]
 mod cores;

@@ -10,7 +10,7 @@ use std::test::Fail;
 use super_block::Block;
 
 /// An image whose superblock 0 of two is free.
-const ONE_FREE: &str = "used 1";
+pub const ONE_FREE: &str = "used 1";
 
 /// Seat 0 holds superblock 1 as a large block, and the first of four blocks of superblock 0; it has
 /// no ticket in hand.
@@ -32,7 +32,7 @@ const OFFERS: [(usize, bool, u64, StepAnswer); 8] = [
 ];
 
 /// Takes all steps of seat 0.
-fn hold_two(rt: &impl Abort, core: &mut Core) -> Result<(), Fail> {
+pub fn hold_two(rt: &impl Abort, core: &mut Core) -> Result<(), Fail> {
     for line in HOLDS_TWO.split(", ") {
         must_take(rt, core, parse(line)?, line)?;
     }
@@ -40,7 +40,7 @@ fn hold_two(rt: &impl Abort, core: &mut Core) -> Result<(), Fail> {
 }
 
 /// Offers a block, with a ticket that the seat draws for it where it is to.
-fn offer(core: &mut Core, seat: usize, draws: bool, block: u64) -> Result<StepAnswer, Fail> {
+pub fn offer(core: &mut Core, seat: usize, draws: bool, block: u64) -> Result<StepAnswer, Fail> {
     if draws {
         take(core, seat, DRAW)?;
     }
