@@ -1,5 +1,5 @@
 -- What a step of the core makes of each state that it stands for.
-use Rattle.std.proofs.Common.{◌≡◌, ℕ, ◌+◌, ◌<◌, ◌≤◌, List, get_or, length, Option, None, Some, refl, ap, sym, subst, ◌∙◌, length-set}
+use Rattle.std.proofs.Common.{◌≡◌, ℕ, ◌+◌, ◌<◌, ◌≤◌, List, get_or, length, Option, None, Some, refl, ap, sym, subst, ◌∙◌}
 use Rattle.core_model.specs.declared.answer.StepAnswer.{StepAnswer}
 use Rattle.core_model.specs.declared.answer.StepAnswer.TheVariants.{Done, Stopped, NotNow}
 use Rattle.core_model.specs.declared.event.Event.{Event}
@@ -10,7 +10,7 @@ use Rattle.heap_model.specs.Counting.{total}
 use Rattle.core_model.specs.View.{Setup, View, one_if_some}
 use Rattle.core_model.specs.Guards.{HasTicketFor, MayDo}
 use Rattle.core_model.specs.Memory.{memory_of}
-use Rattle.core_model.specs.Steps.{TableState, StepsTo, is_done, stops, not_now, has_stopped, state_after, seat_after}
+use Rattle.core_model.specs.Steps.{TableState, StepsTo, is_done, stops, not_now, has_stopped, state_after}
 use Rattle.crash_core.specs.Standing.{IsSeatAt, IsCore, KeepsViews, AreInOrder, IsStanding, KeepsState, StandsFor, HasTicketAt, Takes, Follows, Steps, steps_done, steps_stopped, steps_not, state_of}
 use Rattle.crash_core.proofs.OrderSteps.{event_made, event_order}
 use Rattle.seat_notes.proofs.WordLemmas.{entry_is, entry_there}

@@ -21,7 +21,6 @@ use Rattle.core_model.specs.Steps.{seat_after}
 use Rattle.seat_notes.specs.Superblocks.{usage_for, no_superblock, IsUsage, IsRange}
 use Rattle.crash_core.specs.Standing.{IsAmong, IsSeatAt, IsKept, KeepsViews, Steps}
 use Rattle.seat_notes.specs.Notes.{snapshot}
-use Rattle.core_model.proofs.TotalLemmas.{total_at}
 use Rattle.core_model.proofs.FrameLemmas.{below_is, below_not, times_steps}
 use Rattle.heap_model.proofs.ListLemmas.{times_append}
 use Rattle.core_model.proofs.PlaceLemmas.{pick}

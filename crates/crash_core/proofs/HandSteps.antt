@@ -1,11 +1,11 @@
 -- The core after a seat's offer stands for the state with one carrier more.
-use Rattle.std.proofs.Common.{◌≡◌, ◌≢◌, ℕ, zero, suc, ◌+◌, ◌<◌, ◌≤◌, inl, inr, List, [], ◌∷◌, ◌++◌, get_or, set, length, None, Some, refl, ap, sym, subst, ◌∙◌, length-set, length-append, nat_eq, true, arith}
+use Rattle.std.proofs.Common.{◌≡◌, ◌≢◌, ℕ, zero, suc, ◌+◌, ◌<◌, ◌≤◌, inl, inr, List, [], ◌∷◌, ◌++◌, get_or, set, length, None, refl, ap, sym, subst, ◌∙◌, length-set, length-append, nat_eq, true, arith}
 use Rattle.std.proofs.lemmas.Bool.{cases_eq, cases_lt}
 use Rattle.std.proofs.lemmas.List.{get_or-set_same, get_or-set_other, get_or_append_left}
-use Rattle.heap_model.specs.Counting.{one_if, times, total}
+use Rattle.heap_model.specs.Counting.{one_if, times}
 use Rattle.heap_model.specs.declared.block.Block.{Block}
-use Rattle.core_model.specs.Carriers.{carrier_of, IsCarrier, offered}
-use Rattle.core_model.specs.Handing.{after_offer, HoldsAt, MayOffer}
+use Rattle.core_model.specs.Carriers.{carrier_of, offered}
+use Rattle.core_model.specs.Handing.{after_offer, MayOffer}
 use Rattle.core_model.specs.Held.{IsHeld}
 use Rattle.core_model.specs.Memory.{memory_of}
 use Rattle.core_model.specs.Sound.{Sound}

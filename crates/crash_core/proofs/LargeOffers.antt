@@ -7,10 +7,10 @@ use Rattle.heap_model.specs.declared.block.Block.{Block}
 use Rattle.heap_model.specs.Geometry.{start_word, superblock_words}
 use Rattle.heap_model.proofs.ListLemmas.{one_at_most}
 use Rattle.core_model.specs.Cells.{superblock_at}
-use Rattle.core_model.specs.Carriers.{carrier_of, MayHand, offered}
+use Rattle.core_model.specs.Carriers.{carrier_of, MayHand}
 use Rattle.core_model.specs.Effects.{span_count}
 use Rattle.core_model.specs.Guards.{MaySplit}
-use Rattle.core_model.specs.Handing.{after_offer, HoldsAt, MayOffer}
+use Rattle.core_model.specs.Handing.{after_offer, MayOffer}
 use Rattle.core_model.specs.Held.{IsHeld, a_large}
 use Rattle.core_model.specs.Memory.{used}
 use Rattle.core_model.specs.Splitting.{chosen_lists, chosen_spans}
@@ -29,7 +29,7 @@ use Rattle.seat_notes.proofs.CountLemmas.{no_span}
 use Rattle.seat_notes.proofs.RangeLemmas.{range_theirs}
 use Rattle.seat_notes.proofs.UsageLemmas.{usage_alone, usage_own, usage_theirs, usages_mine, usages_theirs}
 use Rattle.crash_core.specs.declared.state.CoreState.{CoreState}
-use Rattle.crash_core.specs.Standing.{HasBlocksOf, IsKept, IsPlace, IsSeatAt, KeepsViews, no_block, nobody, place_for, StandsFor}
+use Rattle.crash_core.specs.Standing.{HasBlocksOf, IsKept, IsSeatAt, KeepsViews, nobody, StandsFor}
 use Rattle.crash_core.proofs.ChosenLemmas.{count_left, lists_go, lists_stay, one_span}
 use Rattle.crash_core.proofs.HandSteps.{HasOwn, IsHanded, offer_stands}
 use Rattle.crash_core.proofs.SplitSteps.{covered, large_only}

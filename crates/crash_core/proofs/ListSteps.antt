@@ -22,7 +22,6 @@ use Rattle.core_model.specs.Steps.{seat_after}
 use Rattle.seat_notes.specs.Superblocks.{usage_for, no_superblock, listed, IsUsage}
 use Rattle.crash_core.specs.Standing.{IsAmong, IsSeatAt, IsKept, KeepsViews, Steps}
 use Rattle.seat_notes.specs.Notes.{snapshot}
-use Rattle.core_model.proofs.TotalLemmas.{total_at}
 use Rattle.heap_model.proofs.ListLemmas.{one_at_most}
 use Rattle.core_model.proofs.ListLemmas.{in_lists_at, before_is}
 use Rattle.core_model.proofs.PlaceLemmas.{pick, skip}

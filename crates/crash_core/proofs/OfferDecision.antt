@@ -1,15 +1,15 @@
 -- What an offer answers, in each state that the core stands for.
-use Rattle.std.proofs.Common.{◌≡◌, ℕ, ◌+◌, ◌<◌, ◌≤◌, inl, inr, get_or, length, Bool, true, false, not, is_some, Option, None, Some, refl, ap, sym, subst, ◌∙◌, true≢false, arith}
+use Rattle.std.proofs.Common.{◌≡◌, ℕ, ◌<◌, ◌≤◌, get_or, Bool, true, false, not, is_some, Option, None, Some, ap, sym, subst, ◌∙◌, true≢false, arith}
 use Rattle.heap_model.specs.Counting.{times, total}
 use Rattle.core_model.specs.declared.answer.StepAnswer.{StepAnswer}
-use Rattle.core_model.specs.declared.answer.StepAnswer.TheVariants.{Done, NotNow, Stopped}
+use Rattle.core_model.specs.declared.answer.StepAnswer.TheVariants.{NotNow, Stopped}
 use Rattle.core_model.specs.Carriers.{MayHand}
 use Rattle.heap_model.specs.declared.block.Block.{Block}
 use Rattle.heap_model.specs.Geometry.{start_word}
 use Rattle.core_model.specs.Cells.{superblock_at}
 use Rattle.core_model.specs.Effects.{span_count}
 use Rattle.core_model.specs.Guards.{IsThere, MaySplit}
-use Rattle.core_model.specs.Handing.{HoldsAt, MayOffer, OffersTo, is_offered, offers_not, offers_stopped}
+use Rattle.core_model.specs.Handing.{HoldsAt, offers_not, offers_stopped}
 use Rattle.core_model.specs.Held.{IsHeld, a_large, a_small}
 use Rattle.core_model.specs.Steps.{TableState}
 use Rattle.core_model.specs.View.{Setup, View, one_if_some}
@@ -17,7 +17,7 @@ use Rattle.seat_notes.specs.declared.notes.SeatNotes.{SeatNotes}
 use Rattle.core_model.proofs.OwnerLemmas.{in_lists_total}
 use Rattle.seat_notes.proofs.WordLemmas.{entry_there}
 use Rattle.crash_core.specs.declared.state.CoreState.{CoreState}
-use Rattle.crash_core.specs.Standing.{held_in, IsKept, IsSeatAt, IsStanding, MayHandAt, no_block, Offers, place_for, StandsFor}
+use Rattle.crash_core.specs.Standing.{held_in, IsKept, IsSeatAt, IsStanding, no_block, Offers, place_for, StandsFor}
 use Rattle.crash_core.proofs.StandingLemmas.{among}
 
 -- the view of the seat
@@ -64,9 +64,6 @@ offer_not_held c i x t at_t going no_small no_large k s stands = let o = seat_of
 -- the core after an offer stands for a state again
 pub offered_core : (c new : CoreState) (i x : ℕ) (answer : StepAnswer) → IsStanding c → Offers c i x answer new → IsStanding new
 offered_core c new i x answer core offers = let next = offers core.setup core.state core.stands in record { setup = core.setup; state = next.0; stands = next.2 }
-
-pub offered_seats : (c new : CoreState) (i x : ℕ) (answer : StepAnswer) → IsStanding c → Offers c i x answer new → length new.seats.items ≡ length c.seats.items
-offered_seats c new i x answer core offers = let next = offers core.setup core.state core.stands in sym next.2.keeps.opened ∙ core.stands.keeps.opened
 
 -- an option that is none is not there
 pub no_ticket : (ticket : Option ℕ) (none : Bool) → is_some ticket ≡ not none → none ≡ true → IsThere ticket → ⊥

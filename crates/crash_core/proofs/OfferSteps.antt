@@ -1,33 +1,31 @@
 -- What is whose after an offer: of a small block, and of a large one.
-use Rattle.std.proofs.Common.{◌≡◌, ◌≢◌, ℕ, ◌+◌, ◌*◌, ◌<◌, ◌≤◌, inl, inr, Bool, true, false, cond, nat_eq, nat_lt, not, List, [], ◌∷◌, get_or, set, length, refl, ap, sym, subst, ◌∙◌, length-set, arith}
+use Rattle.std.proofs.Common.{◌≡◌, ◌≢◌, ℕ, ◌+◌, ◌<◌, inl, inr, Bool, true, false, cond, nat_eq, nat_lt, not, [], get_or, set, length, refl, ap, sym, subst, ◌∙◌, arith}
 use Rattle.std.proofs.lemmas.Bool.{cases_eq, cases_lt}
 use Rattle.std.proofs.lemmas.List.{get_or-set_same, get_or-set_other, get_or_past}
 use Rattle.heap_model.specs.Counting.{times, total}
 use Rattle.heap_model.specs.declared.block.Block.{Block}
 use Rattle.heap_model.specs.Sizes.{words_of_class}
 use Rattle.core_model.specs.Cells.{superblock_at}
-use Rattle.core_model.specs.Carriers.{carrier_of, MayHand, offered}
+use Rattle.core_model.specs.Carriers.{carrier_of, MayHand}
 use Rattle.core_model.specs.Handing.{after_offer, HoldsAt, MayOffer}
 use Rattle.core_model.specs.Held.{IsHeld, a_small}
 use Rattle.core_model.specs.Memory.{used}
 use Rattle.core_model.specs.Splitting.{chosen_lists, chosen_spans}
 use Rattle.core_model.specs.Sound.{Good}
 use Rattle.core_model.specs.Steps.{TableState}
-use Rattle.core_model.specs.View.{Setup, View, Span, times_block, times_large}
+use Rattle.core_model.specs.View.{Setup, View, times_block, times_large}
 use Rattle.heap_model.proofs.ListLemmas.{one_at_most}
 use Rattle.core_model.proofs.SplittingLemmas.{lists_both}
 use Rattle.core_model.proofs.TotalLemmas.{total_at}
 use Rattle.seat_notes.specs.declared.notes.SeatNotes.{SeatNotes}
-use Rattle.seat_notes.specs.declared.notes.TheConstants.{NEW_SEAT}
 use Rattle.seat_notes.specs.Superblocks.{usage_for, no_superblock, IsUsage}
 use Rattle.crash_core.specs.declared.owners.BlockPlace.{BlockPlace}
 use Rattle.crash_core.specs.declared.owners.BlockPlace.TheVariants as place
-use Rattle.crash_core.specs.declared.owners.BlockOwner.{BlockOwner}
 use Rattle.crash_core.specs.declared.state.CoreState.{CoreState}
 use Rattle.crash_core.specs.Standing.{batched_in, cached_in, held_in, HasBlocksOf, IsKept, IsPlace, IsSeatAt, KeepsViews, no_block, nobody, place_for, StandsFor}
-use Rattle.crash_core.proofs.BlockPlaces.{place_alone, place_own, place_theirs, places_mine, places_theirs}
+use Rattle.crash_core.proofs.BlockPlaces.{place_alone, place_theirs, places_mine, places_theirs}
 use Rattle.crash_core.proofs.ChosenLemmas.{class_goes, in_some, lists_go, lists_stay, no_spans}
-use Rattle.crash_core.proofs.HandSteps.{HasOwn, IsHanded, offer_stands}
+use Rattle.crash_core.proofs.HandSteps.{IsHanded, offer_stands}
 use Rattle.crash_core.proofs.StandingLemmas.{among, memory_in}
 
 pub held_is : (p : BlockPlace) → 0 < held_in p → p ≡ place.Held

@@ -1,7 +1,7 @@
-use Rattle.std.proofs.Common.{◌≡◌, Bool, true, false, refl, ap, sym, subst, ◌∙◌, true≢false, get_or, arith}
+use Rattle.std.proofs.Common.{ap, sym, ◌∙◌, true≢false}
 use Rattle.heap_model.specs.Counting.{one_if}
 use Rattle.core_model.specs.declared.answer.StepAnswer.TheVariants.{Done}
-use Rattle.crash_core.specs.Standing.{held_in, no_block, place_for}
+use Rattle.crash_core.specs.Standing.{held_in}
 use Rattle.crash_core.proofs.OfferDecision.{offer_stopped, offer_no_ticket, offer_not_held, offered_core, no_ticket, seat_of}
 use Rattle.crash_core.proofs.StandingLemmas.{among, seat_is}
 use Rattle.crash_core.proofs.handing.offer.Goals as goal

@@ -1,4 +1,4 @@
-use Rattle.std.proofs.Common.{◌<◌, ◌-◌, ◌/◌, ap, sym, subst, ◌∙◌, arith}
+use Rattle.std.proofs.Common.{◌-◌, ◌/◌, ap, sym, subst, ◌∙◌, arith}
 use Rattle.heap_model.specs.Sizes.{IsClass}
 use Rattle.core_model.specs.Memory.{info}
 use Rattle.crash_core.specs.Standing.{memory_at}

@@ -1,4 +1,4 @@
-use Rattle.std.proofs.Common.{◌<◌, ◌-◌, ◌/◌, get_or, refl, ap, sym, subst, true≢false, arith}
+use Rattle.std.proofs.Common.{◌-◌, ◌/◌, get_or, refl, ap, sym, true≢false, arith}
 use Rattle.seat_notes.proofs.DecisionLemmas.{refused}
 use Rattle.seat_notes.proofs.WordLemmas.{entry_there}
 use Rattle.crash_core.proofs.MoveSteps.{alloc_fits}

@@ -1,6 +1,4 @@
-use Rattle.std.proofs.Common.{sym, ◌∙◌}
-use Rattle.core_model.specs.Opening.{setup_of, opened_view}
-use Rattle.core_model.proofs.OpenLemmas.{length_tabulate}
+use Rattle.std.proofs.Common.{sym}
 use Rattle.crash_core.proofs.heap_core.Core.of.Goals as goal
 
 pub returns-clause-seats : goal.returns-clause-seats
