@@ -1,0 +1,4 @@
+pub mod Closing
+pub mod Pairs
+pub mod Words
+pub mod Working
