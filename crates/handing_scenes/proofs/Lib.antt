@@ -1,0 +1,4 @@
+pub mod CountLemmas
+pub mod ListLemmas
+pub mod OpenLemmas
+pub mod QueueLemmas
