@@ -7,7 +7,7 @@
 # make schedules  runs the schedules of docs/ALGORITHM.md, and compares their answers
 # make compare  holds the program against a second reading of the format, over damaged images, random traces and schedules, for a minute
 # make kills   kills the program at random moments of a run, and counts which images and temporaries that leaves
-# make soak    runs random traces with one to eight workers for ten minutes (MINUTES), and holds each answer against a second reading; then threads that allocate and free at random, for one minute
+# make soak    runs random traces with one to eight workers for ten minutes (MINUTES), and holds each answer against a second reading; then threads that allocate and free at random, and threads that hand blocks round, for one minute each
 # make clean   removes what these made
 .PHONY: all test demo check bench faults schedules compare kills soak clean
 
@@ -49,6 +49,7 @@ MINUTES = 10
 soak: bin/heap_tool
 	tools/soak $(MINUTES)
 	tools/seats 1
+	tools/hands 1
 
 clean:
 	rm -rf bin crates/*/out
