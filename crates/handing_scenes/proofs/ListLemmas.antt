@@ -1,5 +1,5 @@
 -- Carriers in a row, of which the first is taken, and seats of which the last is.
-use Rattle.std.proofs.Common.{◌≡◌, ◌+◌, ◌-◌, List, [], ◌∷◌, ◌++◌, All, length, length-append, get_or, ap, subst, ◌∙◌, arith}
+use Rattle.std.proofs.Common.{◌≡◌, ◌-◌, List, [], ◌∷◌, ◌++◌, length, length-append, get_or, ap, subst, ◌∙◌, arith}
 use Rattle.std.specs.Prelude.{IfSome, None, Option, Some, option_to_list}
 use Rattle.std.proofs.lemmas.List.Elements.{All-head, All-tail}
 use Rattle.std.proofs.Math.Seq.{get_or-append_seam}

@@ -1,5 +1,5 @@
 -- A queue whose carriers are all of one heap, behind a push and a pop.
-use Rattle.std.proofs.Common.{◌≡◌, ℕ, suc, ◌∷◌, ◌++◌, [], List, ap, sym, ◌∙◌, ⊎_elim}
+use Rattle.std.proofs.Common.{◌≡◌, suc, ◌∷◌, ◌++◌, [], List, ap, sym, ◌∙◌, ⊎_elim}
 use Rattle.atomic_table.specs.Seated.{TableId}
 use Rattle.crossbeam_queue.proofs.Lists.{at_snoc}
 use Rattle.heap_rule.specs.Carried.{CarrierView}

@@ -1,4 +1,3 @@
-use Rattle.std.proofs.Common.{All}
 use Rattle.std.proofs.lemmas.List.Elements.{All-drop, All-same}
 use Rattle.handing_scenes.specs.Handing.{IsHandOf}
 use Rattle.handing_scenes.proofs.ring.next_hand.Goals as goal
