@@ -1,6 +1,6 @@
 //! Marks, one bit each, in words of 64.
 
-ghost use Rattle.std.specs.Prelude.{◌≡◌, ◌<◌, ◌/◌, ℕ, get_or, length, replicate, slice_set, true, false, IfOk, IfSome, IsNone};
+ghost use Rattle.std.specs.Prelude.{◌≡◌, ◌≢◌, ◌<◌, ◌*◌, ◌/◌, ℕ, get_or, length, replicate, slice_set, true, false, IfOk, IfSome, IsNone};
 ghost use Rattle.bit_marks.specs.Marks.{is_one};
 
 use std::alloc::{AllocError, Global};
@@ -8,6 +8,9 @@ use std::marker::Model;
 
 /// How many marks a word holds.
 const WORD: u64 = 64;
+
+/// The marks of eight numbers.
+const EIGHT: u64 = 255;
 
 /// A mark for each number below a length.
 #[derive(Drop)]
@@ -80,6 +83,18 @@ impl BitMarks {
     {
         let at = (n / WORD) as usize;
         self.words[at] = self.words[at] | 1 << (n % WORD);
+    }
+
+    /// Marks the numbers of a group of eight, as 8 to 15 are those of group 1.
+    pub fn set_eight(&mut self, eight: u64)
+        requires { 8 * eight < length self.old }
+        ensures len { length self.new ≡ length self.old }
+        ensures inside { (n : ℕ) → n < length self.old → n / 8 ≡ eight
+            → get_or self.new n false ≡ true }
+        ensures others { (n : ℕ) → n / 8 ≢ eight → get_or self.new n false ≡ get_or self.old n false }
+    {
+        let at = (eight / 8) as usize;
+        self.words[at] = self.words[at] | EIGHT << (8 * (eight % 8));
     }
 
     /// Takes the number's mark back.

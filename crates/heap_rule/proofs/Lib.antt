@@ -32,6 +32,7 @@ pub mod OwnedReads
 pub mod HeldMarks
 pub mod OwnedOpening
 pub mod FenceLemmas
+pub mod AgreeLemmas
 pub mod DrawLemmas
 pub mod HeldLemmas
 pub mod CrashLemmas

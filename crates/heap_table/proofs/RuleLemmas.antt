@@ -1,14 +1,15 @@
 -- A step that a seat may do in every sound state is one that the rule of the table allows.
-use Rattle.std.proofs.Common.{length-set, ◌≡◌, ℕ, List, [], ◌∷◌, get_or, set, refl, ap, sym, subst, ◌∙◌, arith}
+use Rattle.std.proofs.Common.{length-set, ◌≡◌, ℕ, ◌<◌, ◌⊎◌, inl, inr, List, [], ◌∷◌, get_or, set, refl, ap, sym, subst, ◌∙◌, arith}
+use Rattle.std.proofs.lemmas.Bool.{cases_eq, cases_lt}
 use Rattle.std.proofs.lemmas.List.{set-get_or, get_or-set_same}
 use Rattle.atomic_table.proofs.Lists.{set_again}
 use mathlib.Core.Option.{some}
 use lib.ListN.{get_elem?}
-use Rattle.atomic_table.specs.Table.{Allows, keeps}
+use Rattle.atomic_table.specs.Table.{Allows, keeps, stepped}
 use Rattle.core_model.specs.declared.event.Event.{Event}
 use Rattle.core_model.specs.Cells.{cell_at}
 use Rattle.core_model.specs.Memory.{memory_of}
-use Rattle.core_model.specs.View.{Setup, View}
+use Rattle.core_model.specs.View.{Setup, View, times_own}
 use Rattle.core_model.specs.Effects.{place_of, left_there, view_after}
 use Rattle.core_model.specs.Guards.{IsOwn, MayStep}
 use Rattle.core_model.specs.Sound.{Sound}
@@ -21,7 +22,7 @@ use Rattle.seat_notes.proofs.WordLemmas.{read_is}
 use Rattle.heap_table.specs.SeatViews.{SeatViews, IsSingle, all_views}
 use Rattle.heap_table.specs.Reached.{IsReached, by_event, by_record, learned}
 use Rattle.heap_table.specs.Rule.{Opening, HasAllSeats, Holds, setup_for, state_of}
-use Rattle.heap_table.specs.Plays.{HasSoundState, IsStepAt, Did, DidStore, DidRead, DidLearn}
+use Rattle.heap_table.specs.Plays.{HasSoundState, IsStepAt, Did, DidFind, DidStore, DidRead, DidLearn, DidLearnOwn, May, stored, may_not, another, own_word, no_own_word}
 use Rattle.heap_table.proofs.ReachedLemmas.{recorded_sound}
 use Rattle.heap_table.proofs.SeatViewsLemmas.{offset, offset_below, at_offset, set_offset}
 
@@ -157,3 +158,24 @@ allowed_learn o count id group slots v word single setup seat own s holds none a
         below = let l = length-set (all_views s.views) has.seat w in let b = has.below in omega arith;
         at = get_or-set_same (all_views s.views) has.seat w w has.below;
       }
+
+-- the same where the word is own
+pub allowed_learn_own : (o : Opening) (count id : ℕ) (group : SeatViews) (slots : List (ℕ × ℕ)) (v : View) (word : ℕ) → IsSingle group v → v.setup ≡ setup_for o
+    → Allows (Holds o) count id (group, slots) word (λ n. n) (λ found after. DidLearnOwn word (group, slots) found after)
+allowed_learn_own o count id group slots v word single setup s holds none at fits = elim (cases_lt 0 (times_own v (cell_at v.setup.capacity word))) [
+  | inl own ↦ let r = allowed_learn o count id group slots v word single setup own s holds none at fits in (r.0, r.1, r.2, r.3, own_word v single own r.4)
+  | inr not ↦ let r = allowed_read o count id group slots v word single setup s holds none at fits in (r.0, r.1, r.2, r.3, no_own_word v single (λ own. absurd (omega (arith, own, not))) r.4.same)
+]
+
+-- a load that finds what a store would leave is that store
+pub allowed_find : (o : Opening) (count id : ℕ) (group : SeatViews) (slots : List (ℕ × ℕ)) (v : View) (event : Event) (place value : ℕ) → IsSingle group v → v.setup ≡ setup_for o
+    → IsStepAt o v event place (λ _. value) ⊎ (May v event → ⊥)
+    → Allows (Holds o) count id (group, slots) place (λ n. n) (λ found after. DidFind event value (group, slots) found after)
+allowed_find o count id group slots v event place value single setup is s holds none at fits = elim (cases_eq (get_or s.words place 0) value) [
+  | inl same ↦ elim is [
+    | inl may ↦ let r = allowed o count id group slots v event place (λ _. value) single may s holds none at fits in
+        (r.0, r.1, r.2, subst (λ x. Holds o (stepped s place x id slots r.0 r.1)) (sym same) r.3, stored same r.4)
+    | inr not ↦ let r = allowed_read o count id group slots v place single setup s holds none at fits in (r.0, r.1, r.2, r.3, may_not same v single not r.4.same)
+  ]
+  | inr other ↦ let r = allowed_read o count id group slots v place single setup s holds none at fits in (r.0, r.1, r.2, r.3, another other r.4.same)
+]

@@ -1,6 +1,6 @@
 -- What a step at the table leaves a seat with.
 use prog.Atomic.{either}
-use Rattle.std.proofs.Common.{◌≡◌, ℕ, ◌+◌, ◌*◌, ◌%◌, ◌^◌, ◌<◌, ◌==◌, max, List, [], ◌∷◌, get_or, set, length, length-set, ap, sym, subst, ◌∙◌, arith, inl, inr}
+use Rattle.std.proofs.Common.{◌≡◌, ◌≢◌, ◌⊎◌, refl, ℕ, ◌+◌, ◌*◌, ◌%◌, ◌^◌, ◌<◌, ◌==◌, max, List, [], ◌∷◌, get_or, set, length, length-set, ap, sym, subst, ◌∙◌, arith, inl, inr}
 use Rattle.std.proofs.Math.Nat.{mod-eq_of_lt}
 use Rattle.std.proofs.lemmas.List.{get_or-set_same}
 use Rattle.heap_model.specs.Geometry.{image_words}
@@ -16,12 +16,16 @@ use Rattle.core_model.proofs.SoundLemmas.{in_length, in_table, taken, batched}
 use Rattle.core_model.specs.Guards.{MayLookAt}
 use Rattle.heap_table.specs.SeatViews.{SeatViews, IsSingle, all_views, view_in, nobody}
 use Rattle.heap_table.specs.Rule.{Opening, HasAllSeats, setup_for}
-use Rattle.heap_table.specs.Plays.{HasSoundState, May, IsEvent, IsStepAt, Did}
+use Rattle.heap_table.specs.Plays.{HasSoundState, May, IsEvent, IsStepAt, Did, DidFind, DidLearnOwn, stored, may_not, another, own_word, no_own_word}
+use Rattle.heap_table.specs.Reached.{learned}
 use Rattle.seat_notes.proofs.WordLemmas.{read_is}
 use Rattle.core_model.specs.Carriers.{AreSeatsAndCarriers}
+use Rattle.core_model.specs.Cells.{cell_at}
+use Rattle.core_model.specs.Guards.{IsOwn}
 use Rattle.core_model.proofs.CarrierLemmas.{same_roles, stopped_few}
 use Rattle.core_model.proofs.RoleLemmas.{Role, role, role_after}
-use Rattle.heap_table.specs.AtTable.{SharedView, IsAt, IsLook, IsDraw, IsRaise, IsExchange, IsStore}
+use Rattle.heap_table.specs.AtTable.{SharedView, IsAt, IsLook, IsDraw, IsRaise, IsExchange, IsStore, MayPut, may_put, DoesIfMay, does, does_not, LearnsOwn, is_own, not_own}
+use Rattle.heap_table.specs.AtTable as at_table
 
 -- the place of a step is one of the table
 pub place_below : (v : View) (event : Event) (place : ℕ) → HasSoundState v → May v event → place ≡ table_index v.setup.capacity (place_of v event) → place < table_length v.setup.capacity
@@ -150,3 +154,48 @@ store_at o v event place value setup seat may place_is store = record {
   place_is = place_is;
   leaves = λ words groups keeps s same all. subst (λ ws. value ≡ left_there (memory_of v.setup.capacity ws) v event (get_or words place 0)) same (sym (store s (get_or words place 0)));
 }
+
+-- a seat that stands for the same views
+pub after_same : (shared : SharedView) (table table' : TableId) (me me' : Me ℕ SeatViews) → IsAt shared table me (view_in me.0) → table' ≡ table → me' ≡ me → IsAt shared table' me' (view_in me'.0)
+after_same shared table table' me me' at same still = subst (λ (m : Me ℕ SeatViews). IsAt shared table' m (view_in m.0)) (sym still) (record { table_is = same ∙ at.table_is; single = at.single; no_slots = at.no_slots; setup = at.setup; has = at.has })
+
+pub after_learn_own : (shared : SharedView) (table table' : TableId) (word : ℕ) (me : Me ℕ SeatViews) (found : ℕ) (me' : Me ℕ SeatViews) → IsAt shared table me (view_in me.0) → table' ≡ table → DidLearnOwn word me found me'
+    → IsAt shared table' me' (view_in me'.0) × LearnsOwn word found (view_in me.0) (view_in me'.0)
+after_learn_own shared table table' word me found me' at same (no_own_word v single not still) =
+    (after_same shared table table' me me' at same still, not_own (subst (λ (u : View). IsOwn u (cell_at u.setup.capacity word) → ⊥) (sym (the_view me.0 v single)) not) (ap (λ (m : Me ℕ SeatViews). view_in m.0) still))
+after_learn_own shared table table' word me found me' at same (own_word v single own did) = (
+  record { table_is = same ∙ at.table_is; single = single'; no_slots = ap (λ (m : Me ℕ SeatViews). m.1) did.now ∙ at.no_slots; setup = ap (λ (u : View). u.setup) (left_is ∙ ap (λ u. learned u word found) (sym view_is)) ∙ at.setup; has = subst HasSoundState (sym left_is) did.has },
+  is_own (subst (λ (u : View). IsOwn u (cell_at u.setup.capacity word)) (sym (the_view me.0 v single)) own) (told.0) (told.1) (left_is ∙ ap (λ u. learned u word found) (sym view_is)),
+) where
+  view_is : view_in me.0 ≡ did.view
+  view_is = the_view me.0 did.view did.single
+
+  left_is : view_in me'.0 ≡ learned did.view word found
+  left_is = ap (λ (m : Me ℕ SeatViews). view_in m.0) did.now
+
+  single' : IsSingle me'.0 (view_in me'.0)
+  single' = ap (λ (m : Me ℕ SeatViews). m.0) did.now ∙ ap (λ u. u ∷ []) (sym left_is)
+
+  told : (s : HasSoundState (view_in me.0)) × (found ≡ get_or s.words word 0)
+  told = subst (λ (u : View). (s : HasSoundState u) × (found ≡ get_or s.words word 0)) (sym view_is) (did.before, did.found_is)
+
+pub put_at : (o : Opening) (v : View) (event : Event) (place value : ℕ) → v.setup ≡ setup_for o → MayPut event v place value → IsStepAt o v event place (λ _. value) ⊎ (May v event → ⊥)
+put_at o v event place value setup (may_put may place_is store) = inl (store_at o v event place value setup may place_is store)
+put_at o v event place value setup (at_table.may_not not) = inr not
+
+pub after_find : (shared : SharedView) (table table' : TableId) (event : Event) (value : ℕ) (me : Me ℕ SeatViews) (found : ℕ) (me' : Me ℕ SeatViews) → IsAt shared table me (view_in me.0) → table' ≡ table → DidFind event value me found me'
+    → IsAt shared table' me' (view_in me'.0)
+after_find shared table table' event value me found me' at same (stored is did) = (after_did shared table table' event me found me' at same did).at
+after_find shared table table' event value me found me' at same (may_not is v single not still) = after_same shared table table' me me' at same still
+after_find shared table table' event value me found me' at same (another other still) = after_same shared table table' me me' at same still
+
+pub found_there : (shared : SharedView) (table table' : TableId) (event : Event) (value : ℕ) (me : Me ℕ SeatViews) (found : ℕ) (me' : Me ℕ SeatViews) → IsAt shared table me (view_in me.0) → table' ≡ table → DidFind event value me found me'
+    → found ≡ value → DoesIfMay event (view_in me.0) (view_in me'.0)
+found_there shared table table' event value me found me' at same (stored is did) there = does found (after_did shared table table' event me found me' at same did).event_is
+found_there shared table table' event value me found me' at same (may_not is v single not still) there = does_not (subst (λ u. May u event → ⊥) (sym (the_view me.0 v single)) not) (ap (λ (m : Me ℕ SeatViews). view_in m.0) still)
+found_there shared table table' event value me found me' at same (another other still) there = absurd (other there)
+
+pub found_other : (event : Event) (value : ℕ) (me : Me ℕ SeatViews) (found : ℕ) (me' : Me ℕ SeatViews) → found ≢ value → DidFind event value me found me' → view_in me'.0 ≡ view_in me.0
+found_other event value me found me' other (stored is did) = absurd (other is)
+found_other event value me found me' other (may_not is v single not still) = absurd (other is)
+found_other event value me found me' other (another not still) = ap (λ (m : Me ℕ SeatViews). view_in m.0) still

@@ -1,5 +1,5 @@
 -- What contracts see of the table, when a seat of it may take a step, and what a step leaves of its word.
-use Rattle.std.specs.Prelude.{◌≡◌, ℕ, ◌+◌, ◌-◌, cond, nat_eq, max, List, [], ◌∷◌, ◌++◌, length}
+use Rattle.std.specs.Prelude.{◌≡◌, ℕ, ◌+◌, ◌-◌, cond, nat_eq, max, List, [], ◌∷◌, ◌++◌, get_or, length}
 use Rattle.heap_model.specs.Counting.{total}
 use Rattle.heap_model.specs.Geometry.{image_words}
 use Rattle.atomic_table.specs.Seated.{TableId}
@@ -7,12 +7,14 @@ use Rattle.atomic_table.specs.Table.{Me}
 use Rattle.core_model.specs.declared.event.Event.{Event}
 use Rattle.core_model.specs.Carriers.{AreSeatsAndCarriers}
 use Rattle.core_model.specs.Effects.{place_of, left_there}
-use Rattle.core_model.specs.Memory.{Memory, memory_of, tickets}
+use Rattle.core_model.specs.Cells.{cell_at}
+use Rattle.core_model.specs.Guards.{IsOwn}
+use Rattle.core_model.specs.Memory.{Memory, memory_of, table_index, tickets}
 use Rattle.core_model.specs.Sound.{Sound}
 use Rattle.core_model.specs.Steps.{found_by}
 use Rattle.core_model.specs.View.{Setup, View}
-use Rattle.heap_table.specs.Plays.{HasSoundState}
-use Rattle.heap_table.specs.Reached.{IsReached}
+use Rattle.heap_table.specs.Plays.{HasSoundState, IsEvent, May}
+use Rattle.heap_table.specs.Reached.{IsReached, learned}
 use Rattle.heap_table.specs.Rule.{Opening, setup_for, state_of}
 use Rattle.heap_table.specs.SeatViews.{SeatViews, IsSingle}
 
@@ -45,6 +47,21 @@ IsExchange event v seen new = (s : HasSoundState v) (found : ℕ) → found ≡ 
 
 abbrev pub IsStore : Event → View → ℕ → Type 0
 IsStore event v value = (s : HasSoundState v) (found : ℕ) → left_there (memory_of v.setup.capacity s.words) v event found ≡ value
+
+-- the seat may do the event, which stores the value there; or it may not do it
+pub data MayPut (event : Event) (v : View) (place value : ℕ) : Type 0 where
+  may_put : May v event → place ≡ table_index v.setup.capacity (place_of v event) → IsStore event v value → MayPut event v place value
+  may_not : (May v event → ⊥) → MayPut event v place value
+
+-- the event is done where the seat may do it, and else nothing
+pub data DoesIfMay (event : Event) (v w : View) : Type 0 where
+  does : (found : ℕ) → IsEvent event v found w → DoesIfMay event v w
+  does_not : (May v event → ⊥) → w ≡ v → DoesIfMay event v w
+
+-- what is found of a word is recorded where it is the seat's own, and else nothing
+pub data LearnsOwn (word found : ℕ) (v w : View) : Type 0 where
+  is_own : IsOwn v (cell_at v.setup.capacity word) → (s : HasSoundState v) → found ≡ get_or s.words word 0 → w ≡ learned v word found → LearnsOwn word found v w
+  not_own : (IsOwn v (cell_at v.setup.capacity word) → ⊥) → w ≡ v → LearnsOwn word found v w
 
 -- the volatile words of an image and the durable ones, with some ticket word, are sound with these seats
 pub record IsClosedSound (k : Setup) (now kept : List ℕ) (views : List View) : Type 0 where

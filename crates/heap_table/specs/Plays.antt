@@ -6,7 +6,8 @@ use Rattle.core_model.specs.Memory.{memory_of, table_index}
 use Rattle.core_model.specs.View.{View}
 use Rattle.core_model.specs.Carriers.{accepted, AreSeatsAndCarriers}
 use Rattle.core_model.specs.Effects.{place_of, left_there, view_after}
-use Rattle.core_model.specs.Guards.{MayStep}
+use Rattle.core_model.specs.Cells.{cell_at}
+use Rattle.core_model.specs.Guards.{IsOwn, MayStep}
 use Rattle.core_model.specs.Sound.{Sound}
 use Rattle.core_model.specs.Steps.{TableState, found_by, words_after}
 use Rattle.heap_table.specs.Reached.{learned}
@@ -113,3 +114,14 @@ pub record DidAccept (me : Me ℕ SeatViews) (me' : Me ℕ SeatViews) : Type 0 w
   pub now : me' ≡ (accepted seat carrier ∷ [], me.1)
   pub setup : carrier.setup ≡ seat.setup
   pub has : HasSoundState (accepted seat carrier)
+
+-- a word is read, and recorded where it is the seat's own
+pub data DidLearnOwn (word : ℕ) (me : Me ℕ SeatViews) (found : ℕ) (me' : Me ℕ SeatViews) : Type 0 where
+  own_word : (v : View) → IsSingle me.0 v → IsOwn v (cell_at v.setup.capacity word) → DidLearn word me found me' → DidLearnOwn word me found me'
+  no_own_word : (v : View) → IsSingle me.0 v → (IsOwn v (cell_at v.setup.capacity word) → ⊥) → me' ≡ me → DidLearnOwn word me found me'
+
+-- a load that finds the value which a store would leave there is that store, where the seat may do it; else nothing changes
+pub data DidFind (event : Event) (value : ℕ) (me : Me ℕ SeatViews) (found : ℕ) (me' : Me ℕ SeatViews) : Type 0 where
+  stored : found ≡ value → Did event me found me' → DidFind event value me found me'
+  may_not : found ≡ value → (v : View) → IsSingle me.0 v → (May v event → ⊥) → me' ≡ me → DidFind event value me found me'
+  another : found ≢ value → me' ≡ me → DidFind event value me found me'

@@ -1,12 +1,12 @@
 //! The atomic steps on a word of the shared table, each as the event that it is told to be.
 
-ghost use Rattle.std.specs.Prelude.{◌≡◌, ◌<◌, ◌+◌, ◌%◌, ◌^◌, ◌==◌, max};
+ghost use Rattle.std.specs.Prelude.{◌≡◌, ◌<◌, ◌+◌, ◌%◌, ◌^◌, ◌==◌, ◌⊎◌, max};
 ghost use prog.Atomic.{either};
 ghost use Rattle.core_model.specs.Cells.{cell_at};
 ghost use Rattle.core_model.specs.Guards.{IsOwn};
 ghost use Rattle.core_model.specs.View.{View};
 ghost use Rattle.heap_table.specs.SeatViews.{IsSingle};
-ghost use Rattle.heap_table.specs.Plays.{Did, DidStore, DidRead, DidLearn, IsStepAt};
+ghost use Rattle.heap_table.specs.Plays.{Did, DidFind, DidStore, DidRead, DidLearn, DidLearnOwn, IsStepAt, May};
 ghost use Rattle.heap_table.specs.Rule.{setup_for};
 
 use crate::rule::{Known, TableSeat, Words};
@@ -183,4 +183,74 @@ pub(crate) fn store_as<J: ProofEvent>(
     ensures table { seat.new.table_id ≡ seat.old.table_id }
 {
     shared.store::<StoreIs<J>>(seat, place, value);
+}
+
+/// What a read that is recorded of own words tells its caller.
+pub struct LearnsOwn;
+
+impl Play<u8, Known> for LearnsOwn {
+    ghost use Rattle.heap_table.specs.Plays.{DidLearnOwn};
+
+    ghost then = { λ step me found after. DidLearnOwn step.word me found after };
+}
+
+/// Reads a word, and records it in the seat's view where it is its own.
+pub(crate) fn learn_own_as(shared: &Words, seat: &mut TableSeat, word: usize) -> u64
+    requires table { seat.old.table_id ≡ shared.now.table_id }
+    requires inside { word < shared.now.table_id.words }
+    requires single { (v : View) × IsSingle seat.old.me.0 v
+        × (v.setup ≡ setup_for shared.now.key) }
+    ensures did { DidLearnOwn word seat.old.me result seat.new.me }
+    ensures table { seat.new.table_id ≡ seat.old.table_id }
+{
+    shared.load::<LearnsOwn>(seat, word)
+}
+
+/// A store with its value, for the proof alone.
+pub trait ProofStore {
+    ghost use Rattle.std.specs.Prelude.{ℕ};
+    ghost use Rattle.core_model.specs.declared.event.Event.{Event};
+
+    ghost event: { Event };
+
+    ghost value: { ℕ };
+}
+
+impl ProofStore for Brand {
+    ghost use Rattle.core_model.specs.declared.event.Event.TheVariants.{LookUsed};
+
+    ghost event = { LookUsed };
+
+    ghost value = { 0 };
+}
+
+/// What a load tells its caller that is a store where it finds the value to be stored.
+pub struct Finds<J: ProofStore> {
+    marker: PhantomData<J>,
+}
+
+impl<J: ProofStore> Play<u8, Known> for Finds<J> {
+    ghost use Rattle.heap_table.specs.Plays.{DidFind};
+
+    ghost then = { λ _ me found after. DidFind J.event J.value me found after };
+}
+
+/// Loads a word: where it has the value already, that is the store of it.
+pub(crate) fn find_as<J: ProofStore>(
+    shared: &Words,
+    seat: &mut TableSeat,
+    place: usize,
+    _value: u64,
+    _event: Event,
+) -> u64
+    requires table { seat.old.table_id ≡ shared.now.table_id }
+    requires told { J.event ≡ _event }
+    requires told_value { J.value ≡ _value }
+    requires inside { place < shared.now.table_id.words }
+    requires step { (v : View) × IsSingle seat.old.me.0 v × (v.setup ≡ setup_for shared.now.key)
+        × (IsStepAt shared.now.key v _event place (λ _. _value) ⊎ (May v _event → ⊥)) }
+    ensures did { DidFind _event _value seat.old.me result seat.new.me }
+    ensures table { seat.new.table_id ≡ seat.old.table_id }
+{
+    shared.load::<Finds<J>>(seat, place)
 }

@@ -1,6 +1,6 @@
 //! The steps of a seat at the table, each of which is one event.
 
-ghost use Rattle.std.specs.Prelude.{◌≡◌, ◌<◌, ℕ, get_or};
+ghost use Rattle.std.specs.Prelude.{◌≡◌, ◌<◌, ℕ, get_or, true, false};
 ghost use Rattle.core_model.specs.Cells.{cell_at};
 ghost use Rattle.core_model.specs.Effects.{place_of};
 ghost use Rattle.core_model.specs.Guards.{IsOwn};
@@ -8,9 +8,11 @@ ghost use Rattle.core_model.specs.Memory.{table_index, table_length};
 ghost use Rattle.heap_table.specs.SeatViews.{view_in};
 ghost use Rattle.heap_table.specs.Plays.{HasSoundState, IsEvent, May};
 ghost use Rattle.heap_table.specs.Reached.{learned};
-ghost use Rattle.heap_table.specs.AtTable.{IsAt, IsLook, IsDraw, IsRaise, IsExchange, IsStore};
+ghost use Rattle.heap_table.specs.AtTable.{IsAt, IsLook, IsDraw, IsRaise, IsExchange, IsStore, LearnsOwn, MayPut, DoesIfMay};
 
-use crate::plays::{draw_as, exchange_as, learn_as, load_as, raise_as, read_as, store_as};
+use crate::plays::{
+    draw_as, exchange_as, find_as, learn_as, learn_own_as, load_as, raise_as, read_as, store_as,
+};
 use crate::rule::TableSeat;
 use crate::shared::Shared;
 use core_model::Event;
@@ -111,4 +113,34 @@ pub fn store(shared: &Shared, seat: &mut TableSeat, place: u64, value: u64, even
         (view_in seat.new.me.0) }
 {
     store_as::<Brand>(&shared.table.shared, seat, place as usize, value, event);
+}
+
+/// Reads a word, and records it in the seat's view where it is its own.
+pub fn learn_own(shared: &Shared, seat: &mut TableSeat, word: u64) -> u64
+    requires at { IsAt shared.now seat.old.table_id seat.old.me (view_in seat.old.me.0) }
+    requires inside { word < table_length (view_in seat.old.me.0).setup.capacity }
+    ensures at { IsAt shared.now seat.new.table_id seat.new.me (view_in seat.new.me.0) }
+    ensures learned { LearnsOwn word result (view_in seat.old.me.0) (view_in seat.new.me.0) }
+{
+    learn_own_as(&shared.table.shared, seat, word as usize)
+}
+
+/// Whether a word has the value that a store would leave there: then that is the store, where the
+/// seat may do it.
+pub fn stands(
+    shared: &Shared,
+    seat: &mut TableSeat,
+    place: u64,
+    value: u64,
+    event: Event,
+) -> bool
+    requires at { IsAt shared.now seat.old.table_id seat.old.me (view_in seat.old.me.0) }
+    requires inside { place < table_length (view_in seat.old.me.0).setup.capacity }
+    requires put { MayPut event (view_in seat.old.me.0) place value }
+    ensures at { IsAt shared.now seat.new.table_id seat.new.me (view_in seat.new.me.0) }
+    ensures there { result ≡ true
+        → DoesIfMay event (view_in seat.old.me.0) (view_in seat.new.me.0) }
+    ensures other { result ≡ false → view_in seat.new.me.0 ≡ view_in seat.old.me.0 }
+{
+    find_as::<Brand>(&shared.table.shared, seat, place as usize, value, event) == value
 }

@@ -25,6 +25,9 @@ pub struct Pending {
     groups: BitMarks,
     listed: Vec<bool>,
     pages: Vec<u64>,
+    /// The group that is looked at first: of the line that was marked last, or of the word that was
+    /// found last.
+    latest: u64,
 }
 
 impl Model for Pending {
@@ -50,6 +53,7 @@ impl Pending {
             groups: BitMarks::new(alloc, (words as u64).div_ceil(GROUP))?,
             listed: vec![in alloc; false; pages]?,
             pages: Vec::with_capacity(alloc, pages)?,
+            latest: 0,
         })
     }
 
@@ -61,8 +65,9 @@ impl Pending {
         ensures others { (k : ℕ) → k / 8 ≢ line → mark_at self.new k ≡ mark_at self.old k }
     {
         let page = line / (PAGE / LINE);
-        mark_words(&mut self.marks, line);
-        self.groups.set(line / (GROUP / LINE));
+        self.marks.set_eight(line);
+        self.latest = line / (GROUP / LINE);
+        self.groups.set(self.latest);
         if !self.listed[page as usize] {
             self.listed[page as usize] = true;
             self.pages.push_reserved(page);
@@ -84,9 +89,14 @@ impl Pending {
         ensures none { IsNone result
             → ((word : ℕ) → mark_at self.old word ≡ false) × (self.new ≡ self.old) }
     {
+        if let Some(word) = self.marks.first_in(self.latest) {
+            self.marks.clear(word);
+            return Some(word);
+        }
         while let Some(page) = self.pages.pop() {
             if let Some(word) = first_marked(&self.marks, &mut self.groups, page) {
                 self.pages.push_reserved(page);
+                self.latest = word / GROUP;
                 self.marks.clear(word);
                 return Some(word);
             }
@@ -107,21 +117,6 @@ impl Pending {
         while let Some(word) = self.take_marked() {
             durable[word as usize] = volatile[word as usize];
         }
-    }
-}
-
-/// Marks the words of the line.
-fn mark_words(marks: &mut BitMarks, line: u64)
-    requires { 8 * line < length marks.old }
-    ensures len { length marks.new ≡ length marks.old }
-    ensures in_line { (k : ℕ) → k < length marks.old → k / 8 ≡ line → IsMarked marks.new k }
-    ensures others { (k : ℕ) → k / 8 ≢ line → mark_at marks.new k ≡ mark_at marks.old k }
-{
-    let length = marks.len();
-    let first = LINE * line;
-    let count = LINE.min(length - first);
-    for word in first..first + count {
-        marks.set(word);
     }
 }
 

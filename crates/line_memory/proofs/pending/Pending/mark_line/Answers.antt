@@ -20,10 +20,10 @@ invariant_of-self c =
     let within = page_within c.self.inside.marks _ _ _ (c.args.line / 512) h inside in
     let off = read_is _ _ _ _ within c.index.ensures c.if-not-index.true in
     let p = c.push_reserved.ensures in
-    let same : (k : ℕ) → k / 4096 ≢ c.args.line / 512 → get_or c.mark_words.new.marks k false ≡ get_or c.self.inside.marks k false =
-    λ k other. c.mark_words.ensures.others k (λ here. other (omega (arith, here))) in (
-      subst (λ (gs : List Bool). CoversGroups c.mark_words.new.marks gs) (sym c.set.ensures)
-          (cover_line c.self.inside.marks c.mark_words.new.marks c.self.inside.groups c.args.line c.self.invariant.0 c.mark_words.ensures.len l c.mark_words.ensures.others),
-      marked_first c.self.inside.marks c.self.inside.marks c.mark_words.new.marks _ _ _ _ _ (c.args.line / 512) h
-          refl c.mark_words.ensures.len same off inside (omega (arith, p.capacity)) p.items,
+    let same : (k : ℕ) → k / 4096 ≢ c.args.line / 512 → get_or c.set_eight.new.self k false ≡ get_or c.self.inside.marks k false =
+    λ k other. c.set_eight.ensures.others k (λ here. other (omega (arith, here))) in (
+      subst (λ (gs : List Bool). CoversGroups c.set_eight.new.self gs) (sym c.set.ensures)
+          (cover_line c.self.inside.marks c.set_eight.new.self c.self.inside.groups c.args.line c.self.invariant.0 c.set_eight.ensures.len l c.set_eight.ensures.others),
+      marked_first c.self.inside.marks c.self.inside.marks c.set_eight.new.self _ _ _ _ _ (c.args.line / 512) h
+          refl c.set_eight.ensures.len same off inside (omega (arith, p.capacity)) p.items,
     )
