@@ -1,5 +1,5 @@
 -- A step that a seat may do in every sound state is one that the rule of the table allows.
-use Rattle.std.proofs.Common.{length-set, ◌≡◌, ℕ, ◌<◌, ◌⊎◌, inl, inr, List, [], ◌∷◌, get_or, set, refl, ap, sym, subst, ◌∙◌, arith}
+use Rattle.std.proofs.Common.{length-set, ◌≡◌, ℕ, ◌⊎◌, inl, inr, List, [], ◌∷◌, get_or, set, refl, ap, sym, subst, ◌∙◌, arith}
 use Rattle.std.proofs.lemmas.Bool.{cases_eq, cases_lt}
 use Rattle.std.proofs.lemmas.List.{set-get_or, get_or-set_same}
 use Rattle.atomic_table.proofs.Lists.{set_again}
@@ -105,16 +105,23 @@ allowed_store o count id group slots v event place value single is s holds none 
     let r = allowed o count id group slots v event place (λ _. value) single is s holds none at fits in
     (r.0, r.1, r.2, r.3, record { found = get_or s.words place 0; did = r.4 })
 
--- a read that changes nothing
-pub allowed_read : (o : Opening) (count id : ℕ) (group : SeatViews) (slots : List (ℕ × ℕ)) (v : View) (place : ℕ) → IsSingle group v → v.setup ≡ setup_for o → v.carries ≡ 0
-    → Allows (Holds o) count id (group, slots) place (λ n. n) (λ found after. DidRead place (group, slots) found after)
-allowed_read o count id group slots v place single setup seat s holds none at fits = (
+-- a load that changes nothing and records nothing, of whatever the seat of the table stands for
+pub allowed_load : (o : Opening) (count id : ℕ) (group : SeatViews) (slots : List (ℕ × ℕ)) (place : ℕ)
+    → Allows (Holds o) count id (group, slots) place (λ n. n) (λ _ after. after ≡ (group, slots))
+allowed_load o count id group slots place s holds none at fits = (
   group,
   keeps,
   tt,
   subst (λ ws. HasAllSeats o ws (set s.views id group)) (sym (set-get_or s.words place 0)) (subst (λ js. HasAllSeats o s.words js) (sym (set_again s.views id group at)) holds),
-  record { same = refl; view = v; single = single; has = state_with o s.words s.views id group v setup seat holds at single; found_is = refl },
+  refl,
 )
+
+-- a read that changes nothing
+pub allowed_read : (o : Opening) (count id : ℕ) (group : SeatViews) (slots : List (ℕ × ℕ)) (v : View) (place : ℕ) → IsSingle group v → v.setup ≡ setup_for o → v.carries ≡ 0
+    → Allows (Holds o) count id (group, slots) place (λ n. n) (λ found after. DidRead place (group, slots) found after)
+allowed_read o count id group slots v place single setup seat s holds none at fits =
+    let r = allowed_load o count id group slots place s holds none at fits in
+    (r.0, r.1, r.2, r.3, record { same = r.4; view = v; single = single; has = state_with o s.words s.views id group v setup seat holds at single; found_is = refl })
 
 -- a read of an own word that is recorded
 pub allowed_learn : (o : Opening) (count id : ℕ) (group : SeatViews) (slots : List (ℕ × ℕ)) (v : View) (word : ℕ) → IsSingle group v → v.setup ≡ setup_for o → v.carries ≡ 0 → IsOwn v (cell_at v.setup.capacity word)
@@ -160,22 +167,22 @@ allowed_learn o count id group slots v word single setup seat own s holds none a
       }
 
 -- the same where the word is own
-pub allowed_learn_own : (o : Opening) (count id : ℕ) (group : SeatViews) (slots : List (ℕ × ℕ)) (v : View) (word : ℕ) → IsSingle group v → v.setup ≡ setup_for o
+pub allowed_learn_own : (o : Opening) (count id : ℕ) (group : SeatViews) (slots : List (ℕ × ℕ)) (v : View) (word : ℕ) → IsSingle group v → v.setup ≡ setup_for o → v.carries ≡ 0
     → Allows (Holds o) count id (group, slots) word (λ n. n) (λ found after. DidLearnOwn word (group, slots) found after)
-allowed_learn_own o count id group slots v word single setup s holds none at fits = elim (cases_lt 0 (times_own v (cell_at v.setup.capacity word))) [
-  | inl own ↦ let r = allowed_learn o count id group slots v word single setup own s holds none at fits in (r.0, r.1, r.2, r.3, own_word v single own r.4)
-  | inr not ↦ let r = allowed_read o count id group slots v word single setup s holds none at fits in (r.0, r.1, r.2, r.3, no_own_word v single (λ own. absurd (omega (arith, own, not))) r.4.same)
+allowed_learn_own o count id group slots v word single setup seat s holds none at fits = elim (cases_lt 0 (times_own v (cell_at v.setup.capacity word))) [
+  | inl own ↦ let r = allowed_learn o count id group slots v word single setup seat own s holds none at fits in (r.0, r.1, r.2, r.3, own_word v single own r.4)
+  | inr not ↦ let r = allowed_load o count id group slots word s holds none at fits in (r.0, r.1, r.2, r.3, no_own_word v single (λ own. absurd (omega (arith, own, not))) r.4)
 ]
 
 -- a load that finds what a store would leave is that store
-pub allowed_find : (o : Opening) (count id : ℕ) (group : SeatViews) (slots : List (ℕ × ℕ)) (v : View) (event : Event) (place value : ℕ) → IsSingle group v → v.setup ≡ setup_for o
+pub allowed_find : (o : Opening) (count id : ℕ) (group : SeatViews) (slots : List (ℕ × ℕ)) (v : View) (event : Event) (place value : ℕ) → IsSingle group v
     → IsStepAt o v event place (λ _. value) ⊎ (May v event → ⊥)
     → Allows (Holds o) count id (group, slots) place (λ n. n) (λ found after. DidFind event value (group, slots) found after)
-allowed_find o count id group slots v event place value single setup is s holds none at fits = elim (cases_eq (get_or s.words place 0) value) [
+allowed_find o count id group slots v event place value single is s holds none at fits = elim (cases_eq (get_or s.words place 0) value) [
   | inl same ↦ elim is [
     | inl may ↦ let r = allowed o count id group slots v event place (λ _. value) single may s holds none at fits in
         (r.0, r.1, r.2, subst (λ x. Holds o (stepped s place x id slots r.0 r.1)) (sym same) r.3, stored same r.4)
-    | inr not ↦ let r = allowed_read o count id group slots v place single setup s holds none at fits in (r.0, r.1, r.2, r.3, may_not same v single not r.4.same)
+    | inr not ↦ let r = allowed_load o count id group slots place s holds none at fits in (r.0, r.1, r.2, r.3, may_not same v single not r.4)
   ]
-  | inr other ↦ let r = allowed_read o count id group slots v place single setup s holds none at fits in (r.0, r.1, r.2, r.3, another other r.4.same)
+  | inr other ↦ let r = allowed_load o count id group slots place s holds none at fits in (r.0, r.1, r.2, r.3, another other r.4)
 ]

@@ -1,6 +1,6 @@
 -- What a step at the table leaves a seat with.
 use prog.Atomic.{either}
-use Rattle.std.proofs.Common.{◌≡◌, ◌≢◌, ◌⊎◌, refl, ℕ, ◌+◌, ◌*◌, ◌%◌, ◌^◌, ◌<◌, ◌==◌, max, List, [], ◌∷◌, get_or, set, length, length-set, ap, sym, subst, ◌∙◌, arith, inl, inr}
+use Rattle.std.proofs.Common.{◌≡◌, ◌≢◌, ◌⊎◌, ℕ, ◌+◌, ◌*◌, ◌%◌, ◌^◌, ◌<◌, ◌==◌, max, List, [], ◌∷◌, get_or, set, length, length-set, ap, sym, subst, ◌∙◌, arith, inl, inr}
 use Rattle.std.proofs.Math.Nat.{mod-eq_of_lt}
 use Rattle.std.proofs.lemmas.List.{get_or-set_same}
 use Rattle.heap_model.specs.Geometry.{image_words}
@@ -179,9 +179,9 @@ after_learn_own shared table table' word me found me' at same (own_word v single
   told : (s : HasSoundState (view_in me.0)) × (found ≡ get_or s.words word 0)
   told = subst (λ (u : View). (s : HasSoundState u) × (found ≡ get_or s.words word 0)) (sym view_is) (did.before, did.found_is)
 
-pub put_at : (o : Opening) (v : View) (event : Event) (place value : ℕ) → v.setup ≡ setup_for o → MayPut event v place value → IsStepAt o v event place (λ _. value) ⊎ (May v event → ⊥)
-put_at o v event place value setup (may_put may place_is store) = inl (store_at o v event place value setup may place_is store)
-put_at o v event place value setup (at_table.may_not not) = inr not
+pub put_at : (o : Opening) (v : View) (event : Event) (place value : ℕ) → v.setup ≡ setup_for o → v.carries ≡ 0 → MayPut event v place value → IsStepAt o v event place (λ _. value) ⊎ (May v event → ⊥)
+put_at o v event place value setup seat (may_put may place_is store) = inl (store_at o v event place value setup seat may place_is store)
+put_at o v event place value setup seat (at_table.may_not not) = inr not
 
 pub after_find : (shared : SharedView) (table table' : TableId) (event : Event) (value : ℕ) (me : Me ℕ SeatViews) (found : ℕ) (me' : Me ℕ SeatViews) → IsAt shared table me (view_in me.0) → table' ≡ table → DidFind event value me found me'
     → IsAt shared table' me' (view_in me'.0)

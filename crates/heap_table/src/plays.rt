@@ -6,7 +6,7 @@ ghost use Rattle.core_model.specs.Cells.{cell_at};
 ghost use Rattle.core_model.specs.Guards.{IsOwn};
 ghost use Rattle.core_model.specs.View.{View};
 ghost use Rattle.heap_table.specs.SeatViews.{IsSingle};
-ghost use Rattle.heap_table.specs.Plays.{Did, DidFind, DidStore, DidRead, DidLearn, DidLearnOwn, IsStepAt, May};
+ghost use Rattle.heap_table.specs.Plays.{Did, DidFind, DidStore, DidRead, DidLearn, IsStepAt, May};
 ghost use Rattle.heap_table.specs.Rule.{setup_for};
 
 use crate::rule::{Known, TableSeat, Words};
@@ -192,18 +192,6 @@ impl Play<u8, Known> for LearnsOwn {
     ghost use Rattle.heap_table.specs.Plays.{DidLearnOwn};
 
     ghost then = { λ step me found after. DidLearnOwn step.word me found after };
-}
-
-/// Reads a word, and records it in the seat's view where it is its own.
-pub(crate) fn learn_own_as(shared: &Words, seat: &mut TableSeat, word: usize) -> u64
-    requires table { seat.old.table_id ≡ shared.now.table_id }
-    requires inside { word < shared.now.table_id.words }
-    requires single { (v : View) × IsSingle seat.old.me.0 v
-        × (v.setup ≡ setup_for shared.now.key) }
-    ensures did { DidLearnOwn word seat.old.me result seat.new.me }
-    ensures table { seat.new.table_id ≡ seat.old.table_id }
-{
-    shared.load::<LearnsOwn>(seat, word)
 }
 
 /// A store with its value, for the proof alone.

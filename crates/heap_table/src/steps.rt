@@ -10,9 +10,8 @@ ghost use Rattle.heap_table.specs.Plays.{HasSoundState, IsEvent, May};
 ghost use Rattle.heap_table.specs.Reached.{learned};
 ghost use Rattle.heap_table.specs.AtTable.{IsAt, IsLook, IsDraw, IsRaise, IsExchange, IsStore, LearnsOwn, MayPut, DoesIfMay};
 
-use crate::plays::{
-    draw_as, exchange_as, find_as, learn_as, learn_own_as, load_as, raise_as, read_as, store_as,
-};
+use crate::plays;
+use crate::plays::{draw_as, exchange_as, find_as, learn_as, load_as, raise_as, read_as, store_as};
 use crate::rule::TableSeat;
 use crate::shared::Shared;
 use core_model::Event;
@@ -122,18 +121,15 @@ pub fn learn_own(shared: &Shared, seat: &mut TableSeat, word: u64) -> u64
     ensures at { IsAt shared.now seat.new.table_id seat.new.me (view_in seat.new.me.0) }
     ensures learned { LearnsOwn word result (view_in seat.old.me.0) (view_in seat.new.me.0) }
 {
-    learn_own_as(&shared.table.shared, seat, word as usize)
+    shared
+        .table
+        .shared
+        .load::<plays::LearnsOwn>(seat, word as usize)
 }
 
 /// Whether a word has the value that a store would leave there: then that is the store, where the
 /// seat may do it.
-pub fn stands(
-    shared: &Shared,
-    seat: &mut TableSeat,
-    place: u64,
-    value: u64,
-    event: Event,
-) -> bool
+pub fn stands(shared: &Shared, seat: &mut TableSeat, place: u64, value: u64, event: Event) -> bool
     requires at { IsAt shared.now seat.old.table_id seat.old.me (view_in seat.old.me.0) }
     requires inside { place < table_length (view_in seat.old.me.0).setup.capacity }
     requires put { MayPut event (view_in seat.old.me.0) place value }

@@ -8,7 +8,7 @@ use Rattle.heap_table.proofs.steps.stands.Goals as goal
 
 pub find_as-requires-clause-step : goal.find_as-requires-clause-step
 find_as-requires-clause-step c = let setup = c.requires.at.setup ∙ sym (ap (λ (s : SharedView). setup_for s.opening) c.shared.view_is) in
-    (view_in c.args.seat.now.me.0, c.requires.at.single, setup, put_at c.shared.inside.table.shared.key (view_in c.args.seat.now.me.0) c.args.event c.args.place c.args.value setup c.requires.put)
+    (view_in c.args.seat.now.me.0, c.requires.at.single, setup, put_at c.shared.inside.table.shared.key (view_in c.args.seat.now.me.0) c.args.event c.args.place c.args.value setup c.requires.at.has.is_seat c.requires.put)
 
 pub returns-clause-at : goal.returns-clause-at
 returns-clause-at c = after_find c.args.shared.now c.args.seat.now.table_id c.find_as.new.seat.table_id c.args.event c.args.value c.args.seat.now.me c.find_as.result c.find_as.new.seat.me c.requires.at c.find_as.ensures.table c.find_as.ensures.did
