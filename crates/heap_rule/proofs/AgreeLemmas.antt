@@ -4,8 +4,6 @@ use Rattle.heap_model.specs.Geometry.{image_words}
 use Rattle.atomic_table.specs.Seated.{TableId}
 use Rattle.atomic_table.specs.Table.{Me}
 use Rattle.core_model.specs.declared.event.Event.TheVariants.{Settle}
-use Rattle.core_model.specs.Cells.{cell_at}
-use Rattle.core_model.specs.Guards.{IsOwn}
 use Rattle.core_model.specs.View.{Setup, View}
 use Rattle.seat_notes.specs.declared.notes.SeatNotes.{SeatNotes}
 use Rattle.heap_table.specs.AtTable.{SharedView, IsAt, MayPut, may_put, may_not, DoesIfMay, does, does_not, LearnsOwn, is_own, not_own}
@@ -15,7 +13,7 @@ use Rattle.heap_table.specs.SeatViews.{SeatViews, view_in}
 use Rattle.heap_rule.specs.Fences.{Owns, SettlesOwn}
 use Rattle.heap_rule.specs.Fences as fences
 use Rattle.heap_rule.specs.Owned.{parts_of}
-use Rattle.heap_rule.specs.Seated.{IsKeptOf, IsSingleSeat, SeatView}
+use Rattle.heap_rule.specs.Seated.{IsSingleSeat, SeatView}
 use Rattle.heap_rule.specs.Shown.{Can}
 use Rattle.heap_rule.proofs.FenceLemmas.{rest_stays}
 use Rattle.heap_rule.proofs.SeatLemmas.{keep_fits}

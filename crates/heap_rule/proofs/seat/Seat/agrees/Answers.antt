@@ -34,5 +34,5 @@ pub returns-clause-differs : goal.returns-clause-differs
 returns-clause-differs c = λ is. (
   c.learn_own-value.result,
   subst (λ v. LearnsOwn c.args.word c.learn_own-value.result c.args.self.now.view v) (sym (c.stands.ensures.other is))
-  (subst (λ (s : SeatView). LearnsOwn c.args.word c.learn_own-value.result s.view (view_in c.learn_own-value.new.seat.me.0)) c.self.view_is c.learn_own-value.ensures.learned),
+      (subst (λ (s : SeatView). LearnsOwn c.args.word c.learn_own-value.result s.view (view_in c.learn_own-value.new.seat.me.0)) c.self.view_is c.learn_own-value.ensures.learned),
 )
