@@ -83,6 +83,7 @@ impl Pending {
     }
 
     /// Takes back the mark of one marked word, if there is one, and tells the word.
+    #[inline(always)]
     pub fn take_marked(&mut self) -> Option<u64>
         ensures some { IfSome result (λ word. IsMarked self.old word
             × (self.new ≡ slice_set self.old word false)) }
@@ -93,6 +94,17 @@ impl Pending {
             self.marks.clear(word);
             return Some(word);
         }
+        self.take_elsewhere()
+    }
+
+    /// The same by the list of pages. It is a function of its own, so that the first look is inlined.
+    #[inline(never)]
+    fn take_elsewhere(&mut self) -> Option<u64>
+        ensures some { IfSome result (λ word. IsMarked self.old word
+            × (self.new ≡ slice_set self.old word false)) }
+        ensures none { IsNone result
+            → ((word : ℕ) → mark_at self.old word ≡ false) × (self.new ≡ self.old) }
+    {
         while let Some(page) = self.pages.pop() {
             if let Some(word) = first_marked(&self.marks, &mut self.groups, page) {
                 self.pages.push_reserved(page);

@@ -1,7 +1,7 @@
 use Rattle.std.proofs.Common.{◌≡◌, vec_len}
 use Rattle.std.specs.Vec.{vec_capacity}
 use Rattle.line_memory.specs.Marks.{CoversGroups, ListsPages}
-use Rattle.line_memory.proofs.pending.Pending.take_marked.Given as goal
+use Rattle.line_memory.proofs.pending.Pending.take_elsewhere.Given as goal
 
 abbrev pub invariant-loop-page : goal.invariant-loop-page
 invariant-loop-page l =
