@@ -82,14 +82,18 @@ agreed v w u word value going (not_own not u_is) (does found event) = absurd (no
 agreed v w u word value going (not_own not u_is) (does_not none same) = fences.not_own not (same ∙ u_is)
 
 -- or by the store after it
-pub settled_then : (v u w : SeatView) (word value n : ℕ) → v.view.stopped ≡ None → LearnsOwn word value v.view u.view → Owns u.view word → IsEvent (Settle word) u.view n w.view → SettlesOwn word v w
+settled_then : (v u w : SeatView) (word value n : ℕ) → v.view.stopped ≡ None → LearnsOwn word value v.view u.view → Owns u.view word → IsEvent (Settle word) u.view n w.view → SettlesOwn word v w
 settled_then v u w word value n going (is_own own s is u_is) owns event =
     let done = settled_event v.view w.view word value n s is (can_settle v.view word going own) (subst (λ z. IsEvent (Settle word) z n w.view) u_is event) in fences.is_own own done.0 done.1
 settled_then v u w word value n going (not_own not u_is) owns event = absurd (not (subst (λ z. Owns z word) u_is owns))
 
-pub left_then : (v u : SeatView) (word value : ℕ) → LearnsOwn word value v.view u.view → (Owns u.view word → ⊥) → SettlesOwn word v u
-left_then v u word value (is_own own s is u_is) none = absurd (none (subst (λ z. Owns z word) (sym u_is) (own_still v.view word value own)))
-left_then v u word value (not_own not u_is) none = fences.not_own not u_is
+left_then : (v u w : SeatView) (word value : ℕ) → LearnsOwn word value v.view u.view → (Owns u.view word → ⊥) → w.view ≡ u.view → SettlesOwn word v w
+left_then v u w word value (is_own own s is u_is) none same = absurd (none (subst (λ z. Owns z word) (sym u_is) (own_still v.view word value own)))
+left_then v u w word value (not_own not u_is) none same = fences.not_own not (same ∙ u_is)
+
+pub found_then : (v u w : SeatView) (word value : ℕ) → v.view.stopped ≡ None → LearnsOwn word value v.view u.view → SettlesOwn word u w → SettlesOwn word v w
+found_then v u w word value going looked (fences.is_own own n event) = settled_then v u w word value n going looked own event
+found_then v u w word value going looked (fences.not_own none same) = left_then v u w word value looked none same
 
 -- a word past the image is nobody's
 pub past_then : (v w : SeatView) (word length : ℕ) → length ≡ image_words v.view.setup.capacity → length ≤ word → w.view ≡ v.view → SettlesOwn word v w

@@ -38,6 +38,7 @@ impl Seat {
     }
 
     /// Makes a word durable where it is own.
+    #[inline(always)]
     pub(crate) fn settle_own(&mut self, shared: &Shared, word: u64)
         requires seat { IsSeatOf shared.now self.old }
         requires going { self.old.view.stopped ≡ None }
@@ -51,6 +52,18 @@ impl Seat {
         if self.agrees(shared, word) {
             return;
         }
+        self.settle_found(shared, word);
+    }
+
+    /// The same with no look first. It is a function of its own, so that the looks are inlined.
+    #[inline(never)]
+    fn settle_found(&mut self, shared: &Shared, word: u64)
+        requires seat { IsSeatOf shared.now self.old }
+        requires going { self.old.view.stopped ≡ None }
+        ensures done { SettlesOwn word self.old self.new }
+        ensures stores { KeepsStores self.old self.new }
+        ensures seat { IsSeatOf shared.now self.new }
+    {
         if !self.owns(word) {
             return;
         }
@@ -59,6 +72,7 @@ impl Seat {
 
     /// Whether a crash leaves of a word what loads see of it. Then an own word is settled by that
     /// look; else what loads see of it is recorded.
+    #[inline(always)]
     fn agrees(&mut self, shared: &Shared, word: u64) -> bool
         requires seat { IsSeatOf shared.now self.old }
         requires going { self.old.view.stopped ≡ None }
