@@ -18,7 +18,9 @@ use Rattle.core_model.specs.Orders.{AreReordered}
 use Rattle.core_model.specs.Splitting.{chosen}
 use Rattle.core_model.proofs.StepLemmas.{IsSeat, seat_at}
 use Rattle.core_model.proofs.QuietLemmas.{none_drawn, ticket_given_up, quiet, words_same}
+use Rattle.core_model.proofs.ShiftLemmas.{within_append}
 use Rattle.core_model.proofs.SplittingLemmas.{split_seat, total_behind}
+use Rattle.core_model.proofs.TicketLemmas.{one_at_most}
 use Rattle.core_model.proofs.RoleLemmas.{Role, role}
 use Rattle.core_model.proofs.TotalLemmas.{total_set, total_same}
 
@@ -38,10 +40,6 @@ pub both_length : (xss yss : List (List ℕ)) → length xss ≡ length yss → 
 both_length [] yss same = refl
 both_length (xs ∷ xss) [] same = same
 both_length (xs ∷ xss) (ys ∷ yss) same = let rest = both_length xss yss (omega (arith, same)) in omega arith
-
-pub within_append : (words word : ℕ) (xs ys : List ℕ) → times_within words word (xs ++ ys) ≡ times_within words word xs + times_within words word ys
-within_append words word [] ys = omega arith
-within_append words word (x ∷ xs) ys = let rest = within_append words word xs ys in omega arith
 
 pub both_within : (word class : ℕ) (xss yss : List (List ℕ)) → times_in_classes word class (both_lists xss yss) ≡ times_in_classes word class xss + times_in_classes word class yss
 both_within word class [] yss = omega arith
@@ -345,14 +343,8 @@ same_seats k old new same are = record {
 -- the seats that stopped are at most those that there are
 pub stopped_few : (k : Setup) (views : List View) → AreSeatsAndCarriers k views → total (λ (x : View). one_if_some x.stopped) views ≤ k.seats
 stopped_few k views are = let l = go views are.each in let s = are.seats in omega arith where
-  one_at_most : (x : View) → one_if_some x.stopped ≤ 1
-  one_at_most x = by (x.stopped) where
-    by : (o : Option ℕ) → one_if_some o ≤ 1
-    by None = omega arith
-    by (Some n) = omega arith
-
   here : (x : View) → (x.carries ≡ 0) ⊎ IsCarrier x ⊎ IsEmptied x → one_if_some x.stopped ≤ 1 - x.carries
-  here x (inl seat) = let m = one_at_most x in omega arith
+  here x (inl seat) = let m = one_at_most x.stopped in omega arith
   here x (inr (inl carrier)) = let z = ap one_if_some carrier.tickets.1 in omega arith
   here x (inr (inr empty)) = let z = ap one_if_some empty.was.tickets.1 in omega arith
 

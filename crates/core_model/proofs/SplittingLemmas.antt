@@ -1,5 +1,5 @@
 -- A seat that gives some of its held blocks and roots to a new seat keeps the heap sound.
-use Rattle.std.proofs.Common.{◌≡◌, ℕ, zero, suc, ◌+◌, ◌<◌, ◌≤◌, inl, inr, Bool, true, false, cond, not, nat_eq, List, [], ◌∷◌, ◌++◌, Contains, replicate, get_or, set, length, refl, ap, sym, subst, ◌∙◌, ne_eqb, length-append, true≢false, arith}
+use Rattle.std.proofs.Common.{◌≡◌, ◌≢◌, ℕ, zero, suc, ◌+◌, ◌<◌, ◌≤◌, inl, inr, Bool, true, false, cond, not, nat_eq, List, [], ◌∷◌, ◌++◌, Contains, replicate, get_or, set, length, refl, ap, sym, subst, ◌∙◌, eqb-true, ne_eqb, length-append, true≢false, arith}
 use Rattle.std.proofs.lemmas.Bool.{cases_lt}
 use Rattle.std.proofs.lemmas.List.{get_or_append_left, get_or_default}
 use Rattle.heap_model.specs.Geometry.{lists}
@@ -13,7 +13,7 @@ use Rattle.core_model.specs.Effects.{span_count}
 use Rattle.core_model.specs.Opening.{unlooked}
 use Rattle.core_model.specs.Splitting.{Choice, others, chosen, chosen_spans, chosen_lists, remaining, new_seat, given_off}
 use Rattle.core_model.specs.Sound.{Tally, tally_of, IsInShape, Each, IsSetUp, ClaimsOf, HasClaims, BlocksOf, HasBlocks, Knows, KnowsWords, IsTicketDrawn, HasTickets, HasLost, times_parked, empties, Good, Sound}
-use Rattle.core_model.proofs.TotalLemmas.{total_set, each_set}
+use Rattle.core_model.proofs.TotalLemmas.{total_set, each_set, ne-eqb-none}
 use Rattle.core_model.proofs.StepLemmas.{IsSeat, seat_at}
 use Rattle.core_model.proofs.OwnLemmas.{length_only}
 use Rattle.core_model.proofs.QuietLemmas.{not_there, none_drawn}
@@ -40,10 +40,33 @@ pub lists_both : (test : ℕ → Bool) (n : ℕ) (xss : List (List ℕ)) → tot
 lists_both test n [] = refl
 lists_both test n (xs ∷ xss) = let here = chosen_both test n xs in let rest = lists_both test n xss in omega arith
 
-lists_less : (test : ℕ → Bool) (n class : ℕ) (xss : List (List ℕ)) → times n (get_or (chosen_lists test xss) class []) ≤ times n (get_or xss class [])
+pub lists_less : (test : ℕ → Bool) (n class : ℕ) (xss : List (List ℕ)) → times n (get_or (chosen_lists test xss) class []) ≤ times n (get_or xss class [])
 lists_less test n class [] = omega arith
 lists_less test n zero (xs ∷ xss) = chosen_less test n xs
 lists_less test n (suc class) (xs ∷ xss) = lists_less test n class xss
+
+-- of one number nothing else is chosen, and all of it
+only_it : (b n : ℕ) (xs : List ℕ) → n ≢ b → times n (chosen (λ x. nat_eq x b) xs) ≡ 0
+only_it b n [] other = refl
+only_it b n (x ∷ xs) other = by_test (nat_eq x b) refl (only_it b n xs other) where
+  by_test : (t : Bool) → nat_eq x b ≡ t → times n (chosen (λ y. nat_eq y b) xs) ≡ 0 → times n (cond t (x ∷ chosen (λ y. nat_eq y b) xs) (chosen (λ y. nat_eq y b) xs)) ≡ 0
+  by_test true e rest = let z = ne-eqb-none x n (λ same. other (sym same ∙ eqb-true x b e)) in omega arith
+  by_test false e rest = rest
+
+pub all_of_it : (b : ℕ) (xs : List ℕ) → times b (chosen (λ x. nat_eq x b) xs) ≡ times b xs
+all_of_it b [] = refl
+all_of_it b (x ∷ xs) = by_test (nat_eq x b) refl (all_of_it b xs) where
+  by_test : (t : Bool) → nat_eq x b ≡ t → times b (chosen (λ y. nat_eq y b) xs) ≡ times b xs → times b (cond t (x ∷ chosen (λ y. nat_eq y b) xs) (chosen (λ y. nat_eq y b) xs)) ≡ one_if (nat_eq x b) + times b xs
+  by_test true e rest = omega arith
+  by_test false e rest = let z = ap one_if e in omega arith
+
+pub lists_only : (b n : ℕ) (xss : List (List ℕ)) → n ≢ b → total (times n) (chosen_lists (λ x. nat_eq x b) xss) ≡ 0
+lists_only b n [] other = refl
+lists_only b n (xs ∷ xss) other = let here = only_it b n xs other in let rest = lists_only b n xss other in omega arith
+
+pub lists_all : (b : ℕ) (xss : List (List ℕ)) → total (times b) (chosen_lists (λ x. nat_eq x b) xss) ≡ total (times b) xss
+lists_all b [] = refl
+lists_all b (xs ∷ xss) = let here = all_of_it b xs in let rest = lists_all b xss in omega arith
 
 length_lists : (test : ℕ → Bool) (xss : List (List ℕ)) → length (chosen_lists test xss) ≡ length xss
 length_lists test [] = refl

@@ -29,7 +29,7 @@ stored_ticket v (root_cell i) value = refl
 stored_ticket v (data_cell word) value = refl
 stored_ticket v no_cell value = refl
 
-one_at_most : (ticket : Option ℕ) → one_if_some ticket ≤ 1
+pub one_at_most : (ticket : Option ℕ) → one_if_some ticket ≤ 1
 one_at_most None = omega arith
 one_at_most (Some n) = omega arith
 
