@@ -24,7 +24,8 @@ use Rattle.heap_rule.specs.Changed.{IsLargeIn}
 use Rattle.heap_rule.specs.Holdings.{HoldsLarge, HoldsOneLarge, IsLost}
 use Rattle.heap_rule.specs.Owned.{HasOwned, IsOwnership, OwnedParts, parts_of, times_had}
 use Rattle.heap_rule.proofs.BlockMarks.{marked_alike}
-use Rattle.heap_rule.proofs.OwnedCarriers.{all_roots, all_spans, lists_all, lists_only, no_spans, span_takes}
+use Rattle.core_model.proofs.SplittingLemmas.{lists_all, lists_only}
+use Rattle.heap_rule.proofs.OwnedCarriers.{all_roots, all_spans, no_spans, span_takes}
 use Rattle.heap_rule.proofs.OwnedLemmas.{gained_ownerships, lost_ownerships}
 use Rattle.heap_rule.proofs.OwnedSteps.{taken_below, with_ownerships}
 use Rattle.heap_rule.proofs.ViewLemmas.{block_cut}

@@ -1,5 +1,5 @@
 -- What a seat keeps to tell its own words, after it offered or accepted a small block.
-use Rattle.std.proofs.Common.{◌≡◌, ◌≢◌, ℕ, zero, suc, ◌+◌, ◌<◌, ◌≤◌, inl, inr, Bool, true, false, cond, not, nat_eq, nat_lt, List, [], ◌∷◌, ◌++◌, Contains, get_or, set, length, refl, ap, sym, subst, ◌∙◌, ne_eqb, eqb-true, length-set, Vec, Global, arith}
+use Rattle.std.proofs.Common.{◌≡◌, ◌≢◌, ℕ, ◌+◌, ◌<◌, ◌≤◌, inl, inr, Bool, true, false, cond, not, nat_eq, nat_lt, List, [], ◌∷◌, ◌++◌, Contains, get_or, set, length, refl, ap, sym, subst, ◌∙◌, ne_eqb, eqb-true, length-set, Vec, Global, arith}
 use Rattle.std.proofs.lemmas.Bool.{cases_eq, cases_lt}
 use Rattle.std.proofs.lemmas.List.{get_or-set_same, get_or-set_other, get_or_default}
 use Rattle.heap_model.specs.declared.block.Block.{Block}
@@ -17,6 +17,7 @@ use Rattle.core_model.proofs.HeldOnceLemmas.{held_once}
 use Rattle.core_model.proofs.SpanLemmas.{range_is}
 use Rattle.core_model.proofs.OwnLemmas.{one_at_most}
 use Rattle.core_model.proofs.OwnerLemmas.{in_lists_total}
+use Rattle.core_model.proofs.SplittingLemmas.{lists_all, lists_less, lists_only}
 use Rattle.core_model.proofs.TotalLemmas.{total_at, total_where, eq-eqb-one, ne-eqb-none}
 use Rattle.heap_table.specs.Plays.{HasSoundState}
 use Rattle.heap_rule.proofs.ViewLemmas.{block_below, block_range}
@@ -47,18 +48,6 @@ lists_without b n (xs ∷ xss) other = let here = without_it b n xs other in let
 lists_none : (b : ℕ) (xss : List (List ℕ)) → total (times b) (chosen_lists (λ x. not (nat_eq x b)) xss) ≡ 0
 lists_none b [] = refl
 lists_none b (xs ∷ xss) = let here = none_of_it b xs in let rest = lists_none b xss in omega arith
-
-less_of : (test : ℕ → Bool) (n : ℕ) (xs : List ℕ) → times n (chosen test xs) ≤ times n xs
-less_of test n [] = omega arith
-less_of test n (x ∷ xs) = by_test (test x) (less_of test n xs) where
-  by_test : (t : Bool) → times n (chosen test xs) ≤ times n xs → times n (cond t (x ∷ chosen test xs) (chosen test xs)) ≤ one_if (nat_eq x n) + times n xs
-  by_test true rest = omega arith
-  by_test false rest = omega arith
-
-less_in : (test : ℕ → Bool) (n class : ℕ) (xss : List (List ℕ)) → times n (of_class (chosen_lists test xss) class) ≤ times n (of_class xss class)
-less_in test n class [] = omega arith
-less_in test n zero (xs ∷ xss) = less_of test n xs
-less_in test n (suc class) (xs ∷ xss) = less_in test n class xss
 
 pub all_roots : (roots : List ℕ) → chosen (λ i. true) roots ≡ roots
 all_roots [] = refl
@@ -111,7 +100,7 @@ module _ (v : View) (s : HasSoundState v) (b : Block) (class : ℕ) (small : Hol
     roots_long = own.roots_long;
     blocks = marked_less o.blocks blocks (λ n. times_had n (parts_of v)) (λ n. times_had n (record (parts_of v) { small = left })) (b.first_word ∷ []) marking share once own.blocks;
     classes = let c = own.classes in record {
-      held = λ class n there. c.held class n (let l = less_in (λ x. not (nat_eq x b.first_word)) n class v.small in omega arith);
+      held = λ class n there. c.held class n (let l = lists_less (λ x. not (nat_eq x b.first_word)) n class v.small in omega arith);
       cached = c.cached;
       batched = c.batched;
     };
@@ -212,28 +201,6 @@ pub alone_own : (v u : View) (b : Block) (class : ℕ) → HoldsOneSmall u b cla
 alone_own v u b class alone = let t = both_times b.first_word u.small v.small in let o = alone.once b.first_word in let e = eq-eqb-one b.first_word b.first_word refl in omega arith
 
 -- the carrier of a small block
-only_it : (b n : ℕ) (xs : List ℕ) → n ≢ b → times n (chosen (λ x. nat_eq x b) xs) ≡ 0
-only_it b n [] other = refl
-only_it b n (x ∷ xs) other = by_test (nat_eq x b) refl (only_it b n xs other) where
-  by_test : (t : Bool) → nat_eq x b ≡ t → times n (chosen (λ y. nat_eq y b) xs) ≡ 0 → times n (cond t (x ∷ chosen (λ y. nat_eq y b) xs) (chosen (λ y. nat_eq y b) xs)) ≡ 0
-  by_test true e rest = let z = ne-eqb-none x n (λ same. other (sym same ∙ eqb-true x b e)) in omega arith
-  by_test false e rest = rest
-
-all_of_it : (b : ℕ) (xs : List ℕ) → times b (chosen (λ x. nat_eq x b) xs) ≡ times b xs
-all_of_it b [] = refl
-all_of_it b (x ∷ xs) = by_test (nat_eq x b) refl (all_of_it b xs) where
-  by_test : (t : Bool) → nat_eq x b ≡ t → times b (chosen (λ y. nat_eq y b) xs) ≡ times b xs → times b (cond t (x ∷ chosen (λ y. nat_eq y b) xs) (chosen (λ y. nat_eq y b) xs)) ≡ one_if (nat_eq x b) + times b xs
-  by_test true e rest = omega arith
-  by_test false e rest = let z = ap one_if e in omega arith
-
-pub lists_only : (b n : ℕ) (xss : List (List ℕ)) → n ≢ b → total (times n) (chosen_lists (λ x. nat_eq x b) xss) ≡ 0
-lists_only b n [] other = refl
-lists_only b n (xs ∷ xss) other = let here = only_it b n xs other in let rest = lists_only b n xss other in omega arith
-
-pub lists_all : (b : ℕ) (xss : List (List ℕ)) → total (times b) (chosen_lists (λ x. nat_eq x b) xss) ≡ total (times b) xss
-lists_all b [] = refl
-lists_all b (xs ∷ xss) = let here = all_of_it b xs in let rest = lists_all b xss in omega arith
-
 pub no_spans : (test : ℕ → Bool) (spans : List Span) → ((span : Span) → Contains spans span → test span.first ≡ false) → chosen_spans test spans ≡ []
 no_spans test [] each = refl
 no_spans test (span ∷ spans) each = ap (λ t. cond t (span ∷ chosen_spans test spans) (chosen_spans test spans)) (each span (in_head span spans)) ∙ no_spans test spans (λ s there. each s (in_rest span s spans there))
@@ -247,7 +214,7 @@ carrier_alone v s b class small = record {
     | inr other ↦ let z = lists_only b.first_word n v.small other in let e = ne-eqb-none b.first_word n (λ x. other (sym x)) in omega arith
   ];
   in_class = λ of n there. elim (cases_eq n b.first_word) [
-    | inl here ↦ let has : 0 < times b.first_word (of_class v.small of) = (let l = less_in (λ x. nat_eq x b.first_word) b.first_word of v.small in let e = ap (λ x. times x (of_class (chosen_lists (λ y. nat_eq y b.first_word) v.small) of)) here in omega arith) in
+    | inl here ↦ let has : 0 < times b.first_word (of_class v.small of) = (let l = lists_less (λ x. nat_eq x b.first_word) b.first_word of v.small in let e = ap (λ x. times x (of_class (chosen_lists (λ y. nat_eq y b.first_word) v.small) of)) here in omega arith) in
         sym ((s.sound.good.blocks s.seat v s.below s.at).held of b.first_word has) ∙ (s.sound.good.blocks s.seat v s.below s.at).held class b.first_word small.held
     | inr other ↦ absurd (let t = in_lists_total n of (chosen_lists (λ x. nat_eq x b.first_word) v.small) there in let z = lists_only b.first_word n v.small other in omega arith)
   ];
