@@ -1,40 +1,19 @@
 -- What a block that goes takes out of a seat's lists.
-use Rattle.std.proofs.Common.{◌≡◌, ◌≢◌, ℕ, zero, suc, ◌+◌, ◌<◌, ◌≤◌, inl, inr, Bool, true, false, not, cond, nat_eq, List, [], ◌∷◌, Contains, get_or, refl, ap, sym, ◌∙◌, eqb-true, arith}
+use Rattle.std.proofs.Common.{◌≡◌, ◌≢◌, ℕ, zero, suc, ◌<◌, ◌≤◌, inl, inr, Bool, true, false, not, cond, nat_eq, List, [], ◌∷◌, Contains, get_or, refl, ap, sym, ◌∙◌, eqb-true, arith}
 use Rattle.std.proofs.lemmas.Bool.{cases_eq}
 use Rattle.heap_model.specs.Counting.{one_if, times, total}
 use Rattle.heap_model.proofs.MemberLemmas.{in_head, in_rest}
 use Rattle.core_model.specs.View.{Span, takes, times_large}
 use Rattle.core_model.specs.Effects.{span_count}
-use Rattle.core_model.specs.Splitting.{chosen, chosen_lists, chosen_spans}
+use Rattle.core_model.specs.Splitting.{chosen_lists, chosen_spans}
 use Rattle.core_model.proofs.PlaceLemmas.{not-eq}
+use Rattle.core_model.proofs.SplittingLemmas.{all_of_it}
 use Rattle.core_model.proofs.SpanLemmas.{range_is}
 
--- the block itself goes, and no other
-goes : (b : ℕ) (xs : List ℕ) → times b (chosen (λ x. nat_eq x b) xs) ≡ times b xs
-goes b [] = refl
-goes b (x ∷ xs) = by_test (nat_eq x b) refl (goes b xs) where
-  by_test : (t : Bool) → nat_eq x b ≡ t → times b (chosen (λ y. nat_eq y b) xs) ≡ times b xs → times b (cond t (x ∷ chosen (λ y. nat_eq y b) xs) (chosen (λ y. nat_eq y b) xs)) ≡ one_if (nat_eq x b) + times b xs
-  by_test true e rest = omega arith
-  by_test false e rest = let z = ap one_if e in omega arith
-
-stays : (b e : ℕ) → e ≢ b → (xs : List ℕ) → times e (chosen (λ x. nat_eq x b) xs) ≡ 0
-stays b e apart [] = refl
-stays b e apart (x ∷ xs) = by_test (nat_eq x b) refl (stays b e apart xs) where
-  by_test : (t : Bool) → nat_eq x b ≡ t → times e (chosen (λ y. nat_eq y b) xs) ≡ 0 → times e (cond t (x ∷ chosen (λ y. nat_eq y b) xs) (chosen (λ y. nat_eq y b) xs)) ≡ 0
-  by_test true same rest = let z = ap one_if (not-eq x e (λ h. apart (sym h ∙ eqb-true x b same))) in omega arith
-  by_test false same rest = rest
-
-pub lists_go : (b : ℕ) (xss : List (List ℕ)) → total (times b) (chosen_lists (λ x. nat_eq x b) xss) ≡ total (times b) xss
-lists_go b [] = refl
-lists_go b (xs ∷ xss) = let here = goes b xs in let rest = lists_go b xss in omega arith
-
-pub lists_stay : (b e : ℕ) → e ≢ b → (xss : List (List ℕ)) → total (times e) (chosen_lists (λ x. nat_eq x b) xss) ≡ 0
-lists_stay b e apart [] = refl
-lists_stay b e apart (xs ∷ xss) = let here = stays b e apart xs in let rest = lists_stay b e apart xss in omega arith
-
+-- the block itself goes
 pub class_goes : (b class : ℕ) (xss : List (List ℕ)) → times b (get_or (chosen_lists (λ x. nat_eq x b) xss) class []) ≡ times b (get_or xss class [])
 class_goes b class [] = refl
-class_goes b zero (xs ∷ xss) = goes b xs
+class_goes b zero (xs ∷ xss) = all_of_it b xs
 class_goes b (suc class) (xs ∷ xss) = class_goes b class xss
 
 -- a block of the lists is in one of them

@@ -30,7 +30,8 @@ use Rattle.seat_notes.proofs.RangeLemmas.{range_theirs}
 use Rattle.seat_notes.proofs.UsageLemmas.{usage_alone, usage_own, usage_theirs, usages_mine, usages_theirs}
 use Rattle.crash_core.specs.declared.state.CoreState.{CoreState}
 use Rattle.crash_core.specs.Standing.{HasBlocksOf, IsKept, IsSeatAt, KeepsViews, nobody, StandsFor}
-use Rattle.crash_core.proofs.ChosenLemmas.{count_left, lists_go, lists_stay, one_span}
+use Rattle.core_model.proofs.SplittingLemmas.{lists_all, lists_only}
+use Rattle.crash_core.proofs.ChosenLemmas.{count_left, one_span}
 use Rattle.crash_core.proofs.HandSteps.{HasOwn, IsHanded, offer_stands}
 use Rattle.crash_core.proofs.SplitSteps.{covered, large_only}
 use Rattle.crash_core.proofs.StandingLemmas.{among, memory_in, seat_capacity}
@@ -163,7 +164,7 @@ module _ (c : CoreState) (k : Setup) (s : TableState) (i : ℕ) (v : View) (t : 
         (λ f low high. usage_alone i e (get_or c.superblocks.items f no_superblock) other (λ none. let m = mine_there f low high in let z = ap large_in none in omega arith)) h.superblocks)
 
     blocks_go : (e : ℕ) → total (times e) (chosen_lists (λ f. nat_eq f x) v.small) ≡ 0
-    blocks_go e = elim (cases_eq e x) [ inl here ↦ subst (λ m. total (times m) (chosen_lists (λ f. nat_eq f x) v.small) ≡ 0) (sym here) (lists_go x v.small ∙ no_small) | inr other ↦ lists_stay x e other v.small ]
+    blocks_go e = elim (cases_eq e x) [ inl here ↦ subst (λ m. total (times m) (chosen_lists (λ f. nat_eq f x) v.small) ≡ 0) (sym here) (lists_all x v.small ∙ no_small) | inr other ↦ lists_only x e v.small other ]
 
     pub large_offer : StandsFor c' k (after_offer s i v x)
     large_offer = offer_stands c c' k s i v t x stands at at_t large_may handed

@@ -24,7 +24,8 @@ use Rattle.crash_core.specs.declared.owners.BlockPlace.TheVariants as place
 use Rattle.crash_core.specs.declared.state.CoreState.{CoreState}
 use Rattle.crash_core.specs.Standing.{batched_in, cached_in, held_in, HasBlocksOf, IsKept, IsPlace, IsSeatAt, KeepsViews, no_block, nobody, place_for, StandsFor}
 use Rattle.crash_core.proofs.BlockPlaces.{place_alone, place_theirs, places_mine, places_theirs}
-use Rattle.crash_core.proofs.ChosenLemmas.{class_goes, in_some, lists_go, lists_stay, no_spans}
+use Rattle.core_model.proofs.SplittingLemmas.{lists_all, lists_only}
+use Rattle.crash_core.proofs.ChosenLemmas.{class_goes, in_some, no_spans}
 use Rattle.crash_core.proofs.HandSteps.{IsHanded, offer_stands}
 use Rattle.crash_core.proofs.StandingLemmas.{among, memory_in}
 
@@ -118,8 +119,8 @@ module _ (c : CoreState) (k : Setup) (s : TableState) (i : ℕ) (v : View) (t : 
         }) where
           new : HasBlocksOf (set c.blocks.items x (record { seat = j; place = place.Held })) j (chosen_lists (λ e. nat_eq e x) v.small) (nobody k).caches []
           new = places_mine c.blocks.items j x place.Held (λ b p. IsPlace b p (chosen_lists (λ e. nat_eq e x) v.small) (nobody k).caches []) there
-              (let none = (keeps.none j (omega arith)).blocks x in record { held = lists_go x v.small ∙ one_there; cached = refl; batched = refl })
-              (λ e other. let none = (keeps.none j (omega arith)).blocks e in record { held = lists_stay x e other v.small ∙ none.held; cached = none.cached; batched = none.batched })
+              (let none = (keeps.none j (omega arith)).blocks x in record { held = lists_all x v.small ∙ one_there; cached = refl; batched = refl })
+              (λ e other. let none = (keeps.none j (omega arith)).blocks e in record { held = lists_only x e v.small other ∙ none.held; cached = none.cached; batched = none.batched })
 
           left : (e : ℕ) → total (times e) (chosen_lists (λ f. not (nat_eq f x)) v.small) + total (times e) (chosen_lists (λ f. nat_eq f x) v.small) ≡ total (times e) v.small
           left e = lists_both (λ f. nat_eq f x) e v.small
@@ -129,11 +130,11 @@ module _ (c : CoreState) (k : Setup) (s : TableState) (i : ℕ) (v : View) (t : 
             | inl here ↦ subst (λ n. IsPlace n (place_for i (get_or (set c.blocks.items x (record { seat = j; place = place.Held })) n no_block)) (chosen_lists (λ f. not (nat_eq f x)) v.small) v.caches v.batch.blocks) (sym here)
                 (subst (λ p. IsPlace x p (chosen_lists (λ f. not (nat_eq f x)) v.small) v.caches v.batch.blocks)
                 (sym (ap (place_for i) (get_or-set_same c.blocks.items x (record { seat = j; place = place.Held }) no_block there) ∙ place_theirs j i place.Held (λ h. apart (sym h))))
-                (let o = kept.blocks x in let l = left x in let g = lists_go x v.small in let h = held in record {
+                (let o = kept.blocks x in let l = left x in let g = lists_all x v.small in let h = held in record {
                   held = (let one = one_there in omega arith);
                   cached = o.cached ∙ ap cached_in held;
                   batched = o.batched ∙ ap batched_in held;
                 }))
             | inr other ↦ subst (λ o. IsPlace e (place_for i o) (chosen_lists (λ f. not (nat_eq f x)) v.small) v.caches v.batch.blocks) (sym (get_or-set_other c.blocks.items x e (record { seat = j; place = place.Held }) no_block other))
-                (let o = kept.blocks e in let l = left e in let g = lists_stay x e other v.small in record { held = (let h = o.held in omega arith); cached = o.cached; batched = o.batched })
+                (let o = kept.blocks e in let l = left e in let g = lists_only x e v.small other in record { held = (let h = o.held in omega arith); cached = o.cached; batched = o.batched })
           ]
