@@ -1,5 +1,5 @@
 -- What passing a block from one seat to another does.
-use Rattle.std.specs.Prelude.{◌≡◌, ℕ, ◌∷◌, [], Option}
+use Rattle.std.specs.Prelude.{◌≡◌, ℕ, Option}
 use Rattle.heap_model.specs.declared.block.Block.{Block}
 use Rattle.heap_model.specs.Blocks.{IsIn}
 use Rattle.heap_seat.specs.View.{View}
