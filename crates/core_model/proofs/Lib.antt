@@ -40,6 +40,7 @@ pub mod SplittingLemmas
 pub mod OrderLemmas
 mod ExampleLemmas
 mod GuardExampleLemmas
+mod HandingExampleLemmas
 pub mod RoleLemmas
 pub mod CarrierLemmas
 pub mod EmptiedLemmas
