@@ -1,10 +1,11 @@
 -- The replies of one map to a trace are determined, where none is for want of room.
-use Rattle.std.proofs.Common.{◌≡◌, ◌≢◌, ℕ, List, [], ◌∷◌, map, None, Some, Contains, refl, subst, sym, ap, ◌∙◌}
+use Rattle.std.proofs.Common.{◌≡◌, ◌≢◌, ℕ, List, [], ◌∷◌, ◌++◌, map, None, Some, Contains, refl, subst, sym, ap, ◌∙◌}
 use Rattle.heap_model.specs.Image.{Image}
 use Rattle.heap_model.proofs.MemberLemmas.{in_head, in_rest}
-use Rattle.dict_model.specs.Requests.{Request, Reply, full, after, after_one, AreReplies, IsReply, put_done, put_full, get_found, get_none, del_done, del_none}
+use Rattle.dict_model.specs.Requests.{Request, Reply, full, after, after_one, AreReplies, IsReply, put_done, put_full, get_found, get_none, del_done, del_none, move_done, move_full, move_none}
 use Rattle.dict_model.specs.Shards.{Map}
-use Rattle.run_model.specs.OneMap.{IsWholeMap, NoneIsFull, IsAsOneThread}
+use Rattle.run_model.specs.Arrivals.{IsWholeMap, arrivals}
+use Rattle.run_model.specs.OneMap.{NoneIsFull, IsAsOneThread}
 use Rattle.run_model.specs.Runs.{answered}
 use Rattle.run_model.specs.Workers.{Replies}
 use Rattle.run_model.proofs.OneMapLemmas.{one_whole}
@@ -25,6 +26,13 @@ one_reply whole _ _ _ (del_done key value is) (del_done _ v other) some also = r
 one_reply whole _ _ _ (del_done key value is) (del_none _ not) some also = absurd (not_both whole key value is not)
 one_reply whole _ _ _ (del_none key not) (del_done _ v is) some also = absurd (not_both whole key v is not)
 one_reply whole _ _ _ (del_none key not) (del_none _ _) some also = refl
+one_reply whole _ _ _ (move_done key to value is) (move_done _ _ v other) some also = refl
+one_reply whole _ _ _ (move_done key to value is) (move_full _ _ v other) some also = absurd (also refl)
+one_reply whole _ _ _ (move_done key to value is) (move_none _ _ not) some also = absurd (not_both whole key value is not)
+one_reply whole _ _ _ (move_full key to value there) is some also = absurd (some refl)
+one_reply whole _ _ _ (move_none key to not) (move_done _ _ v is) some also = absurd (not_both whole key v is not)
+one_reply whole _ _ _ (move_none key to not) (move_full _ _ v is) some also = absurd (also refl)
+one_reply whole _ _ _ (move_none key to not) (move_none _ _ _) some also = refl
 
 same_pair : (r s : Request × Reply) → s.0 ≡ r.0 → s.1 ≡ r.1 → s ≡ r
 same_pair r s first second = ap (λ q. (q, s.1)) first ∙ ap (λ a. (r.0, a)) second
@@ -63,7 +71,10 @@ module _ (image left other : Image) (requests : List Request) (a b : Replies) (o
   same_left whole is = record {
     each = λ key.
         let at = two.leaves.each key in
-        let then : after two.whole (answered requests b) key ≡ after one.whole (answered requests a) key =
-        ap (λ (m : Map). after m (answered requests b) key) same_whole ∙ ap (λ rs. after one.whole rs key) same_answers in
-        (at.0, at.1, at.2 ∙ then ∙ one_whole left (after one.whole (answered requests a)) whole one.leaves is key);
-  }
+        let all = λ (m : Map) (rs : List (Request × Reply)). after m (rs ++ arrivals m rs) key in
+        let then : all two.whole (answered requests b) ≡ all one.whole (answered requests a) =
+        ap (λ (m : Map). all m (answered requests b)) same_whole ∙ ap (λ rs. all one.whole rs) same_answers in
+        (at.0, at.1, at.2 ∙ then ∙ one_whole left (all_of one.whole (answered requests a)) whole one.leaves is key);
+  } where
+    all_of : Map → List (Request × Reply) → Map
+    all_of m rs = after m (rs ++ arrivals m rs)

@@ -10,7 +10,8 @@ use Rattle.dict_model.specs.Nodes.{shard_of}
 use Rattle.dict_model.specs.Requests.{put, get, done, full, none, IsReply, get_none}
 use Rattle.dict_model.specs.Shards.{Map, MapOf, no_keys, is_empty}
 use Rattle.run_model.specs.Examples.{mixed, one_missing, two_puts, two_bytes}
-use Rattle.run_model.specs.OneMap.{IsWholeMap, NoneIsFull, IsAsOneThread}
+use Rattle.run_model.specs.Arrivals.{IsWholeMap}
+use Rattle.run_model.specs.OneMap.{NoneIsFull, IsAsOneThread}
 use Rattle.run_model.specs.Runs.{AnswersInOrder, AnswerInOrder}
 use Rattle.run_model.specs.Workers.{worker_requests, worker_replies}
 use Rattle.run_model.specs.Working.{IsLengthFor, of_none, of_image, of_trace, IsRoomFor}

@@ -8,8 +8,8 @@ use Rattle.std.proofs.lemmas.List.Sums.{sum_by-cons, sum_by-append}
 use Rattle.heap_model.specs.Image.{Image}
 use Rattle.heap_model.specs.Header.{capacity_of, used_of}
 use Rattle.heap_model.proofs.MemberLemmas.{in_none, in_head, in_rest, head_or_rest}
-use Rattle.dict_model.specs.Requests.{Request, put, Reply, done, full, none, found}
-use Rattle.run_model.specs.Needs.{node_span, superblocks_needed}
+use Rattle.dict_model.specs.Requests.{Request, put, get, del, move, Reply, done, full, none, found}
+use Rattle.run_model.specs.Needs.{node_span, has_move, superblocks_needed}
 use Rattle.run_model.specs.Runs.{answered, unanswered, AnswersInOrder, IsFullRightly, span_taken, first_span, worker_span, worker_answered}
 use Rattle.run_model.specs.Workers.{Replies, shard_asked, worker_of, is_of_worker, worker_requests, worker_replies}
 use Rattle.run_model.proofs.SumLemmas.{beside_fits, workers_sum}
@@ -139,3 +139,34 @@ never_full image workers requests replies some is enough before later key value 
     (λ other. span_fits workers other requests replies) in
     let whole = workers_sum workers node_span requests in
     omega arith
+
+-- a move among the requests is one behind any other
+behind : (q : Request) (qs : List Request) → has_move qs ≡ true → has_move (q ∷ qs) ≡ true
+behind (put key value) qs there = there
+behind (get key) qs there = there
+behind (del key) qs there = there
+behind (move key to) qs there = refl
+
+-- an answered move is one of the trace
+moves_in : (requests : List Request) (replies : Replies) (key to : ℕ) (a : Reply) → Contains (answered requests replies) (move key to, a) → has_move requests ≡ true
+moves_in [] replies key to a h = absurd (in_none (move key to, a) h)
+moves_in (q ∷ qs) [] key to a h = absurd (in_none (move key to, a) h)
+moves_in (q ∷ qs) (None ∷ rs) key to a h = behind q qs (moves_in qs rs key to a h)
+moves_in (q ∷ qs) (Some r ∷ rs) key to a h = elim (head_or_rest (q, r) (move key to, a) (answered qs rs) h) as (λ _. has_move (q ∷ qs) ≡ true) [
+  | inl same ↦ let e : q ≡ move key to = ap (λ (x : Request × Reply). x.0) same in ap (λ x. has_move (x ∷ qs)) e
+  | inr later ↦ behind q qs (moves_in qs rs key to a later)
+]
+
+-- where the superblocks that the trace needs are left, no move is told so either
+pub never_full_moved : (image : Image) (workers : ℕ) (requests : List Request) (replies : Replies) → 1 ≤ workers → IsFullRightly image workers requests replies
+    → used_of image + superblocks_needed requests ≤ capacity_of image
+    → (before later : List (Request × Reply)) (key to : ℕ) → answered requests replies ≡ before ++ ((move key to, full) ∷ later) → ⊥
+never_full_moved image workers requests replies some is enough before later key to at =
+    let q = move key to in
+    let worker = worker_of workers (shard_asked q) in
+    let small : worker < workers = mod-lt (shard_asked q) some in
+    let h = subst (λ xs. Contains xs (q, full)) (sym at) (Contains-append_right before ((q, full) ∷ later) (q, full) (in_head (q, full) later)) in
+    let parts = between (worker_answered workers worker requests replies) (q, full) (answered_of workers worker requests replies (q, full) (eq-eqb worker worker refl) h) in
+    let past = is.move_cause worker small parts.0 parts.1 key to parts.2 in
+    let one : cond {A = ℕ} (has_move requests) 1 0 ≡ 1 = ap (λ b. cond {A = ℕ} b 1 0) (moves_in requests replies key to full h) in
+    omega (arith, past, one, enough)

@@ -1,6 +1,7 @@
 -- Worked examples of what a run may not tell or leave: a refusal where there is room, a stop with enough budget, a reply that isn't right, a shard without its answered requests or with another one, and other words that are to stay.
-use Rattle.std.proofs.Common.{◌≡◌, ℕ, ◌+◌, ◌<◌, ◌≤◌, inl, inr, List, [], ◌∷◌, None, Some, true, false, refl, subst, sym, ◌∙◌, arith}
+use Rattle.std.proofs.Common.{◌≡◌, ◌≢◌, ℕ, zero, suc, ◌+◌, ◌<◌, ◌≤◌, inl, inr, List, [], ◌∷◌, ◌++◌, length, map, take, None, Some, true, false, refl, subst, sym, ◌∙◌, arith}
 use Rattle.std.specs.Prelude.{nat_lt}
+use Rattle.std.proofs.Math.Seq.{take-nil}
 use Rattle.std.proofs.lemmas.Bool.{cond-true, cond-false, lt-ltb, le-ltb}
 use Rattle.heap_model.specs.declared.block.Block.{Block}
 use Rattle.heap_model.specs.Blocks.{IsIn}
@@ -11,11 +12,14 @@ use Rattle.heap_model.specs.Image.{Image}
 use Rattle.heap_model.specs.Pointers.{Leads}
 use Rattle.heap_model.specs.Reach.{ReachFrom, by_start}
 use Rattle.dict_model.specs.Links.{shards, dict_links}
-use Rattle.dict_model.specs.Requests.{put, get, done, full, found, with_key, after_one, IsReply, get_found}
+use Rattle.dict_model.specs.Requests.{Request, put, get, move, Reply, done, full, found, with_key, after, after_one, IsReply, get_found}
 use Rattle.dict_model.specs.Shards.{Map, MapOf, no_keys, is_empty}
 use Rattle.dict_model.proofs.ShardLemmas.{one_map_of}
-use Rattle.run_model.specs.Runs.{IsOtherRoot, StopsRightly, IsFullRightly, RepliesRightly, LeavesMaps, LeavesHeader, LeavesOthers, LeavesUsed, LeavesState}
-use Rattle.run_model.proofs.ExampleLemmas.{bare}
+use Rattle.run_model.specs.Arrivals.{arrivals}
+use Rattle.run_model.specs.Examples.{moved_once}
+use Rattle.run_model.specs.Workers.{worker_of}
+use Rattle.run_model.specs.Runs.{of_shard, worker_unanswered, HaveArrived, IsOtherRoot, StopsRightly, IsFullRightly, RepliesRightly, LeavesMaps, LeavesHeader, LeavesOthers, LeavesUsed, LeavesState}
+use Rattle.run_model.proofs.ExampleLemmas.{bare, no_keys_at_all}
 
 -- an empty image of so many superblocks, of which so many are taken
 abbrev sized : ℕ → ℕ → Image
@@ -75,23 +79,31 @@ not_in_bare m there is =
 abbrev one_put : Map
 one_put = with_key no_keys 5 []
 
+-- a run without moves brings nothing in
+nothing_came : (left : Image) (rs : List (Request × Reply)) (arrived : ℕ) → MapOf left 5 (after no_keys (of_shard 5 (rs ++ take arrived [])))
+    → MapOf left 5 (after no_keys (of_shard 5 (rs ++ [])))
+nothing_came left rs arrived is = subst (λ xs. MapOf left 5 (after no_keys (of_shard 5 (rs ++ xs)))) (take-nil {A = Request × Reply} arrived) is
+
 -- where a run is stopped, what was answered is left
 pub answered_is_left : LeavesMaps bare 1 (put 5 [] ∷ put 13 [] ∷ []) (Some done ∷ None ∷ []) true bare → ⊥
-answered_is_left leaves = elim (leaves.each 5 no_keys (omega arith) (no_keys_in 5 (omega arith))) [
-  | inl as_answered ↦ not_in_bare one_put refl as_answered
+answered_is_left leaves = elim (leaves.each no_keys no_keys_at_all 5 no_keys (omega arith) (no_keys_in 5 (omega arith))) [
+  | inl as_answered ↦ not_in_bare one_put refl (nothing_came bare ((put 5 [], done) ∷ []) (leaves.arrived 0) as_answered)
   | inr more ↦
       let same : put 13 [] ≡ more.1.request = let first = more.1.first in cc in
-      not_in_bare (after_one one_put (put 13 []) done) refl (subst (λ q. MapOf bare 5 (after_one one_put q done)) (sym same) more.1.map_is)
+      let is = subst (λ q. MapOf bare 5 (after_one (after no_keys (of_shard 5 ((put 5 [], done) ∷ take (leaves.arrived 0) []))) q done)) (sym same) more.1.map_is in
+      not_in_bare (after_one one_put (put 13 []) done) refl
+      (subst (λ xs. MapOf bare 5 (after_one (after no_keys (of_shard 5 ((put 5 [], done) ∷ xs))) (put 13 []) done)) (take-nil {A = Request × Reply} (leaves.arrived 0)) is)
 ]
 
 -- and of what was not, the worker's first request alone may have been done
 pub no_other_is_done : (left : Image) (m : Map) → MapOf left 5 m → m 13 ≡ Some [] → m 5 ≡ None
     → LeavesMaps bare 1 (put 5 [] ∷ put 13 [] ∷ []) (None ∷ None ∷ []) true left → ⊥
-no_other_is_done left m is there none leaves = elim (leaves.each 5 no_keys (omega arith) (no_keys_in 5 (omega arith))) [
-  | inl as_answered ↦ let e : Some [] ≡ None = sym there ∙ one_map_of left 5 m no_keys is as_answered 13 in absurd (cc)
+no_other_is_done left m is there none leaves = elim (leaves.each no_keys no_keys_at_all 5 no_keys (omega arith) (no_keys_in 5 (omega arith))) [
+  | inl as_answered ↦ let e : Some [] ≡ None = sym there ∙ one_map_of left 5 m no_keys is (nothing_came left [] (leaves.arrived 0) as_answered) 13 in absurd (cc)
   | inr more ↦
       let same : put 5 [] ≡ more.1.request = let first = more.1.first in cc in
-      let done_first = subst (λ q. MapOf left 5 (after_one no_keys q done)) (sym same) more.1.map_is in
+      let as_first = subst (λ q. MapOf left 5 (after_one (after no_keys (of_shard 5 (take (leaves.arrived 0) []))) q done)) (sym same) more.1.map_is in
+      let done_first = subst (λ xs. MapOf left 5 (after_one (after no_keys (of_shard 5 xs)) (put 5 []) done)) (take-nil {A = Request × Reply} (leaves.arrived 0)) as_first in
       let e : Some [] ≡ None = sym there ∙ one_map_of left 5 m (after_one no_keys (put 5 []) done) is done_first 13 in absurd (cc)
 ]
 
@@ -132,3 +144,38 @@ closed left is = is
 
 pub not_closed : (left : Image) → LeavesState true left → left 3 ≡ 2
 not_closed left is = is
+
+-- a move isn't refused where a superblock is left for the table of its other key
+pub move_not_full_with_room : IsFullRightly (sized 4 2) 1 (move 5 6 ∷ []) (Some full ∷ []) → ⊥
+move_not_full_with_room is =
+    let past : 4 < 2 + 1 + 1 = is.move_cause 0 (omega arith) [] [] 5 6 refl in omega (arith, past)
+
+-- without a stop all has arrived
+pub all_arrive : (arrived : ℕ → ℕ) → HaveArrived bare 1 (put 5 [] ∷ move 5 9 ∷ []) (Some done ∷ Some done ∷ []) false arrived → arrived 0 ≡ 1
+all_arrive arrived is = is.all refl no_keys no_keys_at_all 0 (omega arith)
+
+-- and nothing where the worker has a request left; the other one may have brought all in
+pub none_arrives : (arrived : ℕ → ℕ) → HaveArrived bare 2 (put 5 [] ∷ move 5 2 ∷ get 6 ∷ []) (Some done ∷ Some done ∷ None ∷ []) true arrived → arrived 0 ≡ 0
+none_arrives arrived is = is.none 0 (omega arith) (λ e. absurd (cc))
+
+pub other_arrives : HaveArrived bare 2 (put 5 [] ∷ move 5 1 ∷ get 6 ∷ []) (Some done ∷ Some done ∷ None ∷ []) true (λ worker. worker)
+other_arrives = record {
+  all = λ e. absurd (cc);
+  none = λ shard below some. odd_has_none shard below some;
+} where
+  odd_has_none : (shard : ℕ) → shard < shards
+      → worker_unanswered 2 (worker_of 2 shard) (put 5 [] ∷ move 5 1 ∷ get 6 ∷ []) (Some done ∷ Some done ∷ None ∷ []) ≢ [] → worker_of 2 shard ≡ 0
+  odd_has_none zero below some = refl
+  odd_has_none (suc zero) below some = absurd (some refl)
+  odd_has_none (suc (suc zero)) below some = refl
+  odd_has_none (suc (suc (suc zero))) below some = absurd (some refl)
+  odd_has_none (suc (suc (suc (suc zero)))) below some = refl
+  odd_has_none (suc (suc (suc (suc (suc zero))))) below some = absurd (some refl)
+  odd_has_none (suc (suc (suc (suc (suc (suc zero)))))) below some = refl
+  odd_has_none (suc (suc (suc (suc (suc (suc (suc zero))))))) below some = absurd (some refl)
+  odd_has_none (suc (suc (suc (suc (suc (suc (suc (suc shard)))))))) below some = absurd (omega (arith, below))
+
+-- of a moved key no stop leaves both: where the value is under its other key, it is not under the first
+pub never_both : (map (after no_keys (moved_once ++ take 0 (arrivals no_keys moved_once))) (5 ∷ 9 ∷ []) ≡ None ∷ None ∷ [])
+    × (map (after no_keys (moved_once ++ take 1 (arrivals no_keys moved_once))) (5 ∷ 9 ∷ []) ≡ None ∷ Some (97 ∷ []) ∷ [])
+never_both = (refl, refl)

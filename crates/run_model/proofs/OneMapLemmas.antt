@@ -1,21 +1,23 @@
 -- What is so of each shard is so of the whole dictionary: a request changes its own shard alone.
-use Rattle.std.proofs.Common.{◌≡◌, ◌≢◌, ℕ, ◌+◌, ◌<◌, ◌≤◌, inl, inr, List, [], ◌∷◌, ◌++◌, length, map, None, Some, Bool, true, false, cond, nat_eq, Contains, refl, subst, sym, ap, ◌∙◌, arith}
+use Rattle.std.proofs.Common.{◌≡◌, ◌≢◌, ◌⊎◌, ℕ, ◌+◌, ◌<◌, ◌≤◌, inl, inr, List, [], ◌∷◌, ◌++◌, length, map, filter, take, None, Some, Bool, true, false, cond, nat_eq, Contains, refl, subst, sym, ap, ◌∙◌, arith}
 use Rattle.std.proofs.Math.Nat.{mod-lt}
-use Rattle.std.proofs.lemmas.Bool.{eq-eqb, ne_eqb, cond-false}
+use Rattle.std.proofs.Math.Seq.{take-length}
+use Rattle.std.proofs.lemmas.Bool.{eq-eqb, eqb-true, ne_eqb, cond-false}
 use Rattle.heap_model.specs.Image.{Image}
 use Rattle.heap_model.specs.Header.{capacity_of, used_of}
 use Rattle.heap_model.proofs.MemberLemmas.{in_none, in_head, in_rest, head_or_rest}
 use Rattle.dict_model.specs.Links.{shards}
 use Rattle.dict_model.specs.Nodes.{shard_of}
-use Rattle.dict_model.specs.Requests.{Request, put, get, del, Reply, done, full, none, found, after, after_one, AreReplies, IsReply, put_done, put_full, get_found, get_none, del_done, del_none}
+use Rattle.dict_model.specs.Requests.{Request, put, get, del, Reply, done, full, none, found, after, after_one, AreReplies, IsReply, put_done, put_full, get_found, get_none, del_done, del_none, move, move_done, move_full, move_none}
 use Rattle.dict_model.specs.Shards.{Map, MapOf}
 use Rattle.dict_model.proofs.ShardLemmas.{one_map_of}
 use Rattle.run_model.specs.Needs.{is_to, superblocks_needed}
-use Rattle.run_model.specs.OneMap.{IsWholeMap, NoneIsFull, IsAsOneThread}
+use Rattle.run_model.specs.Arrivals.{IsWholeMap, arrivals, worker_arrivals}
+use Rattle.run_model.specs.OneMap.{NoneIsFull, IsAsOneThread}
 use Rattle.run_model.specs.Opened.{HasMaps}
 use Rattle.run_model.specs.Runs.{answered, unanswered, of_shard, AnswerInOrder, StopsRightly, IsFullRightly, RepliesRightly, LeavesMaps, IsMapLeft}
-use Rattle.run_model.specs.Workers.{Replies, key_of, shard_asked}
-use Rattle.run_model.proofs.FullLemmas.{between, never_full}
+use Rattle.run_model.specs.Workers.{Replies, key_of, shard_asked, worker_of, is_of_worker}
+use Rattle.run_model.proofs.FullLemmas.{between, never_full, never_full_moved}
 
 -- a request is to one of the shards
 pub small_shard : (request : Request) → shard_asked request < shards
@@ -33,6 +35,9 @@ reply_alike part whole _ _ same (get_found key value is) = get_found key value (
 reply_alike part whole _ _ same (get_none key is) = get_none key (sym same ∙ is)
 reply_alike part whole _ _ same (del_done key value is) = del_done key value (sym same ∙ is)
 reply_alike part whole _ _ same (del_none key is) = del_none key (sym same ∙ is)
+reply_alike part whole _ _ same (move_done key to value is) = move_done key to value (sym same ∙ is)
+reply_alike part whole _ _ same (move_full key to value is) = move_full key to value (sym same ∙ is)
+reply_alike part whole _ _ same (move_none key to is) = move_none key to (sym same ∙ is)
 
 -- what a key has after a request follows from what it had
 one_alike : (part whole : Map) (q : Request) (a : Reply) (key : ℕ) → part key ≡ whole key → after_one part q a key ≡ after_one whole q a key
@@ -45,6 +50,10 @@ one_alike part whole (del k) done key same = ap (cond (nat_eq k key) None) same
 one_alike part whole (del k) full key same = same
 one_alike part whole (del k) none key same = same
 one_alike part whole (del k) (found v) key same = same
+one_alike part whole (move k to) done key same = ap (cond (nat_eq k key) None) same
+one_alike part whole (move k to) full key same = same
+one_alike part whole (move k to) none key same = same
+one_alike part whole (move k to) (found v) key same = same
 
 -- another key has what it had
 one_beside : (whole : Map) (q : Request) (a : Reply) (key : ℕ) → key_of q ≢ key → after_one whole q a key ≡ whole key
@@ -57,6 +66,10 @@ one_beside whole (del k) done key other = cond-false (nat_eq k key) None (whole 
 one_beside whole (del k) full key other = refl
 one_beside whole (del k) none key other = refl
 one_beside whole (del k) (found v) key other = refl
+one_beside whole (move k to) done key other = cond-false (nat_eq k key) None (whole key) (ne_eqb k key other)
+one_beside whole (move k to) full key other = refl
+one_beside whole (move k to) none key other = refl
+one_beside whole (move k to) (found v) key other = refl
 
 -- so a part goes on by a request to its shard, and stays over one to another
 part_goes_on : (shard : ℕ) (part whole : Map) (q : Request) (a : Reply) → IsPartOf shard part whole → IsPartOf shard (after_one part q a) (after_one whole q a)
@@ -119,21 +132,46 @@ part_of image whole is shard part map_is = record {
       one_map_of image shard part at.0 map_is (subst (λ s. MapOf image s at.0) of at.1) key ∙ at.2;
 }
 
+-- what comes to a shard comes to its worker
+arrived_of : (workers shard : ℕ) (rs xs : List (Request × Reply))
+    → of_shard shard (rs ++ filter (λ r. is_of_worker workers (worker_of workers shard) r.0) xs) ≡ of_shard shard (rs ++ xs)
+arrived_of workers shard [] [] = refl
+arrived_of workers shard [] (x ∷ xs) =
+    by_case (filter (λ r. is_of_worker workers (worker_of workers shard) r.0) xs) (arrived_of workers shard [] xs)
+    (is_to shard x.0) refl (is_of_worker workers (worker_of workers shard) x.0) refl where
+      by_case : (rest : List (Request × Reply)) → of_shard shard rest ≡ of_shard shard xs
+          → (to : Bool) → is_to shard x.0 ≡ to → (of : Bool) → is_of_worker workers (worker_of workers shard) x.0 ≡ of
+          → of_shard shard (cond of (x ∷ rest) rest) ≡ cond to (x ∷ of_shard shard xs) (of_shard shard xs)
+      by_case rest same true is true mine = ap (λ b. cond b (x ∷ of_shard shard rest) (of_shard shard rest)) is ∙ ap (λ ys. x ∷ ys) same
+      by_case rest same true is false other =
+          let e : true ≡ false = sym (eq-eqb (worker_of workers (shard_asked x.0)) (worker_of workers shard) (ap (worker_of workers) (eqb-true (shard_asked x.0) shard is))) ∙ other in
+          absurd (cc)
+      by_case rest same false is true mine = ap (λ b. cond b (x ∷ of_shard shard rest) (of_shard shard rest)) is ∙ same
+      by_case rest same false is false other = same
+arrived_of workers shard (r ∷ rs) xs = ap (λ ys. cond (is_to shard r.0) (r ∷ ys) ys) (arrived_of workers shard rs xs)
+
 module _ (image : Image) (requests : List Request) (replies : Replies) (whole : Map) (have : HasMaps image) (is : IsWholeMap image whole) where
   pub whole_right : RepliesRightly image requests replies → AreReplies whole (answered requests replies)
   whole_right right = all_right whole (answered requests replies) (λ shard below.
       let of = have.each shard below in
       (of.0, part_of image whole is shard of.0 of.1, right.right shard of.0 below of.1))
 
-  pub whole_left : (left : Image) (workers : ℕ) → LeavesMaps image workers requests replies false left → IsWholeMap left (after whole (answered requests replies))
+  pub whole_left : (left : Image) (workers : ℕ) → LeavesMaps image workers requests replies false left
+      → IsWholeMap left (after whole (answered requests replies ++ arrivals whole (answered requests replies)))
   whole_left left workers leaves = record {
     each = λ key.
         let shard = shard_of key in
         let below : shard < shards = mod-lt key (omega arith) in
         let of = have.each shard below in
-        let then = after of.0 (of_shard shard (answered requests replies)) in
-        let there : MapOf left shard then = closed (leaves.each shard of.0 below of.1) in
-        (then, there, (part_after shard of.0 whole (answered requests replies) (part_of image whole is shard of.0 of.1)).same key refl);
+        let rs = answered requests replies in
+        let mine = worker_arrivals workers (worker_of workers shard) whole rs in
+        let some : take (leaves.arrived (worker_of workers shard)) mine ≡ mine =
+        ap (λ n. take n mine) (leaves.have_arrived.all refl whole is shard below) ∙ take-length mine in
+        let all : of_shard shard (rs ++ take (leaves.arrived (worker_of workers shard)) mine) ≡ of_shard shard (rs ++ arrivals whole rs) =
+        ap (λ xs. of_shard shard (rs ++ xs)) some ∙ arrived_of workers shard rs (arrivals whole rs) in
+        let then = after of.0 (of_shard shard (rs ++ arrivals whole rs)) in
+        let there : MapOf left shard then = subst (λ xs. MapOf left shard (after of.0 xs)) all (closed (leaves.each whole is shard of.0 below of.1)) in
+        (then, there, (part_after shard of.0 whole (rs ++ arrivals whole rs) (part_of image whole is shard of.0 of.1)).same key refl);
   } where
     closed : {left : Image} {shard : ℕ} {map : Map} {rest : List Request} → IsMapLeft left shard map false rest → MapOf left shard map
     closed (inl there) = there
@@ -166,16 +204,20 @@ as_one_thread image left workers budget requests replies have answers stops righ
       leaves = whole_left image requests replies of.0 have of.1 left workers leaves;
     }
 
--- of right replies only a put's is for want of room
-full_to_put : (whole : Map) (q : Request) → IsReply whole q full → (key : ℕ) × (value : List ℕ) × (q ≡ put key value)
-full_to_put whole _ (put_full key value) = (key, value, refl)
+-- of right replies only a put's or a move's is for want of room
+full_to : (whole : Map) (q : Request) → IsReply whole q full
+    → ((key : ℕ) × (value : List ℕ) × (q ≡ put key value)) ⊎ ((key : ℕ) × (to : ℕ) × (q ≡ move key to))
+full_to whole _ (put_full key value) = inl (key, value, refl)
+full_to whole _ (move_full key to value there) = inr (key, to, refl)
 
-full_put : (whole : Map) (rs : List (Request × Reply)) (q : Request) → AreReplies whole rs → Contains rs (q, full) → (key : ℕ) × (value : List ℕ) × (q ≡ put key value)
-full_put whole [] q right h = absurd (in_none (q, full) h)
-full_put whole (r ∷ rs) q right h = elim (head_or_rest r (q, full) rs h) as (λ _. (key : ℕ) × (value : List ℕ) × (q ≡ put key value)) [
-  | inl same ↦ full_to_put whole q (subst (λ (x : Request × Reply). IsReply whole x.0 x.1) same right.0)
-  | inr later ↦ full_put (after_one whole r.0 r.1) rs q right.1 later
-]
+full_one : (whole : Map) (rs : List (Request × Reply)) (q : Request) → AreReplies whole rs → Contains rs (q, full)
+    → ((key : ℕ) × (value : List ℕ) × (q ≡ put key value)) ⊎ ((key : ℕ) × (to : ℕ) × (q ≡ move key to))
+full_one whole [] q right h = absurd (in_none (q, full) h)
+full_one whole (r ∷ rs) q right h = elim (head_or_rest r (q, full) rs h)
+    as (λ _. ((key : ℕ) × (value : List ℕ) × (q ≡ put key value)) ⊎ ((key : ℕ) × (to : ℕ) × (q ≡ move key to))) [
+      | inl same ↦ full_to whole q (subst (λ (x : Request × Reply). IsReply whole x.0 x.1) same right.0)
+      | inr later ↦ full_one (after_one whole r.0 r.1) rs q right.1 later
+    ]
 
 -- each reply is one to a request
 told_to : (requests : List Request) (replies : Replies) (a : Reply) → length replies ≡ length requests → Contains replies (Some a)
@@ -197,7 +239,11 @@ pub room_for_all : (image : Image) (workers : ℕ) (requests : List Request) (re
 room_for_all image workers requests replies some have answers right full_right enough h =
     let of = whole_map image have in
     let told = told_to requests replies full answers.long h in
-    let to_put = full_put of.0 (answered requests replies) told.0 (whole_right image requests replies of.0 have of.1 right) told.1 in
+    let to = full_one of.0 (answered requests replies) told.0 (whole_right image requests replies of.0 have of.1 right) told.1 in
     let parts = between (answered requests replies) (told.0, full) told.1 in
-    never_full image workers requests replies some full_right enough parts.0 parts.1 to_put.0 to_put.1
-    (parts.2 ∙ ap (λ q. parts.0 ++ ((q, full) ∷ parts.1)) to_put.2)
+    let at : (q : Request) → told.0 ≡ q → answered requests replies ≡ parts.0 ++ ((q, full) ∷ parts.1) =
+    λ q e. parts.2 ∙ ap (λ x. parts.0 ++ ((x, full) ∷ parts.1)) e in
+    elim to [
+      | inl of_put ↦ never_full image workers requests replies some full_right enough parts.0 parts.1 of_put.0 of_put.1 (at (put of_put.0 of_put.1) of_put.2)
+      | inr of_move ↦ never_full_moved image workers requests replies some full_right enough parts.0 parts.1 of_move.0 of_move.1 (at (move of_move.0 of_move.1) of_move.2)
+    ]

@@ -1,12 +1,13 @@
--- Worked examples by computation: what is a worker's of a trace and of its replies, what traces need, bounds of steps, runs that answer a first part, what workers took, what one map answers, what a put asks the heap for, and the room for a get.
-use Rattle.std.specs.Prelude.{◌≡◌, List, [], ◌∷◌, map, sum_by, None, Some, refl}
+-- Worked examples by computation: what is a worker's of a trace and of its replies, what traces need, bounds of steps, runs that answer a first part, what workers took, what one map answers, what a put asks the heap for, the room for a get, and what arrives by moves.
+use Rattle.std.specs.Prelude.{◌≡◌, List, [], ◌∷◌, ◌++◌, length, map, sum_by, None, Some, refl}
 use Rattle.std.proofs.Common.{arith, inl, inr}
 use Rattle.heap_model.specs.Image.{Image}
 use Rattle.heap_model.specs.Sizes.{span_of}
 use Rattle.dict_model.specs.Nodes.{node_bytes}
-use Rattle.dict_model.specs.Requests.{Request, put, get, del, done, full, none, found, after, AreReplies, put_done, get_none, del_none}
+use Rattle.dict_model.specs.Requests.{Request, put, get, del, move, Reply, done, full, none, found, after, AreReplies, put_done, get_none, del_none, move_done, move_none}
 use Rattle.dict_model.specs.Shards.{no_keys}
-use Rattle.run_model.specs.Needs.{superblocks_needed, shards_put_into, step_bound}
+use Rattle.run_model.specs.Arrivals.{arrivals, worker_arrivals, arrived_for}
+use Rattle.run_model.specs.Needs.{superblocks_needed, tables_needed, step_bound}
 use Rattle.run_model.specs.Runs.{answered, unanswered, of_shard, AnswersInOrder, span_taken, first_span, worker_answered, worker_unanswered, worker_span, spans_beside}
 use Rattle.run_model.specs.Workers.{Replies, root_owner, worker_requests, worker_replies, worker_numbers}
 use Rattle.run_model.specs.Working.{AsksFor, IsLengthFor, of_trace}
@@ -30,6 +31,10 @@ first_of_two = refl
 of_eight : map (λ worker. worker_requests 8 worker mixed) (0 ∷ 5 ∷ 6 ∷ []) ≡ [] ∷ (put 5 (97 ∷ 98 ∷ []) ∷ del 13 ∷ []) ∷ (get 6 ∷ put 14 [] ∷ []) ∷ []
 of_eight = refl
 
+-- a move is of the worker whose shard it takes the value from
+moved_by : worker_requests 2 1 (move 5 6 ∷ move 6 5 ∷ []) ≡ move 5 6 ∷ []
+moved_by = refl
+
 -- one alone has all
 of_one : worker_requests 1 0 mixed ≡ mixed
 of_one = refl
@@ -46,11 +51,15 @@ needed : superblocks_needed four ∷ superblocks_needed mixed ∷ superblocks_ne
 needed = refl
 
 -- keys 5 and 13 share a table
-two_shards : shards_put_into (put 5 [] ∷ put 13 [] ∷ put 6 [] ∷ get 7 ∷ []) ≡ 2
+two_shards : tables_needed (put 5 [] ∷ put 13 [] ∷ put 6 [] ∷ get 7 ∷ []) ≡ 2
 two_shards = refl
 
+-- the shard that a move brings a value to needs a table, and the one that it takes it from none; and one superblock more is needed where there is a move
+moved_need : superblocks_needed (move 5 6 ∷ []) ∷ superblocks_needed (put 5 [] ∷ move 5 6 ∷ []) ∷ superblocks_needed (put 5 [] ∷ move 5 13 ∷ move 13 5 ∷ []) ∷ [] ≡ 2 ∷ 4 ∷ 3 ∷ []
+moved_need = refl
+
 -- the tables of two workers are those of the trace
-shards_of_two : map (λ worker. shards_put_into (worker_requests 2 worker mixed)) (0 ∷ 1 ∷ []) ≡ 1 ∷ 1 ∷ []
+shards_of_two : map (λ worker. tables_needed (worker_requests 2 worker mixed)) (0 ∷ 1 ∷ []) ≡ 1 ∷ 1 ∷ []
 shards_of_two = refl
 
 -- the node of the longest value takes three superblocks, that of 65,513 bytes two, and one byte less fits one
@@ -143,3 +152,53 @@ two_puts = put 5 (97 ∷ 98 ∷ []) ∷ get 5 ∷ put 5 [] ∷ []
 
 pub two_bytes : (image : Image) → IsLengthFor image two_puts 5 2
 two_bytes image = of_trace (97 ∷ 98 ∷ []) (0, omega arith, refl)
+
+-- a value that is moved away arrives at the end; not one of a key that is missing, nor one that has no room
+abbrev pub two_values : List (Request × Reply)
+two_values = (put 5 (97 ∷ []), done) ∷ (put 6 (98 ∷ []), done) ∷ []
+
+arrives : arrivals no_keys (two_values ++ (move 5 9, done) ∷ (move 7 1, none) ∷ (move 6 2, full) ∷ []) ≡ (put 9 (97 ∷ []), done) ∷ []
+arrives = refl
+
+-- what is put under the key later is not moved, and what is put before is
+as_it_was : arrivals no_keys ((put 5 (97 ∷ []), done) ∷ (move 5 9, done) ∷ (put 5 (98 ∷ []), done) ∷ []) ≡ (put 9 (97 ∷ []), done) ∷ []
+as_it_was = refl
+
+as_put_again : arrivals no_keys ((put 5 (97 ∷ []), done) ∷ (put 5 (98 ∷ []), done) ∷ (move 5 9, done) ∷ []) ≡ (put 9 (98 ∷ []), done) ∷ []
+as_put_again = refl
+
+-- a value that has not arrived cannot go on: only the first of two moves that follow each other finds it
+no_chain : AreReplies no_keys ((put 5 (97 ∷ []), done) ∷ (move 5 9, done) ∷ (move 9 2, none) ∷ [])
+no_chain = (put_done 5 (97 ∷ []), (move_done 5 9 (97 ∷ []) refl, (move_none 9 2 refl, tt)))
+
+-- after all of it the value is under the other key alone
+abbrev pub moved_once : List (Request × Reply)
+moved_once = (put 5 (97 ∷ []), done) ∷ (move 5 9, done) ∷ []
+
+there_at_last : map (after no_keys (moved_once ++ arrivals no_keys moved_once)) (5 ∷ 9 ∷ []) ≡ None ∷ Some (97 ∷ []) ∷ []
+there_at_last = refl
+
+-- a move of a key to itself takes it out, and it is back at the end
+abbrev pub moved_to_itself : List (Request × Reply)
+moved_to_itself = (put 5 (97 ∷ []), done) ∷ (move 5 5, done) ∷ (get 5, none) ∷ []
+
+back_at_last : after no_keys (moved_to_itself ++ arrivals no_keys moved_to_itself) 5 ≡ Some (97 ∷ [])
+back_at_last = refl
+
+-- of two moves to one key the later one is left, and so it is where the key has a value of its own
+abbrev pub moved_both : List (Request × Reply)
+moved_both = two_values ++ (move 5 9, done) ∷ (move 6 9, done) ∷ (put 9 (99 ∷ []), done) ∷ []
+
+last_one_stays : map (after no_keys (moved_both ++ arrivals no_keys moved_both)) (5 ∷ 6 ∷ 9 ∷ []) ≡ None ∷ None ∷ Some (98 ∷ []) ∷ []
+last_one_stays = refl
+
+-- of two workers each has what comes to its shards, in the order of the trace
+abbrev pub moved_across : List (Request × Reply)
+moved_across = two_values ++ (move 5 2, done) ∷ (move 6 9, done) ∷ []
+
+comes_to_each : map (λ worker. worker_arrivals 2 worker no_keys moved_across) (0 ∷ 1 ∷ []) ≡ ((put 2 (97 ∷ []), done) ∷ []) ∷ ((put 9 (98 ∷ []), done) ∷ []) ∷ []
+comes_to_each = refl
+
+-- so many have arrived for a shard as its worker has brought in
+come_so_far : map (λ count. length (arrived_for 1 2 no_keys moved_across (λ worker. count))) (0 ∷ 1 ∷ 2 ∷ []) ≡ 0 ∷ 1 ∷ 2 ∷ []
+come_so_far = refl

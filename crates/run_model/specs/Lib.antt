@@ -1,3 +1,4 @@
+pub mod Arrivals
 pub mod Examples
 pub mod Needs
 pub mod OneMap

@@ -1,10 +1,10 @@
--- What a trace asks for: the shards that it puts into, the superblocks that its nodes and tables take, and how many steps its run may take.
-use Rattle.std.specs.Prelude.{◌≢◌, ℕ, ◌+◌, ◌*◌, ◌^◌, ◌<◌, Bool, false, nat_eq, ◌||◌, List, [], ◌∷◌, length, count_by, sum_by, None, Contains}
+-- What a trace asks for: the shards that it puts or moves into, the superblocks that its nodes and tables take, and how many steps its run may take.
+use Rattle.std.specs.Prelude.{◌≢◌, ℕ, ◌+◌, ◌*◌, ◌^◌, ◌<◌, Bool, true, false, cond, nat_eq, ◌||◌, List, [], ◌∷◌, length, count_by, sum_by, None, Contains}
 use Rattle.heap_model.specs.Image.{Image, words_from}
 use Rattle.heap_model.specs.Sizes.{span_of}
 use Rattle.dict_model.specs.Links.{shards}
-use Rattle.dict_model.specs.Nodes.{node_bytes}
-use Rattle.dict_model.specs.Requests.{Request, put, get, del}
+use Rattle.dict_model.specs.Nodes.{shard_of, node_bytes}
+use Rattle.dict_model.specs.Requests.{Request, put, get, del, move}
 use Rattle.dict_model.specs.Shards.{Map, MapOf}
 use Rattle.run_model.specs.Workers.{shard_asked}
 
@@ -17,6 +17,7 @@ abbrev pub node_span : Request → ℕ
 node_span (put key value) = span_of (node_bytes (length value))
 node_span (get key) = 0
 node_span (del key) = 0
+node_span (move key to) = 0
 
 -- whether one of the requests puts into the shard
 abbrev pub put_into : List Request → ℕ → Bool
@@ -24,14 +25,39 @@ put_into [] shard = false
 put_into (put key value ∷ requests) shard = is_to shard (put key value) || put_into requests shard
 put_into (get key ∷ requests) shard = put_into requests shard
 put_into (del key ∷ requests) shard = put_into requests shard
+put_into (move key to ∷ requests) shard = put_into requests shard
 
--- how many shards are put into: each may need a table, which takes one superblock at most
+-- how many shards are put into
 abbrev pub shards_put_into : List Request → ℕ
 shards_put_into requests = count_by (put_into requests) (words_from (λ i. i) 0 shards)
 
--- the superblocks that are always enough for the requests: those of each put's node, and one for each shard that is put into
+-- whether the request brings a value to the shard: a put, or a move to one of its keys
+abbrev pub brings_to : ℕ → Request → Bool
+brings_to shard (put key value) = nat_eq (shard_of key) shard
+brings_to shard (get key) = false
+brings_to shard (del key) = false
+brings_to shard (move key to) = nat_eq (shard_of to) shard
+
+-- whether one of the requests does
+abbrev pub bring_to : List Request → ℕ → Bool
+bring_to [] shard = false
+bring_to (request ∷ requests) shard = brings_to shard request || bring_to requests shard
+
+-- how many shards are brought a value: each may need a table, which takes one superblock at most
+abbrev pub tables_needed : List Request → ℕ
+tables_needed requests = count_by (bring_to requests) (words_from (λ i. i) 0 shards)
+
+-- whether one of the requests is a move
+abbrev pub has_move : List Request → Bool
+has_move [] = false
+has_move (move key to ∷ requests) = true
+has_move (put key value ∷ requests) = has_move requests
+has_move (get key ∷ requests) = has_move requests
+has_move (del key ∷ requests) = has_move requests
+
+-- the superblocks that are always enough for the requests: those of each put's node, one for each shard that is brought a value, and one where there is a move
 abbrev pub superblocks_needed : List Request → ℕ
-superblocks_needed requests = sum_by node_span requests + shards_put_into requests
+superblocks_needed requests = sum_by node_span requests + tables_needed requests + cond (has_move requests) 1 0
 
 -- the keys of the eight maps of an image are all among these
 pub record ListsKeysOf (image : Image) (keys : List ℕ) : Type 0 where

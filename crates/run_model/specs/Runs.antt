@@ -1,5 +1,5 @@
 -- What a run of a trace by some workers is: which requests are answered, with which replies, and what image is left.
-use Rattle.std.specs.Prelude.{◌≡◌, ℕ, ◌+◌, ◌*◌, ◌<◌, ◌≤◌, ◌⊎◌, Bool, true, false, cond, nat_eq, List, [], ◌∷◌, ◌++◌, length, map, filter, replicate, sum_by, None, Some}
+use Rattle.std.specs.Prelude.{◌≡◌, ◌≢◌, ℕ, ◌+◌, ◌*◌, ◌<◌, ◌≤◌, ◌⊎◌, Bool, true, false, cond, nat_eq, List, [], ◌∷◌, ◌++◌, length, map, filter, replicate, sum_by, None, Some}
 use Rattle.heap_model.specs.declared.block.Block.{Block}
 use Rattle.heap_model.specs.Image.{Image}
 use Rattle.heap_model.specs.Geometry.{clean, dirty, version, state_word, version_word, root_word, roots, IsReserved}
@@ -7,10 +7,11 @@ use Rattle.heap_model.specs.Header.{header_fault, capacity_of, used_of, kinds_of
 use Rattle.heap_model.specs.Blocks.{IsIn}
 use Rattle.heap_model.specs.Reach.{ReachFrom, IsOutsideIn}
 use Rattle.dict_model.specs.Links.{shards, dict_links, kind_count}
-use Rattle.dict_model.specs.Requests.{Request, put, Reply, done, full, after, after_one, AreReplies}
+use Rattle.dict_model.specs.Requests.{Request, put, move, Reply, done, full, after, after_one, AreReplies}
 use Rattle.dict_model.specs.Shards.{Map, MapOf}
+use Rattle.run_model.specs.Arrivals.{IsWholeMap, worker_arrivals, arrived_for}
 use Rattle.run_model.specs.Workers.{Replies, worker_of, worker_requests, worker_replies, worker_numbers}
-use Rattle.run_model.specs.Needs.{is_to, node_span, shards_put_into, ListsKeysOf, step_bound}
+use Rattle.run_model.specs.Needs.{is_to, node_span, tables_needed, ListsKeysOf, step_bound}
 
 -- the requests that have a reply, each with it
 abbrev pub answered : List Request → Replies → List (Request × Reply)
@@ -80,7 +81,11 @@ pub record IsFullRightly (image : Image) (workers : ℕ) (requests : List Reques
   pub cause : (worker : ℕ) → worker < workers → (before later : List (Request × Reply)) (key : ℕ) (value : List ℕ)
       → worker_answered workers worker requests replies ≡ before ++ (put key value, full) ∷ later
       → capacity_of image < used_of image + node_span (put key value) + sum_by span_taken before + spans_beside workers worker requests replies
-      + shards_put_into requests
+      + tables_needed requests
+  -- a move is told so only where no superblock was left for the table of its other key, with those that tables of the trace may take
+  pub move_cause : (worker : ℕ) → worker < workers → (before later : List (Request × Reply)) (key to : ℕ)
+      → worker_answered workers worker requests replies ≡ before ++ (move key to, full) ∷ later
+      → capacity_of image < used_of image + 1 + tables_needed requests
 
 -- in each shard the replies are right, one after the other from its map in the image on
 pub record RepliesRightly (image : Image) (requests : List Request) (replies : Replies) : Type 0 where
@@ -95,14 +100,26 @@ pub record IsAfterFirst (left : Image) (shard : ℕ) (map : Map) (rest : List Re
   pub to_shard : is_to shard request ≡ true
   pub map_is : MapOf left shard (after_one map request done)
 
--- what is left of a shard is its map after the requests; where the run was stopped it may be that after the first unanswered request too
+-- what is left of a shard is this map; where the run was stopped it may be that after the first unanswered request too
 abbrev pub IsMapLeft : Image → ℕ → Map → Bool → List Request → Type 0
 IsMapLeft left shard map stopped rest = MapOf left shard map ⊎ ((stopped ≡ true) × IsAfterFirst left shard map rest)
 
--- so it is of each shard, where it is the first one of its worker
+-- So many of its arrivals a shard's worker has brought in, the first ones: all of them where the run wasn't stopped, and none where one of its requests
+-- is unanswered.
+pub record HaveArrived (image : Image) (workers : ℕ) (requests : List Request) (replies : Replies) (stopped : Bool) (arrived : ℕ → ℕ) : Type 0 where
+  pub all : stopped ≡ false → (whole : Map) → IsWholeMap image whole → (shard : ℕ) → shard < shards
+      → arrived (worker_of workers shard) ≡ length (worker_arrivals workers (worker_of workers shard) whole (answered requests replies))
+  pub none : (shard : ℕ) → shard < shards → worker_unanswered workers (worker_of workers shard) requests replies ≢ []
+      → arrived (worker_of workers shard) ≡ 0
+
+-- What is left of each shard is its map after its answered requests and what has arrived of its worker's. Where the run was stopped it may be the map
+-- after the first unanswered request of that worker too.
 pub record LeavesMaps (image : Image) (workers : ℕ) (requests : List Request) (replies : Replies) (stopped : Bool) (left : Image) : Type 0 where
-  pub each : (shard : ℕ) (map : Map) → shard < shards → MapOf image shard map
-      → IsMapLeft left shard (after map (of_shard shard (answered requests replies))) stopped
+  pub arrived : ℕ → ℕ
+  pub have_arrived : HaveArrived image workers requests replies stopped arrived
+  pub each : (whole : Map) → IsWholeMap image whole → (shard : ℕ) (map : Map) → shard < shards → MapOf image shard map
+      → IsMapLeft left shard
+      (after map (of_shard shard (answered requests replies ++ arrived_for workers shard whole (answered requests replies) arrived))) stopped
       (worker_unanswered workers (worker_of workers shard) requests replies)
 
 -- a root that is no shard's
@@ -129,7 +146,7 @@ pub record LeavesOthers (image left : Image) : Type 0 where
 pub record LeavesUsed (image : Image) (workers : ℕ) (requests : List Request) (replies : Replies) (left : Image) : Type 0 where
   pub least : used_of image ≤ used_of left
   pub most : used_of left ≤ used_of image + sum_by (λ worker. worker_span workers worker requests replies) (worker_numbers workers)
-      + shards_put_into requests
+      + tables_needed requests
 
 -- it was closed where the run wasn't stopped
 abbrev pub LeavesState : Bool → Image → Type 0

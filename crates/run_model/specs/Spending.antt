@@ -3,7 +3,7 @@ use Rattle.std.specs.Prelude.{◌≡◌, ℕ, ◌+◌, ◌*◌, ◌<◌, ◌≤�
 use Rattle.heap_seat.specs.View.{View}
 use Rattle.heap_seat.specs.Looks.{KnowsNoLess}
 use Rattle.heap_seat.specs.Rows.{IsRow}
-use Rattle.dict_model.specs.Requests.{Request, put, get, del, Reply, full}
+use Rattle.dict_model.specs.Requests.{Request, put, get, del, move, Reply, full}
 use Rattle.dict_seat.specs.Puts.{WasNull, RootIsSet}
 use Rattle.run_model.specs.Needs.{node_span, shards_put_into}
 use Rattle.run_model.specs.Workers.{shard_asked}
@@ -13,6 +13,7 @@ abbrev pub IsPut : Request → Type 0
 IsPut (put key value) = Unit {0}
 IsPut (get key) = ⊥
 IsPut (del key) = ⊥
+IsPut (move key to) = ⊥
 
 -- an answered request took superblocks for its put's node at most, and one for a table where its shard had none and has one now
 pub data TakesFew (request : Request) (reply : Reply) (v w : View) : Type 0 where

@@ -3,17 +3,18 @@ use Rattle.std.specs.Prelude.{ℕ, ◌%◌, Bool, nat_eq, nat_lt, List, [], ◌�
 use Rattle.heap_model.specs.Image.{words_from}
 use Rattle.dict_model.specs.Links.{shards}
 use Rattle.dict_model.specs.Nodes.{shard_of}
-use Rattle.dict_model.specs.Requests.{Request, put, get, del, Reply}
+use Rattle.dict_model.specs.Requests.{Request, put, get, del, move, Reply}
 
 -- the replies to a trace: none where a request is unanswered
 abbrev pub Replies : Type 0
 Replies = List (Option Reply)
 
--- the key that a request is about, and the shard of the key
+-- the key that a request is about, of a move the one that it takes out; and the shard of the key
 abbrev pub key_of : Request → ℕ
 key_of (put key value) = key
 key_of (get key) = key
 key_of (del key) = key
+key_of (move key to) = key
 
 abbrev pub shard_asked : Request → ℕ
 shard_asked request = shard_of (key_of request)

@@ -8,7 +8,7 @@ use Rattle.heap_seat.specs.Sound.{IsSeat}
 use Rattle.heap_seat.specs.Tickets.{Runs}
 use Rattle.dict_model.specs.Links.{shards}
 use Rattle.dict_model.specs.Nodes.{largest_value, shard_of, value_words, node_bytes, table_bytes}
-use Rattle.dict_model.specs.Requests.{Request, put, get, del, Reply, full}
+use Rattle.dict_model.specs.Requests.{Request, put, get, del, move, Reply, full}
 use Rattle.dict_model.specs.Shards.{Map, MapOf}
 use Rattle.dict_seat.specs.Answers.{MakesFew}
 use Rattle.dict_seat.specs.Gets.{words_of}
@@ -16,7 +16,7 @@ use Rattle.dict_seat.specs.Maps.{GivesMap}
 use Rattle.dict_seat.specs.Puts.{WasTurnedDown}
 use Rattle.run_model.specs.Workers.{Replies, shard_asked}
 use Rattle.run_model.specs.Progress.{Answers, MayAnswer, HasAnswered}
-use Rattle.run_model.specs.Spending.{TakesFew, HadNoRoom}
+use Rattle.run_model.specs.Spending.{TakesFew, HadNoRoom, IsPut}
 
 -- these requests are left, and the others have these replies
 pub record HasWorked (image : Image) (requests left : List Request) (replies : Replies) (v : View) : Type 0 where
@@ -57,6 +57,7 @@ abbrev pub HasRoom : Image → List Request → Request → ℕ → Type 0
 HasRoom image requests (get key) room = IsRoomFor image requests key room
 HasRoom image requests (put key value) room = room ≡ 0
 HasRoom image requests (del key) room = room ≡ 0
+HasRoom image requests (move key to) room = room ≡ 0
 
 -- each request has its room, and there is no other
 abbrev pub HaveRoom : Image → List Request → List Request → List (List ℕ) → Type 0
@@ -70,25 +71,27 @@ Fits v (get key) room =
     (room ≤ largest_value) × ((map : Map) (value : List ℕ) → GivesMap v (shard_of key) map → map key ≡ Some value → length value ≤ room)
 Fits v (put key value) room = Unit {0}
 Fits v (del key) room = Unit {0}
+Fits v (move key to) room = Unit {0}
 
--- the request has this reply, which is right; it took few superblocks, and was told full only where there were too few
+-- the request has this reply, which is right; it took few superblocks, and a put was told full only where there were too few
 pub record Replied (request : Request) (told : Option Reply) (v w : View) : Type 0 where
   pub reply : Reply
   pub told_is : told ≡ Some reply
   pub answers : Answers request reply v w
   pub takes : TakesFew request reply v w
-  pub room : reply ≡ full → HadNoRoom request w
+  pub room : IsPut request → reply ≡ full → HadNoRoom request w
 
--- the words of the value that a request puts, or that its key has which it gets
-abbrev pub words_moved : Request → Map → ℕ
-words_moved (put key value) map = value_words (length value)
-words_moved (get key) map = words_of (map key)
-words_moved (del key) map = 0
+-- the words of the value that a request puts, or that its key has which it gets; a move copies none
+abbrev pub words_copied : Request → Map → ℕ
+words_copied (put key value) map = value_words (length value)
+words_copied (get key) map = words_of (map key)
+words_copied (del key) map = 0
+words_copied (move key to) map = 0
 
--- a request makes few calls, by the words that it moves and the keys of its shard
+-- a request makes few calls, by the words that it copies and the keys of its shard
 pub record MakesCalls (request : Request) (v w : View) : Type 0 where
   pub most : ℕ
-  pub few : (map : Map) → GivesMap v (shard_asked request) map → MakesFew (words_moved request map) most (shard_asked request) v w
+  pub few : (map : Map) → GivesMap v (shard_asked request) map → MakesFew (words_copied request map) most (shard_asked request) v w
 
 -- What was done behind the last reply: nothing where no request is left, and else a part of the first one, by no more calls than that may make.
 abbrev pub IsUnderWay : List Request → View → View → Type 0
@@ -100,6 +103,7 @@ abbrev pub AsksFor : Request → ℕ → Type 0
 AsksFor (put key value) bytes = (bytes ≡ node_bytes (length value)) ⊎ (bytes ≡ table_bytes)
 AsksFor (get key) bytes = ⊥
 AsksFor (del key) bytes = ⊥
+AsksFor (move key to) bytes = ⊥
 
 -- the heap turned down one request for a block that this request made to it, and no other
 pub record WasRefused {S : Type 0} (view : S → View) (keeps : S → S → Type 0) (has_none : S → S → ℕ → Looks → Type 0) (request : Request) (s t : S) : Type 0 where
@@ -108,7 +112,7 @@ pub record WasRefused {S : Type 0} (view : S → View) (keeps : S → S → Type
   pub none : WasTurnedDown keeps has_none (view t).refused_bytes (view t).refused_looks s t
 
 -- A request went from one state of a seat to the next. Its reply is right, its tickets are below the budget, its calls are few, and what every call keeps
--- was kept. One that was told full had a request for a block refused, and no other had.
+-- was kept. A put that was told full had a request for a block refused, and no other request had.
 pub record TakesRequest {S : Type 0} (view : S → View) (keeps : S → S → Type 0) (has_none : S → S → ℕ → Looks → Type 0) (request : Request) (reply : Reply)
     (s t : S) : Type 0 where
   pub answers : Answers request reply (view s) (view t)
@@ -116,8 +120,8 @@ pub record TakesRequest {S : Type 0} (view : S → View) (keeps : S → S → Ty
   pub runs : Runs (view s) (view t)
   pub calls : MakesCalls request (view s) (view t)
   pub keeps_it : keeps s t
-  pub refused : reply ≡ full → WasRefused view keeps has_none request s t
-  pub granted : (reply ≡ full → ⊥) → SameRefusals (view s) (view t)
+  pub refused : IsPut request → reply ≡ full → WasRefused view keeps has_none request s t
+  pub granted : (IsPut request → reply ≡ full → ⊥) → SameRefusals (view s) (view t)
 
 -- and so request by request
 abbrev pub TakesRequests : {S : Type 0} → (S → View) → (S → S → Type 0) → (S → S → ℕ → Looks → Type 0) → List (Request × Reply) → S → S → Type 0

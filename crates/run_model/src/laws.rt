@@ -4,10 +4,11 @@
 ghost use Rattle.std.specs.Prelude.{◌≡◌, ℕ, ◌+◌, ◌≤◌, false, List, ◌∷◌, ◌++◌, length};
 ghost use Rattle.heap_model.specs.Image.{Image};
 ghost use Rattle.heap_model.specs.Header.{capacity_of, used_of};
-ghost use Rattle.dict_model.specs.Requests.{Request, Reply, put, full, after, AreReplies};
+ghost use Rattle.dict_model.specs.Requests.{Request, Reply, put, move, full, after, AreReplies};
 ghost use Rattle.dict_model.specs.Shards.{Map};
 ghost use Rattle.run_model.specs.Needs.{superblocks_needed};
-ghost use Rattle.run_model.specs.OneMap.{IsWholeMap, NoneIsFull, IsAsOneThread};
+ghost use Rattle.run_model.specs.Arrivals.{IsWholeMap, arrivals};
+ghost use Rattle.run_model.specs.OneMap.{NoneIsFull, IsAsOneThread};
 ghost use Rattle.run_model.specs.Opened.{HasMaps};
 ghost use Rattle.run_model.specs.Runs.{answered, AnswersInOrder, AnswerInOrder, StopsRightly, IsFullRightly, RepliesRightly, LeavesMaps};
 ghost use Rattle.run_model.specs.Workers.{Replies};
@@ -22,7 +23,7 @@ pub fn a_dictionary_is_one_map()
 /// A run that isn't stopped, and refuses no request for want of room, is that of one thread,
 /// however many workers it has. However a run ends, its replies are right for the whole map, asked
 /// by the answered requests in the order of the trace; and where it isn't stopped, the whole map
-/// after these is left.
+/// after these, and after what arrives by them, is left.
 pub fn a_run_without_a_refusal_is_that_of_one_thread()
     ensures thread { (image left : Image) (workers budget : ℕ) (requests : List Request)
         (replies : Replies) → HasMaps image → AnswerInOrder workers requests replies
@@ -36,7 +37,8 @@ pub fn a_run_without_a_refusal_is_that_of_one_thread()
     ensures left { (image left : Image) (workers : ℕ) (requests : List Request)
         (replies : Replies) (whole : Map) → HasMaps image → IsWholeMap image whole
         → LeavesMaps image workers requests replies false left
-        → IsWholeMap left (after whole (answered requests replies)) }
+        → IsWholeMap left (after whole (answered requests replies
+        ++ arrivals whole (answered requests replies))) }
 {}
 
 /// Of two runs of a trace over one image that are each that of one thread, the replies are the
@@ -50,7 +52,7 @@ pub fn runs_as_one_thread_are_alike()
 {}
 
 /// Each of a worker's requests has a reply or stands as unanswered; and where as many superblocks
-/// are left as the trace needs, no put of it is told that there is no room.
+/// are left as the trace needs, no put and no move of it is told that there is no room.
 pub fn replies_fit_the_trace()
     ensures each { (requests : List Request) (replies : Replies) → AnswersInOrder requests replies
         → length replies ≡ length requests }
@@ -59,9 +61,15 @@ pub fn replies_fit_the_trace()
         → used_of image + superblocks_needed requests ≤ capacity_of image
         → (before later : List (Request × Reply)) (key : ℕ) (value : List ℕ)
         → answered requests replies ≡ before ++ (put key value, full) ∷ later → ⊥ }
+    ensures move_room { (image : Image) (workers : ℕ) (requests : List Request) (replies : Replies)
+        → 1 ≤ workers → IsFullRightly image workers requests replies
+        → used_of image + superblocks_needed requests ≤ capacity_of image
+        → (before later : List (Request × Reply)) (key to : ℕ)
+        → answered requests replies ≡ before ++ (move key to, full) ∷ later → ⊥ }
 {}
 
-/// So there no reply at all is that there is no room: of right replies only a put's may be.
+/// So there no reply at all is that there is no room: of right replies only a put's or a move's may
+/// be.
 pub fn enough_room_refuses_nothing()
     ensures { (image : Image) (workers : ℕ) (requests : List Request) (replies : Replies)
         → 1 ≤ workers → HasMaps image → AnswerInOrder workers requests replies

@@ -8,10 +8,12 @@ use Rattle.dict_model.specs.Links.{shards, kind_count}
 use Rattle.dict_model.specs.Requests.{Request, done, after, after_one}
 use Rattle.dict_model.specs.Shards.{Map, LeadsAlone, MapOf}
 use Rattle.dict_model.proofs.ShardLemmas.{one_map_of}
+use Rattle.run_model.specs.Arrivals.{arrived_for}
 use Rattle.run_model.specs.Needs.{ListsKeysOf}
 use Rattle.run_model.specs.Opened.{HasMaps, CanBeRun}
 use Rattle.run_model.specs.Runs.{answered, worker_unanswered, of_shard, IsMapLeft, LeavesMaps, LeavesHeader, LeavesOthers}
 use Rattle.run_model.specs.Workers.{Replies, worker_of}
+use Rattle.run_model.proofs.OneMapLemmas.{whole_map}
 use Rattle.worker_run.proofs.KeyLemmas.{map_keys}
 
 -- a shard that is left as one map or another is a map
@@ -34,7 +36,10 @@ can_be_run image left workers requests replies stopped words have maps header ot
     kinds = kinds_left have header;
     each = λ shard small.
         let first = have.each shard small in
-        one_left left shard (after first.0 (of_shard shard (answered requests replies))) stopped (worker_unanswered workers (worker_of workers shard) requests replies) (maps.each shard first.0 small first.1);
+        let whole = whole_map image have in
+        let rs = answered requests replies in
+        one_left left shard (after first.0 (of_shard shard (rs ++ arrived_for workers shard whole.0 rs maps.arrived))) stopped (worker_unanswered workers (worker_of workers shard) requests replies)
+        (maps.each whole.0 whole.1 shard first.0 small first.1);
   };
 }
 

@@ -4,7 +4,7 @@ use Rattle.std.proofs.Math.Seq.{take-append_seam}
 use Rattle.std.proofs.lemmas.List.{take_all}
 use Rattle.heap_seat.specs.View.{View}
 use Rattle.dict_model.specs.Nodes.{shard_of, value_words, node_bytes, table_bytes}
-use Rattle.dict_model.specs.Requests.{Request, put, get, del, done, full, none, found, get_found, get_none, put_done, put_full, del_done, del_none, with_key, without_key, IsReply}
+use Rattle.dict_model.specs.Requests.{Request, put, get, del, move, done, full, none, found, get_found, get_none, put_done, put_full, del_done, del_none, with_key, without_key, IsReply}
 use Rattle.dict_model.specs.Shards.{Map}
 use Rattle.dict_seat.specs.Answers.{Deletes, MakesFew}
 use Rattle.dict_seat.specs.Changes.{Changes}
@@ -12,7 +12,7 @@ use Rattle.dict_seat.specs.Maps.{GivesMap}
 use Rattle.dict_seat.proofs.DelLemmas.{gives_same, without_missing}
 use Rattle.run_model.specs.Spending.{TakesFew, for_node as only_node, with_table, HadNoRoom}
 use Rattle.run_model.specs.Workers.{shard_asked}
-use Rattle.run_model.specs.Working.{Fits, Replied, AsksFor, WasRefused, words_moved}
+use Rattle.run_model.specs.Working.{Fits, Replied, AsksFor, WasRefused, words_copied}
 use Rattle.dict_seat.specs.Gets.{IsAnswer, Gets, ReadsFew, words_of}
 use Rattle.dict_seat.specs.Puts.{IsRefused, PutRefused, WasTurnedDown, of_node, of_node_behind_table, of_table, PutTakes, for_node, for_both}
 use Rattle.dict_seat.specs.Removal.{IsShard}
@@ -40,7 +40,7 @@ replied_put key value v w shard changes takes = record {
   told_is = refl;
   answers = record { right = λ m gives. put_done key value; gives = λ m gives. changes.gives m gives };
   takes = put_takes key value v w shard changes takes;
-  room = λ e. absurd (cc);
+  room = λ is_put e. absurd (cc);
 }
 
 -- wherever it ended
@@ -98,7 +98,7 @@ replied_full key value looks v w refused same = record {
   told_is = refl;
   answers = record { right = λ m gives. put_full key value; gives = same };
   takes = full_takes key value looks v w refused;
-  room = λ e. full_room key value looks v w refused;
+  room = λ is_put e. full_room key value looks v w refused;
 }
 
 -- a value is there or not
@@ -118,7 +118,7 @@ replied_gone key v w shard few deletes = record {
     gives = deletes.gives;
   };
   takes = only_node (takes_none 0 (shard_of key) shard.map v w shard.gives few);
-  room = λ e. absurd (cc);
+  room = λ is_put e. absurd (is_put);
 }
 
 pub replied_none : (key : ℕ) (v w : View) → IsShard v (shard_of key) → MakesFew 0 0 (shard_of key) v w → Deletes key false v w → Replied (del key) (Some none) v w
@@ -130,7 +130,7 @@ replied_none key v w shard few deletes = record {
     gives = λ m gives. gives_same w (shard_of key) (without_key m key) m (λ q. sym (without_missing m key (missing m gives) q)) (deletes.gives m gives);
   };
   takes = only_node (takes_none 0 (shard_of key) shard.map v w shard.gives few);
-  room = λ e. absurd (cc);
+  room = λ is_put e. absurd (is_put);
 } where
   missing : (m : Map) → GivesMap v (shard_of key) m → m key ≡ None
   missing m gives = elim (there_or_not (m key)) as (λ _. m key ≡ None) [
@@ -138,11 +138,12 @@ replied_none key v w shard few deletes = record {
     | inr value ↦ absurd (let yes : false ≡ true = (deletes.tells m gives).1 (λ nothing. let e : None ≡ Some value.0 = sym nothing ∙ value.1 in absurd (cc)) in cc)
   ]
 
--- the words that a request moves are few
-pub moves_few : (q : Request) (v : View) (room : ℕ) → IsShort q → Fits v q room → (map : Map) → GivesMap v (shard_asked q) map → words_moved q map ≤ 16384
-moves_few (put key value) v room short fits map gives = omega (arith, short)
-moves_few (del key) v room short fits map gives = omega arith
-moves_few (get key) v room short fits map gives = elim (there_or_not (map key)) as (λ _. words_of (map key) ≤ 16384) [
+-- the words that a request copies are few
+pub copies_few : (q : Request) (v : View) (room : ℕ) → IsShort q → Fits v q room → (map : Map) → GivesMap v (shard_asked q) map → words_copied q map ≤ 16384
+copies_few (put key value) v room short fits map gives = omega (arith, short)
+copies_few (del key) v room short fits map gives = omega arith
+copies_few (move key to) v room short fits map gives = omega arith
+copies_few (get key) v room short fits map gives = elim (there_or_not (map key)) as (λ _. words_of (map key) ≤ 16384) [
   | inl nothing ↦ subst (λ o. words_of o ≤ 16384) (sym nothing) (let none : 0 ≤ 16384 = omega arith in none)
   | inr value ↦ subst (λ o. words_of o ≤ 16384) (sym value.1)
       (let most = fits.0 in let long = fits.1 map value.0 gives value.1 in let few : value_words (length value.0) ≤ 16384 = omega arith in few)
@@ -164,7 +165,7 @@ replied_missing key old new v w shard few same got = record {
     gives = same.gives;
   };
   takes = only_node (takes_none (words_of (shard.map key)) (shard_of key) shard.map v w shard.gives (few shard.map shard.gives));
-  room = λ e. absurd (cc);
+  room = λ is_put e. absurd (is_put);
 }
 
 -- what was read is the value, where it fits
@@ -195,5 +196,5 @@ replied_found key room n len old new rest told v w fits is_room long same_long t
     gives = same.gives;
   };
   takes = only_node (takes_none (words_of (shard.map key)) (shard_of key) shard.map v w shard.gives (few shard.map shard.gives));
-  room = λ e. absurd (cc);
+  room = λ is_put e. absurd (is_put);
 }

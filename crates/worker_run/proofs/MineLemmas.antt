@@ -6,7 +6,7 @@ use Rattle.heap_model.specs.Image.{Image}
 use Rattle.heap_model.proofs.MemberLemmas.{in_none, in_head, in_rest, head_or_rest}
 use Rattle.heap_seat.specs.View.{View}
 use Rattle.dict_model.specs.Links.{shards}
-use Rattle.dict_model.specs.Requests.{Request, put, get, del}
+use Rattle.dict_model.specs.Requests.{Request, put, get, del, move}
 use Rattle.dict_seat.specs.Removal.{IsShard}
 use Rattle.run_model.specs.Needs.{is_to, put_into}
 use Rattle.run_model.specs.Opened.{HasMaps}
@@ -32,6 +32,7 @@ put_there : (requests : List Request) (shard : ℕ) → put_into requests shard 
 put_there [] shard is = absurd (cc)
 put_there (get key ∷ rest) shard is = let later = put_there rest shard is in (later.0, in_rest (get key) later.0 rest later.1, later.2)
 put_there (del key ∷ rest) shard is = let later = put_there rest shard is in (later.0, in_rest (del key) later.0 rest later.1, later.2)
+put_there (move key to ∷ rest) shard is = let later = put_there rest shard is in (later.0, in_rest (move key to) later.0 rest later.1, later.2)
 put_there (put key value ∷ rest) shard is = by_case (put_there rest shard) (is_to shard (put key value)) refl is where
   by_case : (put_into rest shard ≡ true → (q : Request) × Contains rest q × (shard_asked q ≡ shard)) → (b : Bool) → is_to shard (put key value) ≡ b → (b || put_into rest shard) ≡ true → (q : Request) × Contains (put key value ∷ rest) q × (shard_asked q ≡ shard)
   by_case behind true first is = (put key value, in_head (put key value) rest, eqb-true (shard_asked (put key value)) shard first)

@@ -18,11 +18,11 @@ use Rattle.dict_seat.specs.Walks.{ListsKeys}
 use Rattle.run_model.specs.Needs.{ListsKeysOf}
 use Rattle.run_model.specs.Opened.{HasMaps}
 use Rattle.run_model.specs.Runs.{answered, unanswered, of_shard, span_taken}
-use Rattle.run_model.specs.Spending.{HadNoRoom, IsFullBehind, AreFullRightly, MakeFew}
+use Rattle.run_model.specs.Spending.{IsPut, HadNoRoom, IsFullBehind, AreFullRightly, MakeFew}
 use Rattle.run_model.specs.Workers.{key_of, shard_asked, Replies}
-use Rattle.run_model.specs.Working.{Fits, HasWorked, MakesCalls, TakesRequest, TakesRequests, words_moved}
+use Rattle.run_model.specs.Working.{Fits, HasWorked, MakesCalls, TakesRequest, TakesRequests, words_copied}
 use Rattle.worker_run.specs.Said.{IsShort, Told, reply_of, replies_of}
-use Rattle.worker_run.proofs.AnsweringLemmas.{moves_few, there_or_not}
+use Rattle.worker_run.proofs.AnsweringLemmas.{copies_few, there_or_not}
 use Rattle.worker_run.proofs.KeyLemmas.{seat_keys}
 use Rattle.run_model.proofs.OneMapLemmas.{small_shard}
 use Rattle.worker_run.proofs.TakenLemmas.{HasTaken, tables_few}
@@ -116,16 +116,16 @@ pub few_next : (requests small : ℕ) (image : Image) (qs left : List Request) (
     → MakeFew (requests + 1) small v w
 few_next requests small image qs left q replies v u w room keys small_is maps owned worked lists short fits calls few =
     let listed = keys_listed image qs left q replies u keys maps owned worked lists in
-    let moves : words_moved q listed.map ≤ 16384 = moves_few q u room short fits listed.map listed.gives in
+    let moves : words_copied q listed.map ≤ 16384 = copies_few q u room short fits listed.map listed.gives in
     let row = calls.few listed.map listed.gives (keys ++ map key_of qs) listed in
     let long = length-append keys (map key_of qs) in
     let same = length-map qs key_of in
     let product = add-mul requests 1 small in
     record {
       most = few.most + calls.most;
-      row = row_more (requests * small + (512 + 2 * words_moved q listed.map + 4 * length (keys ++ map key_of qs))) (3 * requests + 3) (few.most + calls.most) ((requests + 1) * small) (3 * (requests + 1)) (few.most + calls.most) v w
+      row = row_more (requests * small + (512 + 2 * words_copied q listed.map + 4 * length (keys ++ map key_of qs))) (3 * requests + 3) (few.most + calls.most) ((requests + 1) * small) (3 * (requests + 1)) (few.most + calls.most) v w
           (omega arith) (omega arith) (omega arith)
-          (row_then (requests * small) (3 * requests) few.most (512 + 2 * words_moved q listed.map + 4 * length (keys ++ map key_of qs)) 3 calls.most v u w few.row row);
+          (row_then (requests * small) (3 * requests) few.most (512 + 2 * words_copied q listed.map + 4 * length (keys ++ map key_of qs)) 3 calls.most v u w few.row row);
     }
 
 pub few_more : (requests more small : ℕ) (v w : View) → requests ≤ more → MakeFew requests small v w → MakeFew more small v w
@@ -185,7 +185,7 @@ refused_on view keeps requests rs s t u was on knows = record {
 
 -- and at a request more
 pub refused_next : {S : Type 0} (view : S → View) (keeps : S → S → Type 0) (requests : List Request) (rs : List (Request × Reply)) (q : Request) (r : Reply) (s t : S)
-    → AreFullRightly view keeps requests rs s t → keeps s t → keeps t t → (r ≡ full → IsFullBehind requests rs q (view s) (view t)) → AreFullRightly view keeps requests (rs ++ ((q, r) ∷ [])) s t
+    → AreFullRightly view keeps requests rs s t → keeps s t → keeps t t → (IsPut q → r ≡ full → IsFullBehind requests rs q (view s) (view t)) → AreFullRightly view keeps requests (rs ++ ((q, r) ∷ [])) s t
 refused_next view keeps requests rs q r s t was kept same now = record {
   each = λ before later key value is.
       elim (last_or_before rs before later (q, r) (put key value, full) is)
@@ -198,7 +198,7 @@ refused_next view keeps requests rs q r s t was kept same now = record {
               same,
               let none : KnowsNoLess (view t) (view t) = omega arith in none,
               subst (λ (xs : List (Request × Reply)). IsFullBehind requests xs (put key value) (view s) (view t)) last.0
-                  (subst (λ x. IsFullBehind requests rs x (view s) (view t)) asked (now told)),
+                  (subst (λ x. IsFullBehind requests rs x (view s) (view t)) asked (now (subst IsPut (sym asked) tt) told)),
             )
         | inr old ↦ was.each before old.0 key value old.1
       ];

@@ -10,7 +10,7 @@ use Rattle.heap_model.proofs.ReachLemmas.{not_null}
 use Rattle.heap_seat.specs.View.{View}
 use Rattle.heap_seat.specs.Words.{MayBe}
 use Rattle.dict_model.specs.Links.{shards}
-use Rattle.dict_model.specs.Requests.{Request, put, get, del, Reply}
+use Rattle.dict_model.specs.Requests.{Request, put, get, del, move, Reply}
 use Rattle.dict_model.specs.Shards.{Map, is_empty, has_table}
 use Rattle.dict_seat.specs.Maps.{IsMapIn, GivesMap}
 use Rattle.dict_seat.specs.Puts.{RootIsSet}
@@ -117,6 +117,10 @@ put_into_has (put key value ∷ rest) request is h = elim (head_or_rest (put key
   | inr later ↦ or_right (is_to (shard_asked request) (put key value)) (put_into rest (shard_asked request)) (put_into_has rest request is later)
 ]
 put_into_has (get key ∷ rest) request is h = elim (head_or_rest (get key) request rest h) as (λ _. put_into (get key ∷ rest) (shard_asked request) ≡ true) [
+  | inl same ↦ absurd (subst IsPut (sym same) is)
+  | inr later ↦ put_into_has rest request is later
+]
+put_into_has (move key to ∷ rest) request is h = elim (head_or_rest (move key to) request rest h) as (λ _. put_into (move key to ∷ rest) (shard_asked request) ≡ true) [
   | inl same ↦ absurd (subst IsPut (sym same) is)
   | inr later ↦ put_into_has rest request is later
 ]

@@ -9,7 +9,7 @@ use Rattle.heap_seat.specs.View.{View}
 use Rattle.heap_seat.specs.Sound.{IsSeat}
 use Rattle.dict_model.specs.Links.{shards}
 use Rattle.dict_model.specs.Nodes.{shard_of}
-use Rattle.dict_model.specs.Requests.{Request, put, get, del, Reply, done, full, none, found, after, after_one}
+use Rattle.dict_model.specs.Requests.{Request, put, get, del, move, Reply, done, full, none, found, after, after_one}
 use Rattle.dict_model.specs.Shards.{Map}
 use Rattle.dict_seat.proofs.TrailLemmas.{same_map}
 use Rattle.run_model.specs.Needs.{is_to}
@@ -37,12 +37,19 @@ one_where m (del k) done key value is = elim (cases_eq k key) as (λ _. (m key �
   | inl same ↦ let e : None ≡ Some value = sym (cond-true (nat_eq k key) None (m key) (eq-eqb k key same)) ∙ is in absurd (cc)
   | inr other ↦ inl (sym (cond-false (nat_eq k key) None (m key) (ne_eqb k key other)) ∙ is)
 ]
+one_where m (move k to) done key value is = elim (cases_eq k key) as (λ _. (m key ≡ Some value) ⊎ (move k to ≡ put key value)) [
+  | inl same ↦ let e : None ≡ Some value = sym (cond-true (nat_eq k key) None (m key) (eq-eqb k key same)) ∙ is in absurd (cc)
+  | inr other ↦ inl (sym (cond-false (nat_eq k key) None (m key) (ne_eqb k key other)) ∙ is)
+]
 one_where m (put k v) full key value is = inl is
 one_where m (put k v) none key value is = inl is
 one_where m (put k v) (found w) key value is = inl is
 one_where m (del k) full key value is = inl is
 one_where m (del k) none key value is = inl is
 one_where m (del k) (found w) key value is = inl is
+one_where m (move k to) full key value is = inl is
+one_where m (move k to) none key value is = inl is
+one_where m (move k to) (found w) key value is = inl is
 one_where m (get k) done key value is = inl is
 one_where m (get k) full key value is = inl is
 one_where m (get k) none key value is = inl is
@@ -88,6 +95,7 @@ module _ (image : Image) (all requests : List Request) (maps : HasMaps image) (a
   )
   room_fits (put key value) left replies v room seat owned worked has = tt
   room_fits (del key) left replies v room seat owned worked has = tt
+  room_fits (move key to) left replies v room seat owned worked has = tt
 
 -- what stands before a list and behind another
 push_between : {X : Type 0} (xs ys : List X) (y : X) → xs ++ (y ∷ ys) ≡ (xs ++ (y ∷ [])) ++ ys

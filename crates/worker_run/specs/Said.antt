@@ -1,7 +1,7 @@
 -- A trace's requests and a run's replies as those that the dictionary's definitions speak of.
 use Rattle.std.specs.Prelude.{◌≤◌, List, length, map, Option, None, Some, Contains}
 use Rattle.dict_model.specs.Nodes.{largest_value}
-use Rattle.dict_model.specs.Requests.{Request, put, get, del, Reply, done, full, none, found}
+use Rattle.dict_model.specs.Requests.{Request, put, get, del, move, Reply, done, full, none, found}
 pub use Rattle.trace_text.specs.declared.request.Request.{Request as Line}
 use Rattle.trace_text.specs.declared.request.Request.TheVariants.{Put, Get, Del}
 pub use Rattle.trace_text.specs.declared.reply.Reply.{Reply as Told}
@@ -33,6 +33,7 @@ abbrev pub IsShort : Request → Type 0
 IsShort (put key value) = length value ≤ largest_value
 IsShort (get key) = Unit {0}
 IsShort (del key) = Unit {0}
+IsShort (move key to) = Unit {0}
 
 pub record ValuesAreShort (requests : List Request) : Type 0 where
   pub each : (request : Request) → Contains requests request → IsShort request

@@ -8,6 +8,7 @@ ghost use Rattle.dict_model.specs.Requests.{put, get, del, full};
 ghost use Rattle.dict_seat.specs.Reached.{ReachesAllHeld};
 ghost use Rattle.dict_seat.specs.Removal.{IsShard};
 ghost use Rattle.run_model.specs.Progress.{MayAnswer};
+ghost use Rattle.run_model.specs.Spending.{IsPut};
 ghost use Rattle.run_model.specs.Workers.{shard_asked};
 ghost use Rattle.run_model.specs.Working.{Fits, Replied, MakesCalls, WasRefused};
 ghost use Rattle.worker_run.specs.Said.{request_of, reply_of, IsShort};
@@ -29,7 +30,8 @@ fn put_reply<H: HeapSeat>(seat: &mut H, key: u64, value: &[u8]) -> Result<Reply,
     ensures runs { OnOk result (Runs (H.view seat.old) (H.view seat.new)) }
     ensures refused { IfOk result (λ reply. reply_of reply ≡ Some full
         → WasRefused H.view H.keeps H.has_none (put key value.now) seat.old seat.new) }
-    ensures granted { IfOk result (λ reply. (reply_of reply ≡ Some full → ⊥)
+    ensures granted { IfOk result (λ reply.
+        (IsPut (put key value.now) → reply_of reply ≡ Some full → ⊥)
         → SameRefusals (H.view seat.old) (H.view seat.new)) }
     ensures exact { OnOk result (ReachesAllHeld (H.view seat.old)
         → ReachesAllHeld (H.view seat.new)) }
@@ -58,8 +60,7 @@ fn get_reply<H: HeapSeat>(seat: &mut H, key: u64, mut room: Vec<u8>) -> Result<R
     ensures runs { OnOk result (Runs (H.view seat.old) (H.view seat.new)) }
     ensures refused { IfOk result (λ reply. reply_of reply ≡ Some full
         → WasRefused H.view H.keeps H.has_none (get key) seat.old seat.new) }
-    ensures granted { IfOk result (λ reply. (reply_of reply ≡ Some full → ⊥)
-        → SameRefusals (H.view seat.old) (H.view seat.new)) }
+    ensures granted { OnOk result (SameRefusals (H.view seat.old) (H.view seat.new)) }
     ensures exact { OnOk result (ReachesAllHeld (H.view seat.old)
         → ReachesAllHeld (H.view seat.new)) }
     ensures cause { IfErr result (λ e. Stops e.step (H.view seat.old) (H.view seat.new)) }
@@ -86,8 +87,7 @@ fn del_reply<H: HeapSeat>(seat: &mut H, key: u64) -> Result<Reply, Stopped>
     ensures runs { OnOk result (Runs (H.view seat.old) (H.view seat.new)) }
     ensures refused { IfOk result (λ reply. reply_of reply ≡ Some full
         → WasRefused H.view H.keeps H.has_none (del key) seat.old seat.new) }
-    ensures granted { IfOk result (λ reply. (reply_of reply ≡ Some full → ⊥)
-        → SameRefusals (H.view seat.old) (H.view seat.new)) }
+    ensures granted { OnOk result (SameRefusals (H.view seat.old) (H.view seat.new)) }
     ensures exact { OnOk result (ReachesAllHeld (H.view seat.old)
         → ReachesAllHeld (H.view seat.new)) }
     ensures cause { IfErr result (λ e. Stops e.step (H.view seat.old) (H.view seat.new)) }
@@ -117,7 +117,8 @@ pub(crate) fn answer<H: HeapSeat>(
     ensures runs { OnOk result (Runs (H.view seat.old) (H.view seat.new)) }
     ensures refused { IfOk result (λ reply. reply_of reply ≡ Some full
         → WasRefused H.view H.keeps H.has_none (request_of request.now) seat.old seat.new) }
-    ensures granted { IfOk result (λ reply. (reply_of reply ≡ Some full → ⊥)
+    ensures granted { IfOk result (λ reply.
+        (IsPut (request_of request.now) → reply_of reply ≡ Some full → ⊥)
         → SameRefusals (H.view seat.old) (H.view seat.new)) }
     ensures exact { OnOk result (ReachesAllHeld (H.view seat.old)
         → ReachesAllHeld (H.view seat.new)) }

@@ -47,7 +47,7 @@ pub returns-in-Err-Full-clause-exact : goal.returns-in-Err-Full-clause-exact
 returns-in-Err-Full-clause-exact g c = c.in-Err-Full.ensures.exact_full _ c.in-Err-Full.field-0-is
 
 pub returns-in-Err-Full-clause-granted : goal.returns-in-Err-Full-clause-granted
-returns-in-Err-Full-clause-granted g c = λ not. absurd (not refl)
+returns-in-Err-Full-clause-granted g c = λ not. absurd (not tt refl)
 
 pub returns-in-Ok-clause-granted : goal.returns-in-Ok-clause-granted
 returns-in-Ok-clause-granted g c = λ _. c.in-Ok.ensures.refusals

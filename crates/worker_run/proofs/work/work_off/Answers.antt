@@ -240,7 +240,7 @@ loop-request-preserved-in-Ok g c =
           (refused_on g.H.HeapSeat.view g.H.HeapSeat.keeps mine (answered mine (replies_of told)) c.args.seat.now c.loop-request.seat c.answer-answered.new.seat c.loop-request.invariant.full
           (λ x keeps. g.met.H.HeapSeat.keeps_row x c.loop-request.seat c.answer-answered.new.seat keeps c.answer-answered.ensures.kept) knows)
           kept (g.met.H.HeapSeat.keeps_none c.answer-answered.new.seat)
-          (λ full. full_behind mine (answered mine (replies_of told)) q replied.reply start w taken full (replied.room full)));
+          (λ is_put full. full_behind mine (answered mine (replies_of told)) q replied.reply start w taken full (replied.room is_put full)));
       calls = λ keys lists. subst (λ n. MakeFew n (33280 + 4 * (length keys + length mine)) start w) one_more
           (few_next (length told) (33280 + 4 * (length keys + length mine)) image mine rest q (replies_of told) start v w room keys refl
           c.requires.1.1.1.1.1.0 next.owned next.worked lists short fits c.answer-answered.ensures.calls (c.loop-request.invariant.calls keys lists));
@@ -252,8 +252,8 @@ loop-request-preserved-in-Ok g c =
             runs = c.in-Ok.ensures.runs;
             calls = c.answer-answered.ensures.calls;
             keeps_it = c.answer-answered.ensures.kept;
-            refused = λ full. c.in-Ok.ensures.refused (replied.told_is ∙ ap Some full);
-            granted = λ not. c.in-Ok.ensures.granted (λ told. let is = sym replied.told_is ∙ told in not (cc));
+            refused = λ is_put full. c.in-Ok.ensures.refused (replied.told_is ∙ ap Some full);
+            granted = λ not. c.in-Ok.ensures.granted (λ is_put told. let is = sym replied.told_is ∙ told in not is_put (cc));
           }));
       roots = c.answer-answered.ensures.crash.others.roots ∙ c.loop-request.invariant.roots;
       going = λ none. c.in-Ok.ensures.runs.running;
