@@ -8,6 +8,7 @@ use Rattle.std.proofs.lemmas.List.Sums.{sum_by-cons, sum_by-append}
 use Rattle.heap_model.specs.Image.{Image}
 use Rattle.heap_model.specs.Header.{capacity_of, used_of}
 use Rattle.heap_model.proofs.MemberLemmas.{in_none, in_head, in_rest, head_or_rest}
+use Rattle.dict_model.specs.Nodes.{shard_of}
 use Rattle.dict_model.specs.Requests.{Request, put, get, del, move, Reply, done, full, none, found}
 use Rattle.run_model.specs.Needs.{node_span, has_move, superblocks_needed}
 use Rattle.run_model.specs.Runs.{answered, unanswered, AnswersInOrder, IsFullRightly, span_taken, first_span, worker_span, worker_answered}
@@ -148,7 +149,7 @@ behind (del key) qs there = there
 behind (move key to) qs there = refl
 
 -- an answered move is one of the trace
-moves_in : (requests : List Request) (replies : Replies) (key to : ℕ) (a : Reply) → Contains (answered requests replies) (move key to, a) → has_move requests ≡ true
+pub moves_in : (requests : List Request) (replies : Replies) (key to : ℕ) (a : Reply) → Contains (answered requests replies) (move key to, a) → has_move requests ≡ true
 moves_in [] replies key to a h = absurd (in_none (move key to, a) h)
 moves_in (q ∷ qs) [] key to a h = absurd (in_none (move key to, a) h)
 moves_in (q ∷ qs) (None ∷ rs) key to a h = behind q qs (moves_in qs rs key to a h)
@@ -168,5 +169,10 @@ never_full_moved image workers requests replies some is enough before later key 
     let h = subst (λ xs. Contains xs (q, full)) (sym at) (Contains-append_right before ((q, full) ∷ later) (q, full) (in_head (q, full) later)) in
     let parts = between (worker_answered workers worker requests replies) (q, full) (answered_of workers worker requests replies (q, full) (eq-eqb worker worker refl) h) in
     let past = is.move_cause worker small parts.0 parts.1 key to parts.2 in
+    let target = worker_of workers (shard_of to) in
+    let none : 0 ≤ sum_by node_span (worker_requests workers target requests) = omega arith in
+    let others = beside_fits workers target (λ other. sum_by node_span (worker_requests workers other requests)) (λ other. worker_span workers other requests replies) 0
+    (mod-lt (shard_of to) some) none (λ other. span_fits workers other requests replies) in
+    let whole = workers_sum workers node_span requests in
     let one : cond {A = ℕ} (has_move requests) 1 0 ≡ 1 = ap (λ b. cond {A = ℕ} b 1 0) (moves_in requests replies key to full h) in
-    omega (arith, past, one, enough)
+    omega (arith, past, one, enough, others, whole)

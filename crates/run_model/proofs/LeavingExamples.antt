@@ -148,7 +148,7 @@ not_closed left is = is
 -- a move isn't refused where a superblock is left for the table of its other key
 pub move_not_full_with_room : IsFullRightly (sized 4 2) 1 (move 5 6 ∷ []) (Some full ∷ []) → ⊥
 move_not_full_with_room is =
-    let past : 4 < 2 + 1 + 1 = is.move_cause 0 (omega arith) [] [] 5 6 refl in omega (arith, past)
+    let past : 4 < 2 + 1 + 0 + 1 = is.move_cause 0 (omega arith) [] [] 5 6 refl in omega (arith, past)
 
 -- without a stop all has arrived
 pub all_arrive : (arrived : ℕ → ℕ) → HaveArrived bare 1 (put 5 [] ∷ move 5 9 ∷ []) (Some done ∷ Some done ∷ []) false arrived → arrived 0 ≡ 1

@@ -4,3 +4,4 @@ pub mod FullLemmas
 pub mod LeavingExamples
 pub mod OneMapLemmas
 pub mod SumLemmas
+pub mod UnmovedLemmas

@@ -7,6 +7,7 @@ use Rattle.heap_model.specs.Header.{header_fault, capacity_of, used_of, kinds_of
 use Rattle.heap_model.specs.Blocks.{IsIn}
 use Rattle.heap_model.specs.Reach.{ReachFrom, IsOutsideIn}
 use Rattle.dict_model.specs.Links.{shards, dict_links, kind_count}
+use Rattle.dict_model.specs.Nodes.{shard_of}
 use Rattle.dict_model.specs.Requests.{Request, put, move, Reply, done, full, after, after_one, AreReplies}
 use Rattle.dict_model.specs.Shards.{Map, MapOf}
 use Rattle.run_model.specs.Arrivals.{IsWholeMap, worker_arrivals, arrived_for}
@@ -82,10 +83,10 @@ pub record IsFullRightly (image : Image) (workers : ℕ) (requests : List Reques
       → worker_answered workers worker requests replies ≡ before ++ (put key value, full) ∷ later
       → capacity_of image < used_of image + node_span (put key value) + sum_by span_taken before + spans_beside workers worker requests replies
       + tables_needed requests
-  -- a move is told so only where no superblock was left for the table of its other key, with those that tables of the trace may take
+  -- a move is told so only where no superblock was left for the table of its other key's shard, with those that the workers beside that shard's own and the tables of the trace may take
   pub move_cause : (worker : ℕ) → worker < workers → (before later : List (Request × Reply)) (key to : ℕ)
       → worker_answered workers worker requests replies ≡ before ++ (move key to, full) ∷ later
-      → capacity_of image < used_of image + 1 + tables_needed requests
+      → capacity_of image < used_of image + 1 + spans_beside workers (worker_of workers (shard_of to)) requests replies + tables_needed requests
 
 -- in each shard the replies are right, one after the other from its map in the image on
 pub record RepliesRightly (image : Image) (requests : List Request) (replies : Replies) : Type 0 where
