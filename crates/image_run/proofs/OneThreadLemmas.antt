@@ -6,7 +6,7 @@ use Rattle.dict_model.specs.Requests.{Request, Reply, done, full, none, found}
 use Rattle.dict_model.specs.Shards.{Map}
 use Rattle.trace_text.specs.declared.reply.Reply.TheVariants.{Ok, Full, None as NotThere, Value, Unanswered}
 use Rattle.run_model.specs.Needs.{superblocks_needed, ListsKeysOf, step_bound}
-use Rattle.run_model.specs.Arrivals.{IsWholeMap, arrivals}
+use Rattle.run_model.specs.Arrivals.{IsWholeMap}
 use Rattle.run_model.specs.OneMap.{NoneIsFull, IsAsOneThread}
 use Rattle.run_model.specs.Opened.{HasMaps}
 use Rattle.run_model.specs.Runs.{StopsRightly, LeavesMaps}

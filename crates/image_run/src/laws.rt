@@ -14,7 +14,7 @@ ghost use Rattle.dict_model.specs.Requests.{Request};
 ghost use Rattle.dict_model.specs.Shards.{Map};
 ghost use Rattle.dictionary.specs.Reading.{RecoversTo, AreMaps};
 ghost use Rattle.run_model.specs.Needs.{superblocks_needed, ListsKeysOf, step_bound};
-ghost use Rattle.run_model.specs.Arrivals.{IsWholeMap, arrivals};
+ghost use Rattle.run_model.specs.Arrivals.{IsWholeMap};
 ghost use Rattle.run_model.specs.OneMap.{NoneIsFull, IsAsOneThread};
 ghost use Rattle.run_model.specs.Opened.{HasMaps};
 ghost use Rattle.worker_run.specs.Said.{replies_of};

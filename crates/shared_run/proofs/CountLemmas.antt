@@ -5,7 +5,7 @@ use Rattle.std.proofs.lemmas.Bool.{cases_lt, eq-eqb, ne_eqb, eqb-true, false_fro
 use Rattle.std.proofs.lemmas.List.Sums.{sum_by-cons, length-filter, count_by-le-length}
 use Rattle.heap_model.specs.Image.{words_from}
 use Rattle.dict_model.specs.Links.{shards}
-use Rattle.dict_model.specs.Requests.{Request, put, get, del}
+use Rattle.dict_model.specs.Requests.{Request, put, get, del, move}
 use Rattle.run_model.specs.Needs.{is_to, put_into, shards_put_into}
 use Rattle.run_model.specs.Runs.{answered, unanswered, worker_unanswered}
 use Rattle.run_model.specs.Workers.{Replies, shard_asked, worker_of, is_of_worker, worker_requests, worker_replies, worker_numbers}
@@ -99,6 +99,9 @@ put_of_worker workers worker (put key value ∷ requests) shard is =
     ]) rest
 put_of_worker workers worker (get key ∷ requests) shard is =
     either_way (is_of_worker workers worker (get key)) (get key) (worker_requests workers worker requests) shard ((put_into requests shard ≡ true) × (worker_of workers shard ≡ worker)) is
+    (λ mine later. put_of_worker workers worker requests shard later) (λ later. put_of_worker workers worker requests shard later)
+put_of_worker workers worker (move key to ∷ requests) shard is =
+    either_way (is_of_worker workers worker (move key to)) (move key to) (worker_requests workers worker requests) shard ((put_into requests shard ≡ true) × (worker_of workers shard ≡ worker)) is
     (λ mine later. put_of_worker workers worker requests shard later) (λ later. put_of_worker workers worker requests shard later)
 put_of_worker workers worker (del key ∷ requests) shard is =
     either_way (is_of_worker workers worker (del key)) (del key) (worker_requests workers worker requests) shard ((put_into requests shard ≡ true) × (worker_of workers shard ≡ worker)) is

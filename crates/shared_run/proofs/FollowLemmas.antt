@@ -9,12 +9,12 @@ use Rattle.std.proofs.lemmas.List.Elements.{filter-append}
 use Rattle.std.proofs.lemmas.Option.{get_or_from_slice_get, slice_get-get_or}
 use Rattle.heap_model.specs.Image.{Image}
 use Rattle.dict_model.specs.Links.{shards}
-use Rattle.dict_model.specs.Requests.{Request, put, get as asks, del, Reply, done, full, none, found, after, after_one}
+use Rattle.dict_model.specs.Requests.{Request, put, get as asks, del, move, Reply, done, full, none, found, after, after_one}
 use Rattle.dict_model.specs.Shards.{Map, Leading, IsMap, is_empty, has_table, MapOf}
 use Rattle.dictionary.specs.Reading.{AreMaps}
 use Rattle.run_model.specs.Needs.{is_to}
-use Rattle.run_model.specs.Runs.{answered, of_shard, LeavesMaps}
-use Rattle.run_model.specs.Workers.{Replies}
+use Rattle.run_model.specs.Runs.{answered, of_shard, IsMapLeft, worker_unanswered}
+use Rattle.run_model.specs.Workers.{Replies, worker_of}
 use Rattle.worker_run.specs.Said.{Line, Told, request_of, requests_of, reply_of, replies_of}
 use Rattle.worker_run.proofs.RoomLemmas.{requests_next}
 use Rattle.shared_run.specs.Following.{AreAfter}
@@ -30,6 +30,10 @@ one_same f g same (asks key) full k = same k
 one_same f g same (asks key) none k = same k
 one_same f g same (asks key) (found v) k = same k
 one_same f g same (del key) done k = ap (λ o. cond (nat_eq key k) None o) (same k)
+one_same f g same (move key to) done k = ap (λ o. cond (nat_eq key k) None o) (same k)
+one_same f g same (move key to) full k = same k
+one_same f g same (move key to) none k = same k
+one_same f g same (move key to) (found v) k = same k
 one_same f g same (del key) full k = same k
 one_same f g same (del key) none k = same k
 one_same f g same (del key) (found v) k = same k
@@ -74,7 +78,9 @@ map_same leads image shard a b same (has_table table nodes there chains means) =
 
 -- where a run wasn't stopped, the maps that followed it are those of the image that is left
 pub maps_left : (image left : Image) (workers : ℕ) (requests : List Request) (replies : Replies) (stopped : Bool) (old new : List (BTreeMap ℕ (List ℕ))) → stopped ≡ false
-    → LeavesMaps image workers requests replies stopped left → AreMaps image shards old → AreAfter (answered requests replies) old new → AreMaps left shards new
+    → ((shard : ℕ) (map : Map) → shard < shards → MapOf image shard map
+        → IsMapLeft left shard (after map (of_shard shard (answered requests replies))) stopped (worker_unanswered workers (worker_of workers shard) requests replies))
+    → AreMaps image shards old → AreAfter (answered requests replies) old new → AreMaps left shards new
 maps_left image left workers requests replies stopped old new going leaves are follows = record {
   long = follows.long ∙ are.long;
   each = λ i below.
@@ -82,7 +88,7 @@ maps_left image left workers requests replies stopped old new going leaves are f
       let inside : i < length old = let l = are.long in omega (arith, below, l) in
       let there : i < length new = let l = follows.long in omega (arith, inside, l) in
       let at : get_or old i was.0 ≡ was.0 = get_or_from_slice_get old i was.0 was.0 was.1 in
-      let here : MapOf left i (after (get nat_cmp was.0) (of_shard i (answered requests replies))) = elim (leaves.each i (get nat_cmp was.0) below was.2) as (λ _. MapOf left i (after (get nat_cmp was.0) (of_shard i (answered requests replies)))) [
+      let here : MapOf left i (after (get nat_cmp was.0) (of_shard i (answered requests replies))) = elim (leaves i (get nat_cmp was.0) below was.2) as (λ _. MapOf left i (after (get nat_cmp was.0) (of_shard i (answered requests replies)))) [
         | inl is ↦ is
         | inr stop ↦ absurd (let e : true ≡ false = sym stop.0 ∙ going in cc)
       ] in (

@@ -1,17 +1,21 @@
 -- Why a put is told that there is no room only where too few superblocks were left.
-use Rattle.std.proofs.Common.{◌≡◌, ℕ, ◌+◌, ◌<◌, ◌≤◌, Bool, true, false, cond, nat_eq, List, ◌∷◌, ◌++◌, slice_index, sum_by, refl, ap, sym, ◌∙◌, arith}
+use Rattle.std.proofs.Common.{◌≡◌, ℕ, ◌+◌, ◌<◌, ◌≤◌, Bool, true, false, cond, nat_eq, List, ◌∷◌, ◌++◌, slice_index, sum_by, Contains, refl, subst, ap, sym, ◌∙◌, arith}
 use Rattle.std.proofs.lemmas.Bool.{eq-eqb, ne_eqb}
+use Rattle.std.proofs.lemmas.List.Elements.{Contains-append_right}
 use Rattle.heap_model.specs.declared.block.Block.{Block}
 use Rattle.heap_model.specs.Header.{capacity_of, used_of}
-use Rattle.dict_model.specs.Requests.{Request, put, Reply, full}
+use Rattle.heap_model.proofs.MemberLemmas.{in_head}
+use Rattle.dict_model.specs.Requests.{Request, put, move, Reply, full}
 use Rattle.core_model.specs.View.{Setup}
 use Rattle.heap_rule.proofs.ClosedLemmas.{looked_at_most}
 use Rattle.core_model.specs.Opening.{setup_of}
-use Rattle.run_model.specs.Needs.{node_span, shards_put_into}
+use Rattle.run_model.specs.Needs.{node_span, has_move, shards_put_into}
 use Rattle.run_model.specs.Runs.{IsFullRightly, span_taken, spans_beside, worker_answered, worker_span}
-use Rattle.run_model.specs.Workers.{Replies}
+use Rattle.run_model.specs.Workers.{Replies, is_of_worker, worker_requests, worker_replies}
 use Rattle.shared_run.specs.Together.{HaveWorked}
 use Rattle.shared_run.proofs.CountLemmas.{shards_all}
+use Rattle.run_model.proofs.FullLemmas.{moves_in}
+use Rattle.run_model.proofs.UnmovedLemmas.{none_of_part, puts_need_tables}
 use Rattle.run_model.proofs.SumLemmas.{sum_over, sum_within, sum_both, sum_beside}
 use Rattle.shared_run.proofs.WorkerLemmas.{of_each, answered_told, opened_setup, unused, taken_of, tables_of, taken_few, used_now}
 
@@ -57,5 +61,14 @@ module _ (words : List ℕ) (held : List Block) (workers budget : ℕ) (requests
       let others = taken_beside worker below in
       omega arith
 
-  pub full_rightly : IsFullRightly (slice_index words) workers requests replies
-  full_rightly = record { cause = cause }
+  -- nor is a move told so in a trace without moves
+  pub full_rightly : has_move requests ≡ false → IsFullRightly (slice_index words) workers requests replies
+  full_rightly unmoved = record {
+    cause = λ worker below before later key value is.
+        let past = cause worker below before later key value is in let tables = puts_need_tables requests in omega (arith, past, tables);
+    move_cause = λ worker below before later key to is.
+        let mine = worker_requests workers worker requests in
+        let there = subst (λ rs. Contains rs (move key to, full)) (sym is) (Contains-append_right before ((move key to, full) ∷ later) (move key to, full) (in_head (move key to, full) later)) in
+        let moved = moves_in mine (worker_replies workers worker requests replies) key to full there in
+        absurd (let no : true ≡ false = sym moved ∙ none_of_part (is_of_worker workers worker) requests unmoved in cc);
+  }

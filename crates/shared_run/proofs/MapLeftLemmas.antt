@@ -1,6 +1,6 @@
 -- The maps that the image that is left has: each shard's is that after its answered requests or, where its worker was stopped in a request to it, the one after that too.
-use Rattle.std.proofs.Common.{◌≡◌, ℕ, ◌-◌, ◌<◌, inl, inr, List, [], ◌∷◌, ◌++◌, length, replicate, slice_index, None, Contains, refl, subst, sym, ◌∙◌, eq-eqb, arith}
-use Rattle.std.specs.Prelude.{Bool, true}
+use Rattle.std.proofs.Common.{◌≡◌, ℕ, ◌-◌, ◌<◌, inl, inr, List, [], ◌∷◌, ◌++◌, length, replicate, slice_index, append-nil, None, Contains, refl, subst, sym, ap, ◌∙◌, eq-eqb, arith}
+use Rattle.std.specs.Prelude.{Bool, true, false}
 use Rattle.std.proofs.lemmas.Bool.{cases_eq}
 use Rattle.heap_model.specs.declared.block.Block.{Block}
 use Rattle.heap_model.specs.Image.{Image}
@@ -15,6 +15,8 @@ use Rattle.dict_seat.proofs.ImageLemmas.{walk_of}
 use Rattle.dict_seat.proofs.SeatsLemmas.{walk_alone, image_kind}
 use Rattle.run_model.specs.Workers.{Replies, worker_of, shard_asked, worker_requests, worker_replies}
 use Rattle.run_model.specs.Runs.{answered, unanswered, of_shard, IsMapLeft, LeavesMaps, worker_unanswered}
+use Rattle.run_model.specs.Needs.{has_move}
+use Rattle.run_model.proofs.UnmovedLemmas.{none_comes}
 use Rattle.run_model.specs.Working.{HasStopped, HasEnded, at_end, in_one}
 use Rattle.shared_run.specs.Together.{HaveWorked}
 use Rattle.shared_run.proofs.ReplyLemmas.{worked_answered, worked_left}
@@ -77,14 +79,27 @@ module _ (words : List ℕ) (held : List Block) (workers budget : ℕ) (requests
       walk_alone workers seats (slice_index left) shared mixed shard m small (image_kind workers seats (slice_index left) shared mixed i shard table_kind below small root_is)
       (walk_of (seats i) (slice_index left) shard m (mixed.names i below) has)
 
-  pub leaves_maps : LeavesMaps (slice_index words) workers requests replies stopped (slice_index left)
-  leaves_maps = record {
-    each = λ shard map small is.
-        let worker = worker_of workers shard in
-        let below = worker_below words held workers budget requests replies stopped now kept left h shard in
-        subst (λ rs. IsMapLeft (slice_index left) shard (after map rs) stopped (worker_unanswered workers worker requests replies)) (sym (of_its_worker workers shard requests replies))
-        (ended_map (slice_index words) (worker_requests workers worker requests) (h.told worker) (worker_replies workers worker requests replies) (h.padded worker below)
-        (heap_view (h.last worker)) (slice_index left) ((mixes words held workers budget requests replies stopped now kept left h).mixes worker below) shard map small
-        (owns_shard words held workers budget requests replies stopped now kept left h shard small) is (map_left worker shard map below small is)
-        (h.stops worker) stopped (λ halted. h.stopped_by.1 (worker, below, halted)) (h.parts worker below).ended);
+  -- what is left of each shard, by the requests that are answered
+  pub maps_kept : (shard : ℕ) (map : Map) → shard < shards → MapOf (slice_index words) shard map
+      → IsMapLeft (slice_index left) shard (after map (of_shard shard (answered requests replies))) stopped (worker_unanswered workers (worker_of workers shard) requests replies)
+  maps_kept shard map small is =
+      let worker = worker_of workers shard in
+      let below = worker_below words held workers budget requests replies stopped now kept left h shard in
+      subst (λ rs. IsMapLeft (slice_index left) shard (after map rs) stopped (worker_unanswered workers worker requests replies)) (sym (of_its_worker workers shard requests replies))
+      (ended_map (slice_index words) (worker_requests workers worker requests) (h.told worker) (worker_replies workers worker requests replies) (h.padded worker below)
+      (heap_view (h.last worker)) (slice_index left) ((mixes words held workers budget requests replies stopped now kept left h).mixes worker below) shard map small
+      (owns_shard words held workers budget requests replies stopped now kept left h shard small) is (map_left worker shard map below small is)
+      (h.stops worker) stopped (λ halted. h.stopped_by.1 (worker, below, halted)) (h.parts worker below).ended)
+
+  -- nothing arrives by a trace without moves
+  pub leaves_maps : has_move requests ≡ false → LeavesMaps (slice_index words) workers requests replies stopped (slice_index left)
+  leaves_maps unmoved = record {
+    arrived = λ worker. 0;
+    have_arrived = record {
+      all = λ going whole is shard small. sym (ap length (none_comes workers (worker_of workers shard) whole requests replies unmoved));
+      none = λ shard small some. refl;
+    };
+    each = λ whole is_whole shard map small is.
+        subst (λ rs. IsMapLeft (slice_index left) shard (after map (of_shard shard rs)) stopped (worker_unanswered workers (worker_of workers shard) requests replies))
+        (sym (append-nil (answered requests replies))) (maps_kept shard map small is);
   }

@@ -10,11 +10,12 @@ use Rattle.core_model.specs.Opening.{setup_of}
 use Rattle.core_model.specs.View.{Setup}
 use Rattle.heap_rule.proofs.ClosedLemmas.{kept_behind}
 use Rattle.heap_rule.proofs.ImageLemmas.{durable_is}
-use Rattle.run_model.specs.Needs.{shards_put_into}
+use Rattle.run_model.specs.Needs.{tables_needed}
 use Rattle.run_model.specs.Runs.{LeavesUsed, worker_span}
 use Rattle.run_model.specs.Workers.{Replies}
 use Rattle.shared_run.specs.Together.{HaveWorked, IsLeftOf}
 use Rattle.shared_run.proofs.CountLemmas.{shards_all}
+use Rattle.run_model.proofs.UnmovedLemmas.{puts_need_tables}
 use Rattle.run_model.proofs.SumLemmas.{sum_over, sum_within, sum_both}
 use Rattle.shared_run.proofs.WorkerLemmas.{last_view, kept_all, opened_setup, unused, taken_of, tables_of, taken_few, used_now}
 
@@ -26,12 +27,13 @@ used_left true now kept left is = inr (is.others used_word (λ e. omega (arith, 
 
 module _ (words : List ℕ) (held : List Block) (workers budget : ℕ) (requests : List Request) (replies : Replies) (stopped : Bool) (now kept left : List ℕ)
     (h : HaveWorked words held workers budget requests replies stopped now kept left) where
-  taken_most : slice_index now used_word ≤ slice_index words used_word + sum_over (λ worker. worker_span workers worker requests replies) 0 workers + shards_put_into requests
+  taken_most : slice_index now used_word ≤ slice_index words used_word + sum_over (λ worker. worker_span workers worker requests replies) 0 workers + tables_needed requests
   taken_most =
       let all = used_now h in
       let few = sum_within (taken_of h) (λ worker. worker_span workers worker requests replies + tables_of h worker) 0 workers (λ i low high. taken_few h i (omega arith)) in
       let parts = sum_both (λ worker. worker_span workers worker requests replies) (tables_of h) 0 workers in
       let tables = shards_all workers requests in
+      let needed = puts_need_tables requests in
       omega arith
 
   -- the durable mark has not fallen below what a seat knows, which knew the opened mark
