@@ -79,7 +79,7 @@ map_same leads image shard a b same (has_table table nodes there chains means) =
 -- where a run wasn't stopped, the maps that followed it are those of the image that is left
 pub maps_left : (image left : Image) (workers : ℕ) (requests : List Request) (replies : Replies) (stopped : Bool) (old new : List (BTreeMap ℕ (List ℕ))) → stopped ≡ false
     → ((shard : ℕ) (map : Map) → shard < shards → MapOf image shard map
-        → IsMapLeft left shard (after map (of_shard shard (answered requests replies))) stopped (worker_unanswered workers (worker_of workers shard) requests replies))
+    → IsMapLeft left shard (after map (of_shard shard (answered requests replies))) stopped (worker_unanswered workers (worker_of workers shard) requests replies))
     → AreMaps image shards old → AreAfter (answered requests replies) old new → AreMaps left shards new
 maps_left image left workers requests replies stopped old new going leaves are follows = record {
   long = follows.long ∙ are.long;

@@ -34,7 +34,7 @@ module _ {C : Type 0} (gives : C → ℕ → C → Type 0) where
     runs = takes.runs;
     calls = takes.calls;
     keeps_it = takes.keeps_it.heap;
-    refused = λ full. let was = takes.refused full in record { once = was.once; asked = was.asked; none = turned_down _ _ s t was.none };
+    refused = λ is_put full. let was = takes.refused is_put full in record { once = was.once; asked = was.asked; none = turned_down _ _ s t was.none };
     granted = takes.granted;
   }
 
