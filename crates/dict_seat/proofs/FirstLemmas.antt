@@ -1,5 +1,5 @@
 -- Putting a new key in front of its bucket, and why a put was refused.
-use Rattle.std.proofs.Common.{◌≡◌, ℕ, ◌+◌, ◌<◌, ◌≤◌, List, [], length, get_or, None, refl, ◌∙◌, arith, Some, inl, inr, ◌⊎◌, Contains, subst, sym}
+use Rattle.std.proofs.Common.{◌≡◌, ℕ, ◌+◌, ◌≤◌, List, [], None, refl, ◌∙◌, arith, Some, inl, inr, ◌⊎◌, Contains, subst, sym}
 use Rattle.heap_model.specs.declared.block.Block.{Block}
 use Rattle.heap_model.specs.Image.{Image}
 use Rattle.heap_seat.specs.declared.fault.AllocFault.{AllocFault}
@@ -15,14 +15,14 @@ use Rattle.heap_seat.specs.Looks.{IsLastSeen, FoundEmpty}
 use Rattle.heap_seat.specs.Sound.{IsSeat}
 use Rattle.heap_seat.proofs.CallerLemmas.{keeps_own_then}
 use Rattle.heap_seat.proofs.RowLemmas.{runs_then, stops_then, same_refusals_then}
-use Rattle.dict_model.specs.Nodes.{largest_value, shard_of, bucket_of}
+use Rattle.dict_model.specs.Nodes.{shard_of, bucket_of}
 use Rattle.dict_model.specs.Requests.{with_key}
 use Rattle.dict_model.specs.Shards.{Map, LeadsTo}
 use Rattle.dict_seat.specs.Maps.{IsMapIn, GivesMap}
 use Rattle.dict_seat.specs.Reached.{ReachesOnlyHeld, Reaches, ReachesAllHeld}
 use Rattle.dict_seat.specs.Trails.{pointer_to, IsDurableAt, IsSettling, HasCome}
 use Rattle.dict_seat.specs.Quiet.{Grown, FollowsLink}
-use Rattle.dict_seat.specs.Nodes.{MakesNode}
+use Rattle.dict_seat.specs.Nodes.{HasNode}
 use Rattle.dict_seat.specs.Changes.{MayChange, Changes}
 use Rattle.dict_seat.specs.Removal.{IsShard}
 use Rattle.dict_seat.specs.Puts.{IsMissing, IsRefused, PutFails}
@@ -88,8 +88,8 @@ put_fails bytes (Full looks) v u w runs before same taken after fails = (
 put_fails bytes (Stopped stopped) v u w runs before same taken after fails = (stops_then stopped.step v u w runs fails.0, same_refusals_then v u w same fails.1)
 
 module _ (v t u w : View) (seat_t : IsSeat t) (seat : IsSeat u) (key first x : ℕ) (value : List ℕ) (table n : Block) (shard : IsShard v (shard_of key)) (missing : IsMissing v key table)
-    (seat_v : IsSeat v) (keeps : KeepsOwn v t) (follows : FollowsLink (table.first_word + bucket_of key) first v t) (grown_u : Grown t u) (makes : MakesNode n key first value t u)
-    (short : length value ≤ largest_value) (small : (k : ℕ) → k < length value → get_or value k 0 < 256) (points : x ≡ pointer_to n) (may : MayHaveStored (table.first_word + bucket_of key) x u w)
+    (seat_v : IsSeat v) (keeps : KeepsOwn v t) (follows : FollowsLink (table.first_word + bucket_of key) first v t) (grown_u : Grown t u) (makes : HasNode n key first value t u)
+    (points : x ≡ pointer_to n) (may : MayHaveStored (table.first_word + bucket_of key) x u w)
     (kinds_t : t.kinds ≡ v.kinds) (kinds_u : u.kinds ≡ t.kinds) (kinds_w : w.kinds ≡ u.kinds) where
   settle : (word y : ℕ) → IsOwn t.held t.roots word → IsSettling t word y → IsDurableAt u word y
   settle word y own settling = settles t u word y own (grown_u.words word own) makes.settles settling
@@ -126,19 +126,19 @@ module _ (v t u w : View) (seat_t : IsSeat t) (seat : IsSeat u) (key first x : �
   none_u map gives = same_map u seat (shard_of key) map shard.map gives (gives_grown v u grown_all (shard_of key) shard.map shard.gives) key ∙ missing.none shard.map shard.gives
 
   new_map : (map : Map) → GivesMap u (shard_of key) map → (image : Image) → MixesOwn w image → image (table.first_word + bucket_of key) ≡ x → IsMapIn w image (shard_of key) (with_key map key value)
-  new_map = new_key t u seat grown_u kinds_u only_t key first value n makes.held makes.new makes.room short small makes.written
+  new_map = new_key t u seat grown_u kinds_u only_t key first value n makes.held makes.new makes.node makes.key_is makes.next_is
       (followed_leads u seat (shard_of key) (shard_below key) (table.first_word + bucket_of key) first (bucket_followed u seat key (shard_below key) table [] come_u still.kind_is) was still.only)
       w still.only table [] [] come_u come_u (table.first_word + bucket_of key) x first refl was may points own_t come_t.held_table was (own_grown t u (table.first_word + bucket_of key) grown_u own_t) still.kind_is kinds_w refl none_u
 
   pub first_left : MayChange (shard_of key) (λ map. with_key map key value) v w
   first_left = change_after (shard_of key) (λ map. with_key map key value) v u w grown_all kinds_all seat shard.only
-      (put_left t u seat grown_u kinds_u only_t key first value n makes.held makes.new makes.room short small makes.written
+      (put_left t u seat grown_u kinds_u only_t key first value n makes.held makes.new makes.node makes.key_is makes.next_is
       (followed_leads u seat (shard_of key) (shard_below key) (table.first_word + bucket_of key) first (bucket_followed u seat key (shard_below key) table [] come_u still.kind_is) was still.only)
       w still.only table [] [] come_u come_u (table.first_word + bucket_of key) x first refl was may points own_t come_t.held_table was (own_grown t u (table.first_word + bucket_of key) grown_u own_t) still.kind_is kinds_w new_map)
 
   pub first_done : IsDurableAt w (table.first_word + bucket_of key) x → Changes (shard_of key) (λ map. with_key map key value) v w
   first_done settled = changes_after (shard_of key) (λ map. with_key map key value) v u w grown_all
-      (put_done t u seat grown_u kinds_u only_t key first value n makes.held makes.new makes.room short small makes.written
+      (put_done t u seat grown_u kinds_u only_t key first value n makes.held makes.new makes.node makes.key_is makes.next_is
       (followed_leads u seat (shard_of key) (shard_below key) (table.first_word + bucket_of key) first (bucket_followed u seat key (shard_below key) table [] come_u still.kind_is) was still.only)
       w still.only table [] [] come_u come_u (table.first_word + bucket_of key) x first refl was may points own_t come_t.held_table was (own_grown t u (table.first_word + bucket_of key) grown_u own_t) still.kind_is kinds_w new_map settled)
 
@@ -160,16 +160,16 @@ module _ (v t u w : View) (seat_t : IsSeat t) (seat : IsSeat u) (key first x : �
 
     n_next : w.volatile n.first_word ≡ Some first
     n_next =
-        let room = makes.room in
+        let room = makes.node.fits in
         let zero_more : n.first_word + 0 ≡ n.first_word = omega arith in
         let inside : IsIn n (n.first_word + 0) = record { from = omega arith; until = omega arith } in
         subst (λ q. w.volatile q ≡ Some first) zero_more
         ((may.others (n.first_word + 0) (in_block n (n.first_word + 0) makes.held inside)
-        (λ e. new_block_outside t u n seat grown_u makes.held makes.new (table.first_word + bucket_of key) own_t (subst (IsIn n) e inside))).volatile first makes.written.next_is.seen)
+        (λ e. new_block_outside t u n seat grown_u makes.held makes.new (table.first_word + bucket_of key) own_t (subst (IsIn n) e inside))).volatile first makes.next_is.seen)
 
     past : (root : ℕ) (c : Block) (k : ℕ) → Reaches u root c k → Reaches w root c k ⊎ ⊥
     past = sees_after u w seat (shard_of key) (table.first_word + bucket_of key) x first (shard_below key) may kinds_w still.only (link_followed u seat key (shard_below key) table [] come_u still.kind_is)
-        (publish t u seat grown_u kinds_u only_t key first value n makes.held makes.new makes.room short small makes.written
+        (publish t u seat grown_u kinds_u only_t key first value n makes.held makes.new makes.node makes.key_is makes.next_is
         (followed_leads u seat (shard_of key) (shard_below key) (table.first_word + bucket_of key) first (bucket_followed u seat key (shard_below key) table [] come_u still.kind_is) was still.only)
         w still.only table [] [] come_u come_u (table.first_word + bucket_of key) x first refl was may points own_t come_t.held_table was (own_grown t u (table.first_word + bucket_of key) grown_u own_t) still.kind_is kinds_w)
         was (λ root owned e. link_behind_roots u key table [] root seat owned come_u e) (λ d. ⊥)

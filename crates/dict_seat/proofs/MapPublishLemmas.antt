@@ -63,7 +63,7 @@ come_left reads v shard key table xs ys come = record {
 }
 
 -- what a node that is to be put in holds
-pub record IsNodeOf (image : Image) (shard key : ℕ) (value : List ℕ) (next : ℕ) (n : Block) : Type 0 where
+pub record HoldsNode (image : Image) (shard key : ℕ) (value : List ℕ) (next : ℕ) (n : Block) : Type 0 where
   pub node : IsNode image shard (bucket_of key) n
   pub key_is : key_in image n ≡ key
   pub value_is : value_in image n ≡ value
@@ -115,7 +115,7 @@ module _ (u w : View) (seat : IsSeat u) (shard key : ℕ) (small : shard < shard
   exactly other new settled = record { each = λ image mixes. new image mixes (settled_in w image mixes p x (own_same u w p may.held may.roots own_p) settled) }
 
   module _ (n : Block) (value : List ℕ) (next : ℕ) (n_held : Contains u.held n) (apart : n ≢ table) (free : IsIn n p → ⊥) (outside : (word : ℕ) → IsIn n word → word ≢ p)
-      (is_node : (image : Image) → MixesOwn u image → IsNodeOf image shard key value next n) (points : x ≡ pointer_to n) (link : IsDurableAt u (link_behind p drop) next)
+      (is_node : (image : Image) → MixesOwn u image → HoldsNode image shard key value next n) (points : x ≡ pointer_to n) (link : IsDurableAt u (link_behind p drop) next)
       (own_next : IsOwn u.held u.roots (link_behind p drop)) where
     put_in : (image : Image) (mixes : MixesOwn w image) (along : IsAlong u (put image p y) shard key map table (before ++ drop)) → image p ≡ x
         → find (put image p y) key (before ++ along.rest) ≡ None → ((b : Block) → Contains drop b → key_in (put image p y) b ≡ key)

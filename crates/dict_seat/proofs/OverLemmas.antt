@@ -1,5 +1,5 @@
 -- Putting a node in the place of the key's old one, and freeing that.
-use Rattle.std.proofs.Common.{◌≡◌, ◌≢◌, ℕ, ◌+◌, ◌<◌, ◌≤◌, ◌⊎◌, inl, inr, List, [], ◌∷◌, ◌++◌, length, get_or, Contains, refl, subst, sym, ◌∙◌, arith, Some}
+use Rattle.std.proofs.Common.{◌≡◌, ◌≢◌, ℕ, ◌+◌, ◌⊎◌, inl, inr, List, [], ◌∷◌, ◌++◌, Contains, refl, subst, sym, ◌∙◌, arith, Some}
 use Rattle.std.proofs.lemmas.Bool.{cases_eq}
 use Rattle.heap_model.specs.declared.block.Block.{Block}
 use Rattle.heap_model.specs.Image.{Image}
@@ -15,7 +15,7 @@ use Rattle.heap_seat.specs.Free.{MayHaveFreed}
 use Rattle.heap_seat.specs.Sound.{IsSeat}
 use Rattle.heap_seat.proofs.CallerLemmas.{own_same, own_spot}
 use Rattle.dict_model.specs.Links.{node_kind}
-use Rattle.dict_model.specs.Nodes.{largest_value, shard_of, bucket_of}
+use Rattle.dict_model.specs.Nodes.{shard_of, bucket_of}
 use Rattle.dict_model.specs.Requests.{with_key}
 use Rattle.dict_model.specs.Shards.{Map, LeadsTo, IsPath, but, link_behind}
 use Rattle.dict_model.proofs.ChainLemmas.{in_path}
@@ -25,7 +25,7 @@ use Rattle.dict_seat.specs.Maps.{IsMapIn, GivesMap}
 use Rattle.dict_seat.specs.Reached.{MayReach, ReachesOnlyHeld, Reaches, ReachesAllHeld}
 use Rattle.dict_seat.specs.Trails.{pointer_to, IsDurableAt, IsSettling, HasCome}
 use Rattle.dict_seat.specs.Quiet.{Grown}
-use Rattle.dict_seat.specs.Nodes.{MakesNode}
+use Rattle.dict_seat.specs.Nodes.{HasNode}
 use Rattle.dict_seat.specs.Changes.{MayChange, Changes, IsReadPlace}
 use Rattle.dict_seat.specs.Removal.{IsShard}
 use Rattle.dict_seat.proofs.GrownLemmas.{are_placed, stays_held, kind_kept, grown_keeps, grown_then, only_grown, shard_grown, new_block_outside}
@@ -70,8 +70,8 @@ taken_made t u key next place seat grown settle taken =
 
 module _ (v t u w : View) (seat_t : IsSeat t) (seat : IsSeat u) (key next x : ℕ) (value : List ℕ) (place : Place) (n : Block) (shard : IsShard v (shard_of key)) (keeps : KeepsOwn v t)
     (taken : IsReadPlace IsDurableAt u key place next) (table_t : Contains t.held taken.table) (own_t : IsOwn t.held t.roots (word_of place.link)) (node_t : Contains t.held place.node)
-    (grown_u : Grown t u) (makes : MakesNode n key next value t u)
-    (short : length value ≤ largest_value) (small : (k : ℕ) → k < length value → get_or value k 0 < 256) (points : x ≡ pointer_to n) (may : MayHaveStored (word_of place.link) x u w)
+    (grown_u : Grown t u) (makes : HasNode n key next value t u)
+    (points : x ≡ pointer_to n) (may : MayHaveStored (word_of place.link) x u w)
     (kinds_t : t.kinds ≡ v.kinds) (kinds_u : u.kinds ≡ t.kinds) (kinds_w : w.kinds ≡ u.kinds) where
   grown_all : Grown v u
   grown_all = grown_then v t u (grown_keeps v t keeps) grown_u
@@ -98,12 +98,12 @@ module _ (v t u w : View) (seat_t : IsSeat t) (seat : IsSeat u) (key next x : �
   key_word_own = node_word_own u seat key place next taken still.map still.gives still.kind_is (place.node.first_word + 1) (key_in_node u seat key place next taken still.map still.gives still.kind_is)
 
   new_map : (map : Map) → GivesMap u (shard_of key) map → (image : Image) → MixesOwn w image → image (word_of place.link) ≡ x → IsMapIn w image (shard_of key) (with_key map key value)
-  new_map = old_key t u seat grown_u kinds_u only_t key next value n makes.held makes.new makes.room short small makes.written next_leads
+  new_map = old_key t u seat grown_u kinds_u only_t key next value n makes.held makes.new makes.node makes.key_is makes.next_is next_leads
       w still.only taken.table taken.before (place.node ∷ []) taken.come found.come (word_of place.link) x (pointer_to place.node) taken.at_is found.link may points own_t table_t taken.next_is first_word_own still.kind_is kinds_w
       place.node refl taken.key_is key_word_own
 
   left_here : MayChange (shard_of key) (λ map. with_key map key value) u w
-  left_here = put_left t u seat grown_u kinds_u only_t key next value n makes.held makes.new makes.room short small makes.written next_leads
+  left_here = put_left t u seat grown_u kinds_u only_t key next value n makes.held makes.new makes.node makes.key_is makes.next_is next_leads
       w still.only taken.table taken.before (place.node ∷ []) taken.come found.come (word_of place.link) x (pointer_to place.node) taken.at_is found.link may points own_t table_t taken.next_is first_word_own still.kind_is kinds_w new_map
 
   pub over_left : MayChange (shard_of key) (λ map. with_key map key value) v w
@@ -114,7 +114,7 @@ module _ (v t u w : View) (seat_t : IsSeat t) (seat : IsSeat u) (key next x : �
 
   module _ (seat_w : IsSeat w) (settled : IsDurableAt w (word_of place.link) x) where
     done_here : Changes (shard_of key) (λ map. with_key map key value) u w
-    done_here = put_done t u seat grown_u kinds_u only_t key next value n makes.held makes.new makes.room short small makes.written next_leads
+    done_here = put_done t u seat grown_u kinds_u only_t key next value n makes.held makes.new makes.node makes.key_is makes.next_is next_leads
         w still.only taken.table taken.before (place.node ∷ []) taken.come found.come (word_of place.link) x (pointer_to place.node) taken.at_is found.link may points own_t table_t taken.next_is first_word_own still.kind_is kinds_w new_map settled
 
     kept : (word y : ℕ) → IsOwn u.held u.roots word → word ≢ word_of place.link → IsDurableAt u word y → IsDurableAt w word y
@@ -146,7 +146,7 @@ module _ (v t u w : View) (seat_t : IsSeat t) (seat : IsSeat u) (key next x : �
     n_outside word inside same = new_block_outside t u n seat grown_u makes.held makes.new (word_of place.link) own_t (subst (IsIn n) same inside)
 
     n_key : IsIn n (n.first_word + 1)
-    n_key = record { from = omega arith; until = let room = makes.room in omega arith }
+    n_key = record { from = omega arith; until = let room = makes.node.fits in omega arith }
 
     n_key_own : IsOwn u.held u.roots (n.first_word + 1)
     n_key_own = in_block n (n.first_word + 1) makes.held n_key
@@ -159,11 +159,11 @@ module _ (v t u w : View) (seat_t : IsSeat t) (seat : IsSeat u) (key next x : �
           (λ e. makes.new (subst (Contains t.held) e node_t))
           (kept (place.node.first_word + 1) key key_word_own (outside u seat key place next taken still.map still.gives still.kind_is (place.node.first_word + 1) (key_in_node u seat key place next taken still.map still.gives still.kind_is)) taken.key_is)
           (own_same u w (place.node.first_word + 1) may.held may.roots key_word_own)
-          (kept (n.first_word + 1) key n_key_own (n_outside (n.first_word + 1) n_key) makes.written.key_is) (own_same u w (n.first_word + 1) may.held may.roots n_key_own)
+          (kept (n.first_word + 1) key n_key_own (n_outside (n.first_word + 1) n_key) makes.key_is) (own_same u w (n.first_word + 1) may.held may.roots n_key_own)
           come_w (subst (λ r. MayReach w r place.node kind) (sym same) reached)
       | inr differs ↦
           let at = link_kind u seat key place next taken still.map still.gives still.kind_is in
-          let may_publish = publish t u seat grown_u kinds_u only_t key next value n makes.held makes.new makes.room short small makes.written next_leads
+          let may_publish = publish t u seat grown_u kinds_u only_t key next value n makes.held makes.new makes.node makes.key_is makes.next_is next_leads
           w still.only taken.table taken.before (place.node ∷ []) taken.come found.come (word_of place.link) x (pointer_to place.node) taken.at_is found.link may points own_t table_t taken.next_is first_word_own still.kind_is kinds_w in
           elim (reached_after u w (shard_of key) (word_of place.link) x node_kind seat (shard_below key) may kinds_w still.only at may_publish root place.node kind reached) as (λ _. ⊥) [
             | inl before ↦ still.only.alone (shard_of key) root place.node node_kind kind (shard_below key) differs found.reached before
@@ -188,15 +188,15 @@ module _ (v t u w : View) (seat_t : IsSeat t) (seat : IsSeat u) (key next x : �
 
       n_next : w.volatile n.first_word ≡ Some next
       n_next =
-          let room = makes.room in
+          let room = makes.node.fits in
           let zero_more : n.first_word + 0 ≡ n.first_word = omega arith in
           let inside : IsIn n (n.first_word + 0) = record { from = omega arith; until = omega arith } in
           subst (λ q. w.volatile q ≡ Some next) zero_more
-          (kept (n.first_word + 0) next (in_block n (n.first_word + 0) makes.held inside) (n_outside (n.first_word + 0) inside) makes.written.next_is).seen
+          (kept (n.first_word + 0) next (in_block n (n.first_word + 0) makes.held inside) (n_outside (n.first_word + 0) inside) makes.next_is).seen
 
       past : (root : ℕ) (c : Block) (k : ℕ) → Reaches u root c k → Reaches w root c k ⊎ (c ≡ place.node)
       past = sees_after u w seat (shard_of key) (word_of place.link) x (pointer_to place.node) (shard_below key) may kinds_w still.only (link_kind u seat key place next taken still.map still.gives still.kind_is)
-          (publish t u seat grown_u kinds_u only_t key next value n makes.held makes.new makes.room short small makes.written next_leads
+          (publish t u seat grown_u kinds_u only_t key next value n makes.held makes.new makes.node makes.key_is makes.next_is next_leads
           w still.only taken.table taken.before (place.node ∷ []) taken.come found.come (word_of place.link) x (pointer_to place.node) taken.at_is found.link may points own_t table_t taken.next_is first_word_own still.kind_is kinds_w)
           found.link (not_root u w seat seat_w key place next taken still.map still.gives still.only still.kind_is kinds_w) (λ d. d ≡ place.node)
           (λ d leads. inl (leads_to_node u w seat seat_w key place next taken still.map still.gives still.only still.kind_is kinds_w d leads))

@@ -3,6 +3,7 @@ pub mod Gets
 pub mod Removal
 pub mod Changes
 pub mod Maps
+pub mod Moving
 pub mod Nodes
 pub mod Puts
 pub mod Quiet

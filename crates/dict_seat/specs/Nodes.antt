@@ -10,6 +10,7 @@ use Rattle.heap_seat.specs.Calls.{SameRefusals}
 use Rattle.heap_seat.specs.Rows.{IsRow, Settles}
 use Rattle.dict_model.specs.Layout.{next_index, key_index, length_index, value_index}
 use Rattle.dict_model.specs.Nodes.{value_words}
+use Rattle.dict_seat.specs.Moving.{IsNodeOf}
 use Rattle.dict_seat.specs.Reached.{Reading}
 use Rattle.dict_seat.specs.Trails.{IsDurableAt, IsSettling}
 
@@ -69,3 +70,13 @@ pub record MakesNode (b : Block) (key next : ℕ) (value : List ℕ) (v w : View
   pub settles : Settles v w
   pub written : IsWrittenNode (IsDurableAt w) b key next value
   pub refusals : SameRefusals v w
+
+-- a block that wasn't held is a node of the key with this value, whose link and key are durable, and so is each word whose write-back was pending
+pub record HasNode (b : Block) (key next : ℕ) (value : List ℕ) (v w : View) : Type 0 where
+  pub new : Contains v.held b → ⊥
+  pub held : Contains w.held b
+  pub only : (a : Block) → Contains w.held a → (a ≡ b) ⊎ Contains v.held a
+  pub settles : Settles v w
+  pub node : IsNodeOf w b value
+  pub next_is : IsDurableAt w (b.first_word + next_index) next
+  pub key_is : IsDurableAt w (b.first_word + key_index) key

@@ -10,6 +10,7 @@ use Rattle.dict_seat.specs.Quiet.{FollowsLink}
 use Rattle.dict_seat.specs.Trails.{IsDurableAt}
 use Rattle.dict_seat.proofs.GrownLemmas.{grown_keeps, grown_then}
 use Rattle.dict_seat.proofs.ChangeLemmas.{change_none}
+use Rattle.dict_seat.proofs.PutLemmas.{has_node}
 use Rattle.dict_seat.proofs.FirstLemmas.{put_fails, first_left, first_done, all_first}
 use Rattle.dict_seat.proofs.TrailLemmas.{bucket_below}
 use Rattle.dict_seat.proofs.TurnedDownLemmas.{turned_down_behind}
@@ -68,7 +69,8 @@ returns-in_err-persist-clause-crash g c =
     let follows = subst (λ (k : ℕ). FollowsLink (c.args.table.first_word + k) c.in_ok-first.first v t) bucket c.in_ok-first.ensures.ok in
     let may = subst (λ (k : ℕ). MayHaveStored (c.args.table.first_word + k) c.encode.result u w) bucket c.persist.ensures.crash in
     first_left v t u w (g.met.H.HeapSeat.seat c.follow.new.seat) (g.met.H.HeapSeat.seat c.make_node.new.seat) c.args.key c.in_ok-first.first c.encode.result c.args.value.now c.args.table c.in_ok-node.node
-    c.requires.shard c.requires.missing (g.met.H.HeapSeat.seat c.args.seat.now) c.follow.ensures.quiet.unchanged follows c.make_node.ensures.grown c.in_ok-node.ensures.ok c.requires.short (λ k less. omega (arith, c.type_inv.value k))
+    c.requires.shard c.requires.missing (g.met.H.HeapSeat.seat c.args.seat.now) c.follow.ensures.quiet.unchanged follows c.make_node.ensures.grown
+    (has_node t u c.in_ok-node.node c.args.key c.in_ok-first.first c.args.value.now c.requires.short (λ k less. omega (arith, c.type_inv.value k)) c.in_ok-node.ensures.ok)
     c.encode.ensures.tagged may c.follow.ensures.quiet.calls.goes_on.kinds c.make_node.ensures.calls.goes_on.kinds c.persist.ensures.calls.goes_on.kinds
 
 pub returns-clause-crash : goal.returns-clause-crash
@@ -82,7 +84,8 @@ returns-clause-crash g c =
     let follows = subst (λ (k : ℕ). FollowsLink (c.args.table.first_word + k) c.in_ok-first.first v t) bucket c.in_ok-first.ensures.ok in
     let may = subst (λ (k : ℕ). MayHaveStored (c.args.table.first_word + k) c.encode.result u w) bucket c.persist.ensures.crash in
     first_left v t u w (g.met.H.HeapSeat.seat c.follow.new.seat) (g.met.H.HeapSeat.seat c.make_node.new.seat) c.args.key c.in_ok-first.first c.encode.result c.args.value.now c.args.table c.in_ok-node.node
-    c.requires.shard c.requires.missing (g.met.H.HeapSeat.seat c.args.seat.now) c.follow.ensures.quiet.unchanged follows c.make_node.ensures.grown c.in_ok-node.ensures.ok c.requires.short (λ k less. omega (arith, c.type_inv.value k))
+    c.requires.shard c.requires.missing (g.met.H.HeapSeat.seat c.args.seat.now) c.follow.ensures.quiet.unchanged follows c.make_node.ensures.grown
+    (has_node t u c.in_ok-node.node c.args.key c.in_ok-first.first c.args.value.now c.requires.short (λ k less. omega (arith, c.type_inv.value k)) c.in_ok-node.ensures.ok)
     c.encode.ensures.tagged may c.follow.ensures.quiet.calls.goes_on.kinds c.make_node.ensures.calls.goes_on.kinds c.persist.ensures.calls.goes_on.kinds
 
 pub returns-clause-ok : goal.returns-clause-ok
@@ -98,7 +101,8 @@ returns-clause-ok g c =
     let settled : IsDurableAt w (c.args.table.first_word + bucket_of c.args.key) c.encode.result =
     subst (λ (k : ℕ). IsDurableAt w (c.args.table.first_word + k) c.encode.result) bucket (record { seen = c.in_ok-persist.ensures.ok; left = c.in_ok-persist.ensures.durable }) in
     first_done v t u w (g.met.H.HeapSeat.seat c.follow.new.seat) (g.met.H.HeapSeat.seat c.make_node.new.seat) c.args.key c.in_ok-first.first c.encode.result c.args.value.now c.args.table c.in_ok-node.node
-    c.requires.shard c.requires.missing (g.met.H.HeapSeat.seat c.args.seat.now) c.follow.ensures.quiet.unchanged follows c.make_node.ensures.grown c.in_ok-node.ensures.ok c.requires.short (λ k less. omega (arith, c.type_inv.value k))
+    c.requires.shard c.requires.missing (g.met.H.HeapSeat.seat c.args.seat.now) c.follow.ensures.quiet.unchanged follows c.make_node.ensures.grown
+    (has_node t u c.in_ok-node.node c.args.key c.in_ok-first.first c.args.value.now c.requires.short (λ k less. omega (arith, c.type_inv.value k)) c.in_ok-node.ensures.ok)
     c.encode.ensures.tagged may c.follow.ensures.quiet.calls.goes_on.kinds c.make_node.ensures.calls.goes_on.kinds c.persist.ensures.calls.goes_on.kinds settled
 
 pub returns-in_err-persist-clause-calls : goal.returns-in_err-persist-clause-calls
@@ -140,7 +144,8 @@ returns-clause-exact g c =
     let settled : IsDurableAt w (c.args.table.first_word + bucket_of c.args.key) c.encode.result =
     subst (λ (k : ℕ). IsDurableAt w (c.args.table.first_word + k) c.encode.result) bucket (record { seen = c.in_ok-persist.ensures.ok; left = c.in_ok-persist.ensures.durable }) in
     all_first v t u w (g.met.H.HeapSeat.seat c.follow.new.seat) (g.met.H.HeapSeat.seat c.make_node.new.seat) c.args.key c.in_ok-first.first c.encode.result c.args.value.now c.args.table c.in_ok-node.node
-    c.requires.shard c.requires.missing (g.met.H.HeapSeat.seat c.args.seat.now) c.follow.ensures.quiet.unchanged follows c.make_node.ensures.grown c.in_ok-node.ensures.ok c.requires.short (λ k less. omega (arith, c.type_inv.value k))
+    c.requires.shard c.requires.missing (g.met.H.HeapSeat.seat c.args.seat.now) c.follow.ensures.quiet.unchanged follows c.make_node.ensures.grown
+    (has_node t u c.in_ok-node.node c.args.key c.in_ok-first.first c.args.value.now c.requires.short (λ k less. omega (arith, c.type_inv.value k)) c.in_ok-node.ensures.ok)
     c.encode.ensures.tagged may c.follow.ensures.quiet.calls.goes_on.kinds c.make_node.ensures.calls.goes_on.kinds c.persist.ensures.calls.goes_on.kinds (g.met.H.HeapSeat.seat c.persist.new.heap) settled
 
 pub returns-in_err-node-clause-none : goal.returns-in_err-node-clause-none

@@ -10,6 +10,7 @@ use Rattle.dict_seat.proofs.GrownLemmas.{grown_keeps, grown_then}
 use Rattle.dict_seat.proofs.TrailLemmas.{settles}
 use Rattle.dict_seat.proofs.ChangeLemmas.{change_none}
 use Rattle.dict_seat.proofs.FirstLemmas.{put_fails}
+use Rattle.dict_seat.proofs.PutLemmas.{has_node}
 use Rattle.dict_seat.proofs.OverLemmas.{taken_made, over_left, old_still, over_freed, all_over}
 use Rattle.dict_seat.proofs.TurnedDownLemmas.{turned_down_behind}
 use Rattle.dict_seat.proofs.publish.put_over.Goals as goal
@@ -53,7 +54,7 @@ persist-requires g c =
     let t = view c.take.new.seat in
     let u = view c.make_node.new.seat in
     let seat_t = g.met.H.HeapSeat.seat c.take.new.seat in
-    let makes = c.in_ok-node.ensures.ok in
+    let makes = has_node t u c.in_ok-node.node c.args.key c.in_ok-next.next c.args.value.now c.requires.short (λ k less. omega (arith, c.type_inv.value k)) c.in_ok-node.ensures.ok in
     let made = taken_made t u c.args.key c.in_ok-next.next c.args.place seat_t c.make_node.ensures.grown
     (λ word y own settling. settles t u word y own (c.make_node.ensures.grown.words word own) makes.settles settling) c.in_ok-next.ensures.ok.taken in
     made.0.own
@@ -66,11 +67,11 @@ returns-in_err-persist-clause-crash g c =
     let u = view c.make_node.new.seat in
     let w = view c.persist.new.heap in
     let seat_t = g.met.H.HeapSeat.seat c.take.new.seat in
-    let makes = c.in_ok-node.ensures.ok in
+    let makes = has_node t u c.in_ok-node.node c.args.key c.in_ok-next.next c.args.value.now c.requires.short (λ k less. omega (arith, c.type_inv.value k)) c.in_ok-node.ensures.ok in
     let made = taken_made t u c.args.key c.in_ok-next.next c.args.place seat_t c.make_node.ensures.grown
     (λ word y own settling. settles t u word y own (c.make_node.ensures.grown.words word own) makes.settles settling) c.in_ok-next.ensures.ok.taken in
     over_left v t u w seat_t (g.met.H.HeapSeat.seat c.make_node.new.seat) c.args.key c.in_ok-next.next c.encode.result c.args.value.now c.args.place c.in_ok-node.node c.requires.shard
-    c.take.ensures.quiet.unchanged made.0 made.1 made.2 made.3 c.make_node.ensures.grown makes c.requires.short (λ k less. omega (arith, c.type_inv.value k)) c.encode.ensures.tagged c.persist.ensures.crash
+    c.take.ensures.quiet.unchanged made.0 made.1 made.2 made.3 c.make_node.ensures.grown makes c.encode.ensures.tagged c.persist.ensures.crash
     c.take.ensures.quiet.calls.goes_on.kinds c.make_node.ensures.calls.goes_on.kinds c.persist.ensures.calls.goes_on.kinds
 
 pub free-requires : goal.free-requires
@@ -81,11 +82,11 @@ free-requires g c =
     let u = view c.make_node.new.seat in
     let w = view c.persist.new.heap in
     let seat_t = g.met.H.HeapSeat.seat c.take.new.seat in
-    let makes = c.in_ok-node.ensures.ok in
+    let makes = has_node t u c.in_ok-node.node c.args.key c.in_ok-next.next c.args.value.now c.requires.short (λ k less. omega (arith, c.type_inv.value k)) c.in_ok-node.ensures.ok in
     let made = taken_made t u c.args.key c.in_ok-next.next c.args.place seat_t c.make_node.ensures.grown
     (λ word y own settling. settles t u word y own (c.make_node.ensures.grown.words word own) makes.settles settling) c.in_ok-next.ensures.ok.taken in
     old_still v t u w seat_t (g.met.H.HeapSeat.seat c.make_node.new.seat) c.args.key c.in_ok-next.next c.encode.result c.args.value.now c.args.place c.in_ok-node.node c.requires.shard
-    c.take.ensures.quiet.unchanged made.0 made.1 made.2 made.3 c.make_node.ensures.grown makes c.requires.short (λ k less. omega (arith, c.type_inv.value k)) c.encode.ensures.tagged c.persist.ensures.crash
+    c.take.ensures.quiet.unchanged made.0 made.1 made.2 made.3 c.make_node.ensures.grown makes c.encode.ensures.tagged c.persist.ensures.crash
     c.take.ensures.quiet.calls.goes_on.kinds c.make_node.ensures.calls.goes_on.kinds c.persist.ensures.calls.goes_on.kinds
 
 pub returns-in_err-free-clause-crash : goal.returns-in_err-free-clause-crash
@@ -97,12 +98,12 @@ returns-in_err-free-clause-crash g c =
     let w = view c.persist.new.heap in
     let y = view c.free.new.self in
     let seat_t = g.met.H.HeapSeat.seat c.take.new.seat in
-    let makes = c.in_ok-node.ensures.ok in
+    let makes = has_node t u c.in_ok-node.node c.args.key c.in_ok-next.next c.args.value.now c.requires.short (λ k less. omega (arith, c.type_inv.value k)) c.in_ok-node.ensures.ok in
     let made = taken_made t u c.args.key c.in_ok-next.next c.args.place seat_t c.make_node.ensures.grown
     (λ word y own settling. settles t u word y own (c.make_node.ensures.grown.words word own) makes.settles settling) c.in_ok-next.ensures.ok.taken in
     let settled : IsDurableAt w (word_of c.args.place.link) c.encode.result = record { seen = c.in_ok-persist.ensures.ok; left = c.in_ok-persist.ensures.durable } in
     (over_freed v t u w seat_t (g.met.H.HeapSeat.seat c.make_node.new.seat) c.args.key c.in_ok-next.next c.encode.result c.args.value.now c.args.place c.in_ok-node.node c.requires.shard
-    c.take.ensures.quiet.unchanged made.0 made.1 made.2 made.3 c.make_node.ensures.grown makes c.requires.short (λ k less. omega (arith, c.type_inv.value k)) c.encode.ensures.tagged c.persist.ensures.crash
+    c.take.ensures.quiet.unchanged made.0 made.1 made.2 made.3 c.make_node.ensures.grown makes c.encode.ensures.tagged c.persist.ensures.crash
     c.take.ensures.quiet.calls.goes_on.kinds c.make_node.ensures.calls.goes_on.kinds c.persist.ensures.calls.goes_on.kinds
     (g.met.H.HeapSeat.seat c.persist.new.heap) settled y c.free.ensures.others c.free.ensures.counted.goes_on.kinds).1
 
@@ -115,12 +116,12 @@ returns-clause-crash g c =
     let w = view c.persist.new.heap in
     let y = view c.free.new.self in
     let seat_t = g.met.H.HeapSeat.seat c.take.new.seat in
-    let makes = c.in_ok-node.ensures.ok in
+    let makes = has_node t u c.in_ok-node.node c.args.key c.in_ok-next.next c.args.value.now c.requires.short (λ k less. omega (arith, c.type_inv.value k)) c.in_ok-node.ensures.ok in
     let made = taken_made t u c.args.key c.in_ok-next.next c.args.place seat_t c.make_node.ensures.grown
     (λ word y own settling. settles t u word y own (c.make_node.ensures.grown.words word own) makes.settles settling) c.in_ok-next.ensures.ok.taken in
     let settled : IsDurableAt w (word_of c.args.place.link) c.encode.result = record { seen = c.in_ok-persist.ensures.ok; left = c.in_ok-persist.ensures.durable } in
     (over_freed v t u w seat_t (g.met.H.HeapSeat.seat c.make_node.new.seat) c.args.key c.in_ok-next.next c.encode.result c.args.value.now c.args.place c.in_ok-node.node c.requires.shard
-    c.take.ensures.quiet.unchanged made.0 made.1 made.2 made.3 c.make_node.ensures.grown makes c.requires.short (λ k less. omega (arith, c.type_inv.value k)) c.encode.ensures.tagged c.persist.ensures.crash
+    c.take.ensures.quiet.unchanged made.0 made.1 made.2 made.3 c.make_node.ensures.grown makes c.encode.ensures.tagged c.persist.ensures.crash
     c.take.ensures.quiet.calls.goes_on.kinds c.make_node.ensures.calls.goes_on.kinds c.persist.ensures.calls.goes_on.kinds
     (g.met.H.HeapSeat.seat c.persist.new.heap) settled y c.free.ensures.others c.free.ensures.counted.goes_on.kinds).1
 
@@ -133,12 +134,12 @@ returns-clause-ok g c =
     let w = view c.persist.new.heap in
     let y = view c.free.new.self in
     let seat_t = g.met.H.HeapSeat.seat c.take.new.seat in
-    let makes = c.in_ok-node.ensures.ok in
+    let makes = has_node t u c.in_ok-node.node c.args.key c.in_ok-next.next c.args.value.now c.requires.short (λ k less. omega (arith, c.type_inv.value k)) c.in_ok-node.ensures.ok in
     let made = taken_made t u c.args.key c.in_ok-next.next c.args.place seat_t c.make_node.ensures.grown
     (λ word y own settling. settles t u word y own (c.make_node.ensures.grown.words word own) makes.settles settling) c.in_ok-next.ensures.ok.taken in
     let settled : IsDurableAt w (word_of c.args.place.link) c.encode.result = record { seen = c.in_ok-persist.ensures.ok; left = c.in_ok-persist.ensures.durable } in
     (over_freed v t u w seat_t (g.met.H.HeapSeat.seat c.make_node.new.seat) c.args.key c.in_ok-next.next c.encode.result c.args.value.now c.args.place c.in_ok-node.node c.requires.shard
-    c.take.ensures.quiet.unchanged made.0 made.1 made.2 made.3 c.make_node.ensures.grown makes c.requires.short (λ k less. omega (arith, c.type_inv.value k)) c.encode.ensures.tagged c.persist.ensures.crash
+    c.take.ensures.quiet.unchanged made.0 made.1 made.2 made.3 c.make_node.ensures.grown makes c.encode.ensures.tagged c.persist.ensures.crash
     c.take.ensures.quiet.calls.goes_on.kinds c.make_node.ensures.calls.goes_on.kinds c.persist.ensures.calls.goes_on.kinds
     (g.met.H.HeapSeat.seat c.persist.new.heap) settled y c.free.ensures.others c.free.ensures.counted.goes_on.kinds).0
 
@@ -208,12 +209,12 @@ returns-clause-exact g c =
     let w = view c.persist.new.heap in
     let y = view c.free.new.self in
     let seat_t = g.met.H.HeapSeat.seat c.take.new.seat in
-    let makes = c.in_ok-node.ensures.ok in
+    let makes = has_node t u c.in_ok-node.node c.args.key c.in_ok-next.next c.args.value.now c.requires.short (λ k less. omega (arith, c.type_inv.value k)) c.in_ok-node.ensures.ok in
     let made = taken_made t u c.args.key c.in_ok-next.next c.args.place seat_t c.make_node.ensures.grown
     (λ word y own settling. settles t u word y own (c.make_node.ensures.grown.words word own) makes.settles settling) c.in_ok-next.ensures.ok.taken in
     let settled : IsDurableAt w (word_of c.args.place.link) c.encode.result = record { seen = c.in_ok-persist.ensures.ok; left = c.in_ok-persist.ensures.durable } in
     all_over v t u w seat_t (g.met.H.HeapSeat.seat c.make_node.new.seat) c.args.key c.in_ok-next.next c.encode.result c.args.value.now c.args.place c.in_ok-node.node c.requires.shard
-    c.take.ensures.quiet.unchanged made.0 made.1 made.2 made.3 c.make_node.ensures.grown makes c.requires.short (λ k less. omega (arith, c.type_inv.value k)) c.encode.ensures.tagged c.persist.ensures.crash
+    c.take.ensures.quiet.unchanged made.0 made.1 made.2 made.3 c.make_node.ensures.grown makes c.encode.ensures.tagged c.persist.ensures.crash
     c.take.ensures.quiet.calls.goes_on.kinds c.make_node.ensures.calls.goes_on.kinds c.persist.ensures.calls.goes_on.kinds
     (g.met.H.HeapSeat.seat c.persist.new.heap) settled y c.free.ensures.others c.free.ensures.counted.goes_on.kinds c.in_ok-free.ensures.ok.gone
 
