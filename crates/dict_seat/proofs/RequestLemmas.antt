@@ -17,6 +17,7 @@ use Rattle.dict_model.specs.Shards.{Map}
 use Rattle.dict_seat.specs.Quiet.{Grown}
 use Rattle.dict_seat.specs.Changes.{MayChange, Changes}
 use Rattle.dict_seat.specs.Tables.{MakesTable}
+use Rattle.dict_seat.specs.Moving.{TableFails}
 use Rattle.dict_seat.specs.Removal.{IsShard}
 use Rattle.dict_seat.specs.Puts.{PutFails, PutAnswers, of_node, of_node_behind_table, of_table, WasNull, RootIsSet}
 use Rattle.dict_seat.proofs.GrownLemmas.{kind_kept, gives_grown, grown_keeps}
@@ -62,6 +63,16 @@ answers_table bytes shard (Full looks) v u w runs grown same taken owned root fa
   λ map gives. gives_grown u w (grown_keeps u w fails.1) shard map (gives_grown v u grown shard map gives),
 )
 answers_table bytes shard (Stopped stopped) v u w runs grown same taken owned root fails = (stops_then stopped.step v u w runs fails.0, same_refusals_then v u w same fails.1)
+
+-- the same of a table alone
+pub fails_table : (shard : ℕ) (fault : AllocFault) (v u w : View) → Runs v u → Grown v u → SameRefusals v u → u.taken ≤ v.taken + 0
+    → Contains u.roots shard → IsSettling u (root_word shard) 0 → PutFails table_bytes fault u w → TableFails shard fault v w
+fails_table shard (Full looks) v u w runs grown same taken owned root fails = (
+  ((grown_keeps u w fails.1).words (root_word shard) (root_own u shard owned)).volatile 0 root.seen,
+  refused_before table_bytes 0 0 0 looks v u w runs same taken (omega arith) fails.0,
+  λ map gives. gives_grown u w (grown_keeps u w fails.1) shard map (gives_grown v u grown shard map gives),
+)
+fails_table shard (Stopped stopped) v u w runs grown same taken owned root fails = (stops_then stopped.step v u w runs fails.0, same_refusals_then v u w same fails.1)
 
 -- and behind a table that was made
 pub answers_behind : (bytes key : ℕ) (fault : AllocFault) (table : Block) (v u y w : View) → Runs v u → Grown v u → SameRefusals v u → u.taken ≤ v.taken + 0

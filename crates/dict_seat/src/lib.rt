@@ -2,6 +2,7 @@
 #![tactic(auto)]
 
 mod laws;
+mod moving;
 mod node;
 mod publish;
 mod reading;

@@ -25,7 +25,7 @@ pub(crate) enum SearchEnd {
 }
 
 /// The table of the key's shard, if that has one.
-fn table_of<H: HeapSeat>(seat: &mut H, key: u64) -> Result<Option<Block>, Stopped>
+pub(crate) fn table_of<H: HeapSeat>(seat: &mut H, key: u64) -> Result<Option<Block>, Stopped>
     requires { IsShard (H.view seat.old) (shard_of key) }
     ensures ok { IfOk result (λ table. FindsTable (shard_of key) table
         (H.view seat.old) (H.view seat.new)) }

@@ -1,0 +1,85 @@
+//! The calls of a shard by which a block goes from shard to shard, and its value is not copied.
+ghost use Rattle.std.specs.Prelude.{◌≡◌, ℕ, ◌<◌, OnOk, IfErr};
+ghost use Rattle.heap_model.specs.Sizes.{span_of};
+ghost use Rattle.heap_seat.specs.declared.fault.AllocFault.TheVariants.{Full};
+ghost use Rattle.heap_seat.specs.declared.fault.Looks.{Looks};
+ghost use Rattle.heap_seat.specs.View.{View};
+ghost use Rattle.heap_seat.specs.Tickets.{Runs};
+ghost use Rattle.heap_seat.specs.Calls.{SameRefusals};
+ghost use Rattle.heap_seat.specs.Rows.{IsRow};
+ghost use Rattle.dict_model.specs.Nodes.{shard_of, table_bytes};
+ghost use Rattle.dict_model.specs.Shards.{Map};
+ghost use Rattle.dict_seat.specs.Changes.{MayChange, Changes};
+ghost use Rattle.dict_seat.specs.Moving.{TableFails, TableTakes};
+ghost use Rattle.dict_seat.specs.Reached.{ReachesAllHeld};
+ghost use Rattle.dict_seat.specs.Removal.{IsShard};
+ghost use Rattle.dict_seat.specs.Puts.{RootIsSet, WasTurnedDown};
+
+use crate::search::table_of;
+use crate::shard::Shard;
+use crate::table::make_table;
+use heap_seat::{AllocFault, HeapSeat};
+
+/// Sees to it that the key's shard has a table.
+fn have_table<H: HeapSeat>(seat: &mut H, key: u64) -> Result<(), AllocFault>
+    requires { IsShard (H.view seat.old) (shard_of key) }
+    ensures ok { OnOk result (Changes (shard_of key) (λ map. map)
+        (H.view seat.old) (H.view seat.new)) }
+    ensures table { OnOk result (RootIsSet (H.view seat.new) (shard_of key)) }
+    ensures runs { OnOk result (Runs (H.view seat.old) (H.view seat.new)) }
+    ensures refusals { OnOk result (SameRefusals (H.view seat.old) (H.view seat.new)) }
+    ensures exact { OnOk result (ReachesAllHeld (H.view seat.old)
+        → ReachesAllHeld (H.view seat.new)) }
+    ensures exact_full { IfErr result (λ fault. (looks : Looks) → fault ≡ Full looks
+        → ReachesAllHeld (H.view seat.old) → ReachesAllHeld (H.view seat.new)) }
+    ensures cause { IfErr result (λ fault. TableFails (shard_of key) fault
+        (H.view seat.old) (H.view seat.new)) }
+    ensures none { IfErr result (λ fault. (looks : Looks) → fault ≡ Full looks
+        → WasTurnedDown H.keeps H.has_none table_bytes looks seat.old seat.new) }
+    ensures crash { (after : Map → Map) → MayChange (shard_of key) after
+        (H.view seat.old) (H.view seat.new) }
+    ensures taken { TableTakes (shard_of key) (H.view seat.old) (H.view seat.new) }
+    ensures calls { IsRow 262 1 (span_of table_bytes) (H.view seat.old) (H.view seat.new) }
+    ensures kept { H.keeps seat.old seat.new }
+{
+    match table_of(seat, key)? {
+        Some(_) => Ok(()),
+        None => {
+            make_table(seat, key)?;
+            Ok(())
+        }
+    }
+}
+
+impl Shard {
+    /// Makes the shard's table, if it has none. The map is as before, wherever this ends.
+    ///
+    /// `Full` where there is no room for a table; no superblock was taken then.
+    pub fn make_table<H: HeapSeat>(&mut self, seat: &mut H) -> Result<(), AllocFault>
+        requires number { self.old.number < 8 }
+        requires shard { IsShard (H.view seat.old) self.old.number }
+        ensures ok { OnOk result (Changes self.old.number (λ map. map)
+            (H.view seat.old) (H.view seat.new)) }
+        ensures table { OnOk result (RootIsSet (H.view seat.new) self.old.number) }
+        ensures runs { OnOk result (Runs (H.view seat.old) (H.view seat.new)) }
+        ensures refusals { OnOk result (SameRefusals (H.view seat.old) (H.view seat.new)) }
+        ensures exact { OnOk result (ReachesAllHeld (H.view seat.old)
+            → ReachesAllHeld (H.view seat.new)) }
+        ensures exact_full { IfErr result (λ fault. (looks : Looks) → fault ≡ Full looks
+            → ReachesAllHeld (H.view seat.old) → ReachesAllHeld (H.view seat.new)) }
+        ensures cause { IfErr result (λ fault. TableFails self.old.number fault
+            (H.view seat.old) (H.view seat.new)) }
+        ensures none { IfErr result (λ fault. (looks : Looks) → fault ≡ Full looks
+            → WasTurnedDown H.keeps H.has_none table_bytes looks seat.old seat.new) }
+
+        // At every exit.
+        ensures crash { (after : Map → Map) → MayChange self.old.number after
+            (H.view seat.old) (H.view seat.new) }
+        ensures taken { TableTakes self.old.number (H.view seat.old) (H.view seat.new) }
+        ensures calls { IsRow 512 1 (span_of table_bytes) (H.view seat.old) (H.view seat.new) }
+        ensures kept { H.keeps seat.old seat.new }
+        ensures same { self.new ≡ self.old }
+    {
+        have_table(seat, self.number)
+    }
+}
