@@ -6,11 +6,14 @@ use Rattle.heap_model.specs.Image.{Image}
 use Rattle.heap_model.proofs.MemberLemmas.{in_none, in_head, in_rest, head_or_rest}
 use Rattle.heap_seat.specs.declared.spot.Spot.{Spot}
 use Rattle.heap_seat.specs.View.{View, word_of}
+use Rattle.heap_seat.specs.Rows.{IsRow}
 use Rattle.heap_seat.specs.Sound.{IsSeat}
+use Rattle.heap_seat.proofs.RowLemmas.{row_then, row_more}
 use Rattle.dict_model.specs.Nodes.{shard_of, bucket_of, key_in, value_in, find}
 use Rattle.dict_model.specs.Shards.{Leading, LeadsTo, IsPath, but}
 use Rattle.dict_model.proofs.ChainLemmas.{in_path, found_in, not_of}
 use Rattle.dict_seat.specs.Trails.{IsSettling}
+use Rattle.dict_seat.specs.Moving.{MovesFew}
 use Rattle.dict_seat.specs.Quiet.{IsQuiet}
 use Rattle.dict_seat.specs.Walks.{IsWalk, IsWalking, ListsKeys, IsQuietWalk}
 use Rattle.dict_seat.proofs.GrownLemmas.{Grown, grown_keeps, gives_grown}
@@ -76,3 +79,14 @@ quiet_walk key more table link v u w seat walking quiet = record {
   few = λ keys lists.
       let few = few_passed u key (word_of link) table seat walking.walk keys (lists_later v u (shard_of key) keys (grown_keeps v u walking.quiet.unchanged) lists) in omega arith;
 }
+
+-- the calls of a search, and some more that take no superblock
+pub moves_few : (small large shard : ℕ) (v u w : View) → small ≤ 500 → IsQuietWalk 5 shard v u → IsRow small large 0 u w → MovesFew large shard v w
+moves_few small large shard v u w s walk row keys lists =
+    let few = walk.few keys lists in
+    row_more (walk.small + small) (0 + large) 0 (512 + 4 * length keys) large 0 v w (omega arith) (omega arith) (omega arith) (row_then walk.small 0 0 small large 0 v u w walk.quiet.calls row)
+
+pub moves_quiet : (large shard : ℕ) (v u : View) → IsQuietWalk 5 shard v u → MovesFew large shard v u
+moves_quiet large shard v u walk keys lists =
+    let few = walk.few keys lists in
+    row_more walk.small 0 0 (512 + 4 * length keys) large 0 v u (omega arith) (omega arith) (omega arith) walk.quiet.calls

@@ -6,7 +6,7 @@ use Rattle.std.proofs.lemmas.List.Elements.{Contains-append_left, Contains-appen
 use Rattle.heap_model.specs.declared.block.Block.{Block}
 use Rattle.heap_model.proofs.MemberLemmas.{in_head}
 use Rattle.heap_seat.specs.View.{View}
-use Rattle.heap_seat.specs.Words.{in_block, KeepsOwn}
+use Rattle.heap_seat.specs.Words.{IsOwn, in_block, KeepsOwn}
 use Rattle.heap_seat.specs.Tickets.{Runs}
 use Rattle.heap_seat.specs.Rows.{IsRow}
 use Rattle.heap_seat.specs.Sound.{IsSeat}
@@ -17,8 +17,9 @@ use Rattle.dict_model.specs.Requests.{without_key}
 use Rattle.dict_model.specs.Shards.{Map, LeadsTo, IsPath, but}
 use Rattle.dict_model.proofs.ChainLemmas.{found_in, in_path}
 use Rattle.dict_seat.specs.declared.walk.Place.{Place}
-use Rattle.dict_seat.specs.Maps.{GivesMap}
-use Rattle.dict_seat.specs.Trails.{IsSettling, Completes}
+use Rattle.dict_seat.specs.Maps.{IsMapIn, GivesMap}
+use Rattle.dict_seat.specs.Reached.{Reading}
+use Rattle.dict_seat.specs.Trails.{IsSettling, HasCome, Completes}
 use Rattle.dict_seat.specs.Walks.{IsFoundPlace, IsQuietWalk}
 use Rattle.dict_seat.specs.Changes.{Changes}
 use Rattle.dict_seat.specs.Removal.{IsShard}
@@ -40,25 +41,32 @@ without_missing map key none q = elim (cases_eq key q) as (λ _. map q ≡ witho
   | inr other ↦ sym (cond-false (nat_eq key q) None (map q) (ne_eqb key q other))
 ]
 
--- a key's node that was found is a node, and the map has its value
+-- in an image with the values of the way to a key's node that is a node, and the map has its value
+pub come_is : (reads : View → Reading) (w : View) (image : Image) (key : ℕ) (table : Block) (before : List Block) (node : Block) → IsSeat w
+    → ((word value : ℕ) → IsOwn w.held w.roots word → reads w word value → image word ≡ value) → HasCome reads w (shard_of key) key table (before ++ (node ∷ []))
+    → key_in image node ≡ key → (map : Map) → IsMapIn w image (shard_of key) map → (map key ≡ Some (value_in image node)) × IsNode image (shard_of key) (bucket_of key) node
+come_is reads w image key table before node seat has come key_is map is_map =
+    let k = bucket_of key in
+    let along = is_along reads w image seat (shard_of key) key map table (before ++ (node ∷ [])) has come is_map in
+    let path : IsPath (but table (LeadsTo (Contains w.held))) image (shard_of key) k (table.first_word + k) ((before ++ (node ∷ [])) ++ along.rest) =
+    subst (λ (bs : List Block). IsPath (but table (LeadsTo (Contains w.held))) image (shard_of key) k (table.first_word + k) bs) along.is (along.chains k (bucket_below key)).path in
+    let h = Contains-append_left (before ++ (node ∷ [])) along.rest node (Contains-append_right before (node ∷ []) node (in_head node [])) in
+    let there = found_in (but table (LeadsTo (Contains w.held))) image (shard_of key) k (table.first_word + k) ((before ++ (node ∷ [])) ++ along.rest) node path h in
+    let is = (in_path (but table (LeadsTo (Contains w.held))) image (shard_of key) k (table.first_word + k) ((before ++ (node ∷ [])) ++ along.rest) node path h).1 in (
+      found_at map image (shard_of key) key along.nodes along.means refl ∙ ap (λ (bs : List Block). find image key bs) along.is
+          ∙ ap (λ q. find image q ((before ++ (node ∷ [])) ++ along.rest)) (sym key_is) ∙ there,
+      is,
+    )
+
+-- so is one that was found
 pub found_is : (w : View) (key : ℕ) (place : Place) → IsSeat w → IsFoundPlace w key place → (map : Map) → GivesMap w (shard_of key) map
     → (image : Image) → Completes w image → (map key ≡ Some (value_in image place.node)) × IsNode image (shard_of key) (bucket_of key) place.node
 found_is w key place seat found map gives image completes =
     let node = place.node in
-    let k = bucket_of key in
-    let along = is_along IsSettling w image seat (shard_of key) key map found.table (found.before ++ (node ∷ [])) (settling_in w image completes) found.come (gives.each image completes.mixes) in
-    let path : IsPath (but found.table (LeadsTo (Contains w.held))) image (shard_of key) k (found.table.first_word + k) ((found.before ++ (node ∷ [])) ++ along.rest) =
-    subst (λ (bs : List Block). IsPath (but found.table (LeadsTo (Contains w.held))) image (shard_of key) k (found.table.first_word + k) bs) along.is (along.chains k (bucket_below key)).path in
     let room = found.room in
     let key_is : key_in image node ≡ key = completes.seen (node.first_word + 1) key
     (in_block node (node.first_word + 1) (found_held w key place found) (record { from = omega arith; until = omega arith })) found.key_seen in
-    let h = Contains-append_left (found.before ++ (node ∷ [])) along.rest node (Contains-append_right found.before (node ∷ []) node (in_head node [])) in
-    let there = found_in (but found.table (LeadsTo (Contains w.held))) image (shard_of key) k (found.table.first_word + k) ((found.before ++ (node ∷ [])) ++ along.rest) node path h in
-    let is = (in_path (but found.table (LeadsTo (Contains w.held))) image (shard_of key) k (found.table.first_word + k) ((found.before ++ (node ∷ [])) ++ along.rest) node path h).1 in (
-      found_at map image (shard_of key) key along.nodes along.means refl ∙ ap (λ (bs : List Block). find image key bs) along.is
-          ∙ ap (λ q. find image q ((found.before ++ (node ∷ [])) ++ along.rest)) (sym key_is) ∙ there,
-      is,
-    )
+    come_is IsSettling w image key found.table found.before node seat (settling_in w image completes) found.come key_is map (gives.each image completes.mixes)
 
 -- the map has a key whose node was found
 pub found_has : (w : View) (key : ℕ) (place : Place) → IsSeat w → IsFoundPlace w key place → (map : Map) → GivesMap w (shard_of key) map → map key ≢ None

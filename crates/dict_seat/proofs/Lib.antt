@@ -13,12 +13,14 @@ pub mod GrownLemmas
 pub mod ImageLemmas
 pub mod MakeLemmas
 pub mod MapPublishLemmas
+pub mod MovedLemmas
 pub mod NodeLemmas
 pub mod OthersLemmas
 pub mod OverLemmas
 pub mod PublishLemmas
 pub mod PutLemmas
 pub mod QuietLemmas
+pub mod ReadableLemmas
 pub mod ReadLemmas
 pub mod RequestLemmas
 pub mod SearchLemmas

@@ -1,12 +1,12 @@
 -- A request to one shard leaves each other shard its map.
-use Rattle.std.proofs.Common.{◌≡◌, ◌≢◌, ℕ, ◌<◌, ◌⊎◌, inl, inr, List, Option, None, Some, Contains, refl, subst, sym, ◌∙◌}
+use Rattle.std.proofs.Common.{◌≡◌, ◌≢◌, ℕ, ◌<◌, inl, inr, List, Contains, refl, subst, sym, ◌∙◌}
 use Rattle.std.proofs.lemmas.Bool.{cases_eq}
 use Rattle.heap_model.specs.declared.block.Block.{Block}
 use Rattle.heap_model.specs.Geometry.{root_word}
 use Rattle.heap_model.specs.Image.{Image}
 use Rattle.heap_model.specs.Blocks.{IsIn}
 use Rattle.heap_seat.specs.View.{View, kind_of}
-use Rattle.heap_seat.specs.Words.{IsOwn, in_block, in_root, MayBe, MayRead, MixesOwn}
+use Rattle.heap_seat.specs.Words.{in_block, in_root, MixesOwn}
 use Rattle.heap_seat.specs.Sound.{IsSeat}
 use Rattle.heap_seat.proofs.CallerLemmas.{read_before}
 use Rattle.dict_model.specs.Links.{shards, table_kind}
@@ -20,45 +20,10 @@ use Rattle.dict_seat.specs.Removal.{IsShard}
 use Rattle.dict_seat.specs.Shards.{HasShards}
 use Rattle.dict_seat.proofs.GrownLemmas.{kind_kept}
 use Rattle.dict_seat.proofs.FreedLemmas.{used_reached}
-use Rattle.dict_seat.proofs.TrailLemmas.{now_image, now_completes}
-
--- whether a word may have a value is decided
-may_be_or_not : (known : Option ℕ) (x : ℕ) → MayBe known x ⊎ (MayBe known x → ⊥)
-may_be_or_not None x = inl tt
-may_be_or_not (Some y) x = cases_eq x y
-
-reads_or_not : (v : View) (word x : ℕ) → MayRead v word x ⊎ (MayRead v word x → ⊥)
-reads_or_not v word x = elim (may_be_or_not (v.volatile word) x) as (λ _. MayRead v word x ⊎ (MayRead v word x → ⊥)) [
-  | inl seen ↦ inl (inl seen)
-  | inr unseen ↦ elim (may_be_or_not (v.durable word) x) as (λ _. MayRead v word x ⊎ (MayRead v word x → ⊥)) [
-    | inl left ↦ inl (inr left)
-    | inr unleft ↦ inr (λ may. elim may as (λ _. ⊥) [ inl a ↦ unseen a | inr b ↦ unleft b ])
-  ]
-]
-
--- the one value or the other
-abbrev pick : {A : Type 0} → A ⊎ (A → ⊥) → ℕ → ℕ → ℕ
-pick (inl a) x y = x
-pick (inr un) x y = y
+use Rattle.dict_seat.proofs.ReadableLemmas.{readable, readable_mixes, readable_same}
 
 module _ (v w : View) (shard other : ℕ) (seat : IsSeat v) (only : ReachesOnlyHeld v) (keeps : KeepsOtherShards shard v w)
     (small : shard < shards) (root_is : kind_of v other ≡ table_kind) (differs : other ≢ shard) (owned : Contains v.roots other) where
-  -- an image that the earlier view may read, and that has what the later image has where that may be read
-  abbrev before : Image → Image
-  before image word = pick (reads_or_not v word (image word)) (image word) (now_image v word)
-
-  before_mixes : (image : Image) → MixesOwn v (before image)
-  before_mixes image = record { each = λ word own. by_case word own (reads_or_not v word (image word)) } where
-    by_case : (word : ℕ) → IsOwn v.held v.roots word → (d : MayRead v word (image word) ⊎ (MayRead v word (image word) → ⊥)) → MayRead v word (pick d (image word) (now_image v word))
-    by_case word own (inl may) = may
-    by_case word own (inr un) = (now_completes v).mixes.each word own
-
-  before_same : (image : Image) (word : ℕ) → MayRead v word (image word) → image word ≡ before image word
-  before_same image word may = by_case (reads_or_not v word (image word)) where
-    by_case : (d : MayRead v word (image word) ⊎ (MayRead v word (image word) → ⊥)) → image word ≡ pick d (image word) (now_image v word)
-    by_case (inl is) = refl
-    by_case (inr un) = absurd (un may)
-
   -- a held block that the other shard's root reaches
   abbrev kept : Block → Type 0
   kept c = Contains v.held c × ((kind : ℕ) × MayReach v other c kind)
@@ -76,24 +41,24 @@ module _ (v w : View) (shard other : ℕ) (seat : IsSeat v) (only : ReachesOnlyH
   stays : (c : Block) → kept c → Contains w.held c
   stays c h = (keeps.blocks c h.0 (unreached c h)).0
 
-  same_inside : (image : Image) → MixesOwn w image → (c : Block) → kept c → (word : ℕ) → IsIn c word → image word ≡ before image word
+  same_inside : (image : Image) → MixesOwn w image → (c : Block) → kept c → (word : ℕ) → IsIn c word → image word ≡ readable v image word
   same_inside image mixes c h word inside =
       let there = keeps.blocks c h.0 (unreached c h) in
-      before_same image word (read_before v w word (image word) (there.1 word inside) (mixes.each word (in_block c word there.0 inside)))
+      readable_same v image word (read_before v w word (image word) (there.1 word inside) (mixes.each word (in_block c word there.0 inside)))
 
-  same_root : (image : Image) → MixesOwn w image → image (root_word other) ≡ before image (root_word other)
+  same_root : (image : Image) → MixesOwn w image → image (root_word other) ≡ readable v image (root_word other)
   same_root image mixes =
       let there = subst (λ (rs : List ℕ). Contains rs other) (sym keeps.roots) owned in
-      before_same image (root_word other) (read_before v w (root_word other) (image (root_word other)) (keeps.root_words other owned differs)
+      readable_same v image (root_word other) (read_before v w (root_word other) (image (root_word other)) (keeps.root_words other owned differs)
       (mixes.each (root_word other) (in_root other (root_word other) there refl)))
 
   pub gives_others : (map : Map) → GivesMap v other map → GivesMap w other map
   gives_others map gives = record { each = λ image mixes. by_image image mixes } where
     by_image : (image : Image) → MixesOwn w image → IsMapIn w image other map
     by_image image mixes =
-        let first : IsMap limit (before image) other map = map_wider (LeadsTo (Contains v.held)) limit (before image) other map
-        (λ word c used leads. (leads, used_reached v other root_is owned seat (before image) (before_mixes image) c used)) (gives.each (before image) (before_mixes image)) in
-        let second : IsMap limit image other map = map_stays kept kept_placed limit (λ word c leads. (leads.0.0, leads.1)) (before image) image other
+        let first : IsMap limit (readable v image) other map = map_wider (LeadsTo (Contains v.held)) limit (readable v image) other map
+        (λ word c used leads. (leads, used_reached v other root_is owned seat (readable v image) (readable_mixes v image) c used)) (gives.each (readable v image) (readable_mixes v image)) in
+        let second : IsMap limit image other map = map_stays kept kept_placed limit (λ word c leads. (leads.0.0, leads.1)) (readable v image) image other
         (same_root image mixes) (same_inside image mixes) map first in
         map_wider limit (LeadsTo (Contains w.held)) image other map (λ word c used leads. (stays c (leads.0.0, leads.1), leads.0.1)) second
 

@@ -19,7 +19,7 @@ use Rattle.dict_seat.specs.Trails.{IsDurableAt, IsSettling}
 use Rattle.dict_seat.specs.Quiet.{GoesPending, FollowsLink}
 use Rattle.dict_seat.specs.Walks.{IsFoundPlace}
 use Rattle.dict_seat.specs.Changes.{MayChange, Changes, IsReadPlace}
-use Rattle.dict_seat.specs.Removal.{IsLoose, IsShard, Takes}
+use Rattle.dict_seat.specs.Removal.{IsLoose, IsShard, ReadsPlace}
 use Rattle.dict_seat.proofs.GrownLemmas.{Grown, stays_held, kind_kept, grown_keeps, shard_grown}
 use Rattle.dict_seat.proofs.TrailLemmas.{come_stays, settles}
 use Rattle.dict_seat.proofs.MapPublishLemmas.{trail_held}
@@ -38,7 +38,7 @@ still_own v w (Root i) keeps h = subst (λ (rs : List ℕ). Contains rs i) (sym 
 
 -- its link and its key were followed
 pub takes : (v u w : View) (key next : ℕ) (place : Place) → IsSeat v → IsFoundPlace v key place → KeepsOwn v u → FollowsLink (place.node.first_word + 0) next v u
-    → KeepsOwn u w → WritesBack (InBlock place.node 1) u w → Takes key place next v w
+    → KeepsOwn u w → WritesBack (InBlock place.node 1) u w → ReadsPlace key place next v w
 takes v u w key next place seat found keeps follows keeps' writes =
     let node = place.node in
     let held = found_held v key place found in

@@ -8,7 +8,7 @@ use Rattle.heap_model.specs.Image.{Image}
 use Rattle.heap_model.specs.Geometry.{root_word}
 use Rattle.heap_model.proofs.ReachLemmas.{not_null}
 use Rattle.heap_seat.specs.View.{View}
-use Rattle.heap_seat.specs.Words.{IsOwn, in_block, in_root, MayBe, MixesOwn, KeepsWord, IsDurable}
+use Rattle.heap_seat.specs.Words.{IsOwn, in_block, in_root, MayBe, MayRead, MixesOwn, KeepsWord, IsDurable}
 use Rattle.heap_seat.specs.Rows.{Settles}
 use Rattle.heap_seat.specs.Sound.{IsSeat}
 use Rattle.heap_seat.proofs.CallerLemmas.{durable_in, stays_durable}
@@ -44,6 +44,10 @@ now_completes v = record {
   mixes = record { each = λ word own. inl (or_null_may (v.volatile word)) };
   seen = λ word value own e. or_null_is (v.volatile word) value e;
 }
+
+pub now_may : (v : View) (word : ℕ) → MayRead v word (now_image v word)
+unfolding now_image
+now_may v word = inl (or_null_may (v.volatile word))
 
 -- an image that has what is seen later has what was seen before
 pub completes_before : (v w : View) (image : Image) → Grown v w → Completes w image → Completes v image

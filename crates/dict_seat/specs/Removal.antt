@@ -20,7 +20,7 @@ pub record IsShard (v : View) (shard : ℕ) : Type 0 where
   pub gives : GivesMap v shard map
 
 -- the links round a key's node and its key were followed
-pub record Takes (key : ℕ) (place : Place) (next : ℕ) (v w : View) : Type 0 where
+pub record ReadsPlace (key : ℕ) (place : Place) (next : ℕ) (v w : View) : Type 0 where
   pub goes : GoesPending v w
   pub taken : IsReadPlace IsSettling w key place next
 

@@ -1,24 +1,28 @@
 //! The calls of a shard by which a block goes from shard to shard, and its value is not copied.
-ghost use Rattle.std.specs.Prelude.{◌≡◌, ℕ, ◌<◌, OnOk, IfErr};
+ghost use Rattle.std.specs.Prelude.{◌≡◌, ℕ, ◌<◌, OnOk, IfOk, IfErr};
 ghost use Rattle.heap_model.specs.Sizes.{span_of};
 ghost use Rattle.heap_seat.specs.declared.fault.AllocFault.TheVariants.{Full};
 ghost use Rattle.heap_seat.specs.declared.fault.Looks.{Looks};
 ghost use Rattle.heap_seat.specs.View.{View};
-ghost use Rattle.heap_seat.specs.Tickets.{Runs};
+ghost use Rattle.heap_seat.specs.Tickets.{Runs, Stops};
 ghost use Rattle.heap_seat.specs.Calls.{SameRefusals};
 ghost use Rattle.heap_seat.specs.Rows.{IsRow};
 ghost use Rattle.dict_model.specs.Nodes.{shard_of, table_bytes};
+ghost use Rattle.dict_model.specs.Requests.{without_key};
 ghost use Rattle.dict_model.specs.Shards.{Map};
 ghost use Rattle.dict_seat.specs.Changes.{MayChange, Changes};
-ghost use Rattle.dict_seat.specs.Moving.{TableFails, TableTakes};
+ghost use Rattle.dict_seat.specs.Moving.{TableFails, TableTakes, TakesOut, ReachesAllLeft, MovesFew};
 ghost use Rattle.dict_seat.specs.Reached.{ReachesAllHeld};
 ghost use Rattle.dict_seat.specs.Removal.{IsShard};
 ghost use Rattle.dict_seat.specs.Puts.{RootIsSet, WasTurnedDown};
 
-use crate::search::table_of;
+use crate::removal::unlink;
+use crate::search::{SearchEnd, search, table_of};
 use crate::shard::Shard;
 use crate::table::make_table;
+use heap_model::Block;
 use heap_seat::{AllocFault, HeapSeat};
+use line_memory::Stopped;
 
 /// Sees to it that the key's shard has a table.
 fn have_table<H: HeapSeat>(seat: &mut H, key: u64) -> Result<(), AllocFault>
@@ -81,5 +85,36 @@ impl Shard {
         ensures same { self.new ≡ self.old }
     {
         have_table(seat, self.number)
+    }
+    /// Takes a key's node out of the shard. The answer is the block, which is held still and to
+    /// which no root leads any more, or `None` where the key is missing.
+    ///
+    /// After `Stopped` a crash leaves the map with the key or without it.
+    pub fn take<H: HeapSeat>(&mut self, seat: &mut H, key: u64) -> Result<Option<Block>, Stopped>
+        requires key { shard_of key ≡ self.old.number }
+        requires shard { IsShard (H.view seat.old) (shard_of key) }
+        ensures ok { IfOk result (λ node. TakesOut key node (H.view seat.old) (H.view seat.new)) }
+        ensures runs { OnOk result (Runs (H.view seat.old) (H.view seat.new)) }
+        ensures exact { IfOk result (λ node. ReachesAllLeft node
+            (H.view seat.old) (H.view seat.new)) }
+        ensures cause { IfErr result (λ e. Stops e.step (H.view seat.old) (H.view seat.new)) }
+
+        // At every exit.
+        ensures crash { MayChange (shard_of key) (λ map. without_key map key)
+            (H.view seat.old) (H.view seat.new) }
+        ensures taken { (H.view seat.new).taken ≡ (H.view seat.old).taken }
+        ensures calls { MovesFew 0 (shard_of key) (H.view seat.old) (H.view seat.new) }
+        ensures refusals { SameRefusals (H.view seat.old) (H.view seat.new) }
+        ensures kept { H.keeps seat.old seat.new }
+        ensures same { self.new ≡ self.old }
+    {
+        match search(seat, key)? {
+            SearchEnd::Found(place) => {
+                unlink(seat, key, place)?;
+                Ok(Some(place.node))
+            }
+            SearchEnd::Missing(_) => Ok(None),
+            SearchEnd::NoTable => Ok(None),
+        }
     }
 }

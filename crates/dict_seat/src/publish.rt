@@ -18,7 +18,7 @@ ghost use Rattle.dict_seat.specs.Walks.{IsFoundPlace};
 ghost use Rattle.dict_seat.specs.Puts.{IsMissing, PutFails, WasTurnedDown};
 
 use crate::node::make_node;
-use crate::removal::take;
+use crate::removal::read_place;
 use crate::walk::{Place, bucket_of, follow};
 use heap_model::Block;
 use heap_seat::{AllocFault, HeapSeat, Spot, persist};
@@ -86,7 +86,7 @@ pub(crate) fn put_over<H: HeapSeat>(
         (span_of (node_bytes (length value.now))) (H.view seat.old) (H.view seat.new) }
     ensures kept { H.keeps seat.old seat.new }
 {
-    let next = take(seat, key, place)?;
+    let next = read_place(seat, key, place)?;
     let node = make_node(seat, key, next, value)?;
     persist(seat, place.link, encode(WORD_BYTES * node.first_word))?;
     // Now no crash leaves a link to the old one.

@@ -10,8 +10,9 @@ ghost use Rattle.dict_model.specs.Shards.{Map};
 ghost use Rattle.dict_seat.specs.Quiet.{IsQuiet};
 ghost use Rattle.dict_seat.specs.Walks.{IsFoundPlace};
 ghost use Rattle.dict_seat.specs.Changes.{MayChange, Changes};
+ghost use Rattle.dict_seat.specs.Moving.{IsTakenOut};
 ghost use Rattle.dict_seat.specs.Reached.{ReachesAllHeld, ReachesAllHeldBut};
-ghost use Rattle.dict_seat.specs.Removal.{IsLoose, IsShard, Takes};
+ghost use Rattle.dict_seat.specs.Removal.{IsShard, ReadsPlace};
 
 use crate::walk::{Place, follow};
 use dict_model::{KEY_INDEX, NEXT_INDEX};
@@ -20,9 +21,9 @@ use line_memory::Stopped;
 
 /// Follows the link of a key's node, and asks for its key to be durable with the next fence. So
 /// that fence settles all that the node's place depends on.
-pub(crate) fn take<H: HeapSeat>(seat: &mut H, key: u64, place: Place) -> Result<u64, Stopped>
+pub(crate) fn read_place<H: HeapSeat>(seat: &mut H, key: u64, place: Place) -> Result<u64, Stopped>
     requires { IsFoundPlace (H.view seat.old) key place }
-    ensures ok { IfOk result (λ next. Takes key place next (H.view seat.old) (H.view seat.new)) }
+    ensures ok { IfOk result (λ next. ReadsPlace key place next (H.view seat.old) (H.view seat.new)) }
     ensures cause { IfErr result (λ e. Stops e.step (H.view seat.old) (H.view seat.new)) }
     ensures quiet { IsQuiet 3 (H.view seat.old) (H.view seat.new) }
     ensures kept { H.keeps seat.old seat.new }
@@ -48,7 +49,7 @@ pub(crate) fn remove<H: HeapSeat>(seat: &mut H, key: u64, place: Place) -> Resul
     ensures refusals { SameRefusals (H.view seat.old) (H.view seat.new) }
     ensures kept { H.keeps seat.old seat.new }
 {
-    let next = take(seat, key, place)?;
+    let next = read_place(seat, key, place)?;
     // The links on the way are durable before one of them changes.
     seat.fence()?;
     persist(seat, place.link, next)?;
@@ -60,9 +61,7 @@ pub(crate) fn remove<H: HeapSeat>(seat: &mut H, key: u64, place: Place) -> Resul
 pub(crate) fn unlink<H: HeapSeat>(seat: &mut H, key: u64, place: Place) -> Result<(), Stopped>
     requires shard { IsShard (H.view seat.old) (shard_of key) }
     requires found { IsFoundPlace (H.view seat.old) key place }
-    ensures ok { OnOk result (Changes (shard_of key) (λ map. without_key map key)
-        (H.view seat.old) (H.view seat.new)) }
-    ensures loose { OnOk result (IsLoose place.node (H.view seat.new)) }
+    ensures ok { OnOk result (IsTakenOut key place.node (H.view seat.old) (H.view seat.new)) }
     ensures exact { OnOk result (ReachesAllHeld (H.view seat.old)
         → ReachesAllHeldBut place.node (H.view seat.new)) }
     ensures runs { OnOk result (Runs (H.view seat.old) (H.view seat.new)) }
@@ -74,7 +73,7 @@ pub(crate) fn unlink<H: HeapSeat>(seat: &mut H, key: u64, place: Place) -> Resul
     ensures kept { H.keeps seat.old seat.new }
 {
     let link = place.link;
-    let next = take(seat, key, place)?;
+    let next = read_place(seat, key, place)?;
     // The links on the way are durable before one of them changes.
     seat.fence()?;
     persist(seat, link, next)?;

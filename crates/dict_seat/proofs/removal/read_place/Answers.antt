@@ -1,7 +1,7 @@
 use Rattle.std.proofs.Common.{arith}
 use Rattle.dict_seat.proofs.GrownLemmas.{stays_held}
 use Rattle.dict_seat.proofs.RemovalLemmas.{found_held, takes}
-use Rattle.dict_seat.proofs.removal.take.Goals as goal
+use Rattle.dict_seat.proofs.removal.read_place.Goals as goal
 
 pub follow-requires : goal.follow-requires
 follow-requires g c =
