@@ -1,12 +1,14 @@
 -- A node on its way: what value it has, and that it has it still where its words are not stored to.
-use Rattle.std.proofs.Common.{◌≡◌, ℕ, ◌+◌, ◌<◌, ◌≤◌, List, length, take, None, Some, Contains, ap, subst, sym, ◌∙◌, arith}
+use Rattle.std.proofs.Common.{◌≡◌, true, false, rules, ℕ, ◌+◌, ◌<◌, ◌≤◌, List, length, take, None, Some, Contains, ap, subst, sym, ◌∙◌, arith}
 use Rattle.heap_model.specs.declared.block.Block.{Block}
 use Rattle.heap_model.specs.Image.{Image, words_from, bytes_of_words}
 use Rattle.heap_model.specs.Blocks.{IsIn}
 use Rattle.heap_seat.specs.View.{View, word_of}
 use Rattle.heap_seat.specs.Words.{in_block, MayRead, MixesOwn, KeepsWord, KeepsOwn, MayHaveStored}
+use Rattle.heap_seat.specs.Tickets.{Runs}
 use Rattle.heap_seat.specs.Sound.{IsSeat}
 use Rattle.heap_seat.proofs.CallerLemmas.{read_before}
+use Rattle.dict_model.specs.Links.{node_kind}
 use Rattle.dict_model.specs.Nodes.{largest_value, shard_of, bucket_of, value_words, key_in, length_in, value_in, IsNode}
 use Rattle.dict_model.specs.Shards.{Map}
 use Rattle.dict_model.proofs.ChainLemmas.{words_same}
@@ -15,13 +17,15 @@ use Rattle.dict_seat.specs.Maps.{GivesMap}
 use Rattle.dict_seat.specs.Trails.{IsDurableAt}
 use Rattle.dict_seat.specs.Changes.{IsReadPlace}
 use Rattle.dict_seat.specs.Removal.{IsShard}
-use Rattle.dict_seat.specs.Moving.{MixesBlock, IsNodeOf, IsTakenOut, TakesOut}
-use Rattle.dict_seat.proofs.GrownLemmas.{Grown, grown_keeps, gives_grown, shard_grown}
+use Rattle.dict_seat.specs.Moving.{MixesBlock, IsNodeOf, IsTakenOut, TellsKey, TakesOut}
+use Rattle.dict_seat.specs.Reached.{ReachesOnlyHeld}
+use Rattle.dict_seat.specs.Walks.{IsFoundPlace}
+use Rattle.dict_seat.proofs.GrownLemmas.{Grown, grown_keeps, gives_grown, shard_grown, reached_before}
 use Rattle.dict_seat.proofs.TrailLemmas.{now_image, now_completes, settled_in}
 use Rattle.dict_seat.proofs.ReadableLemmas.{readable, readable_may, readable_mixes, readable_same}
 use Rattle.dict_seat.proofs.ReadLemmas.{value_length}
-use Rattle.dict_seat.proofs.DeleteLemmas.{outside}
-use Rattle.dict_seat.proofs.DelLemmas.{come_is}
+use Rattle.dict_seat.proofs.DeleteLemmas.{outside, node_reached}
+use Rattle.dict_seat.proofs.DelLemmas.{come_is, found_has}
 use Rattle.dict_seat.proofs.RemovalLemmas.{left_unlinked, left_loose}
 
 -- a value stands behind the link and the key
@@ -93,6 +97,11 @@ module _ (v u w : View) (key : ℕ) (place : Place) (next : ℕ) (seat : IsSeat 
         had = λ map gives. (has_value u seat key place next taken held map (gives_grown v u grown (shard_of key) map gives) (now_image u) (now_completes u).mixes).0;
         gives = (left_unlinked v u key place next seat shard grown kinds taken w may kinds_w settled).gives;
         was = was;
+        reached = (
+          node_kind,
+          reached_before v u grown kinds seat shard.only (shard_of key) place.node node_kind
+              (node_reached u seat key place next taken still.map still.gives still.kind_is),
+        );
         loose = left_loose v u key place next seat shard grown kinds taken w may kinds_w seat_w settled;
         node = node_kept u w place.node (value_in (now_image u) place.node)
             (λ word inside behind. may.others word (in_block place.node word held inside) (outside u seat key place next taken still.map still.gives still.kind_is word inside))
@@ -100,12 +109,13 @@ module _ (v u w : View) (key : ℕ) (place : Place) (next : ℕ) (seat : IsSeat 
       }
 
 -- over quiet calls before
-pub taken_behind : (v u w : View) (key : ℕ) (b : Block) → KeepsOwn v u → IsTakenOut key b u w → IsTakenOut key b v w
-taken_behind v u w key b keeps out = record {
+pub taken_behind : (v u w : View) (key : ℕ) (b : Block) → KeepsOwn v u → u.kinds ≡ v.kinds → IsSeat u → ReachesOnlyHeld v → IsTakenOut key b u w → IsTakenOut key b v w
+taken_behind v u w key b keeps kinds seat only out = record {
   value = out.value;
   had = λ map gives. out.had map (gives_grown v u (grown_keeps v u keeps) (shard_of key) map gives);
   gives = λ map gives. out.gives map (gives_grown v u (grown_keeps v u keeps) (shard_of key) map gives);
   was = subst (λ (bs : List Block). Contains bs b) keeps.held out.was;
+  reached = (out.reached.0, reached_before v u (grown_keeps v u keeps) kinds seat only (shard_of key) b out.reached.0 out.reached.1);
   loose = out.loose;
   node = out.node;
 }
@@ -113,3 +123,17 @@ taken_behind v u w key b keeps out = record {
 -- nothing was there to be taken out
 pub takes_nothing : (v w : View) (key : ℕ) → KeepsOwn v w → ((map : Map) → GivesMap v (shard_of key) map → map key ≡ None) → TakesOut key None v w
 takes_nothing v w key keeps none map gives = (none map gives, gives_grown v w (grown_keeps v w keeps) (shard_of key) map gives)
+
+-- a search that found the key, and one that didn't
+pub tells_found : (v u : View) (key : ℕ) (place : Place) → IsSeat u → KeepsOwn v u → Runs v u → IsFoundPlace u key place → TellsKey key true v u
+tells_found v u key place seat keeps runs found = record {
+  runs = runs;
+  tells = λ map gives.
+      ((λ yes. found_has u key place seat found map (gives_grown v u (grown_keeps v u keeps) (shard_of key) map gives)), λ has. search rules);
+}
+
+pub tells_missing : (v u : View) (key : ℕ) → Runs v u → ((map : Map) → GivesMap v (shard_of key) map → map key ≡ None) → TellsKey key false v u
+tells_missing v u key runs none = record {
+  runs = runs;
+  tells = λ map gives. ((λ yes. absurd (search rules)), λ has. absurd (has (none map gives)));
+}

@@ -1,5 +1,5 @@
 -- A node on its way from shard to shard: what it has, and what the calls of a shard leave that make a table, take a node out and bring one.
-use Rattle.std.specs.Prelude.{◌≡◌, ◌≢◌, ℕ, ◌+◌, ◌*◌, ◌≤◌, List, length, Option, None, Some, Contains}
+use Rattle.std.specs.Prelude.{◌≡◌, ◌≢◌, ℕ, ◌+◌, ◌*◌, ◌≤◌, ◌↔◌, Bool, IsTrue, List, length, Option, None, Some, Contains}
 use Rattle.heap_model.specs.declared.block.Block.{Block}
 use Rattle.heap_model.specs.Geometry.{root_word}
 use Rattle.heap_model.specs.Image.{Image}
@@ -9,7 +9,7 @@ use Rattle.heap_seat.specs.declared.fault.AllocFault.{AllocFault}
 use Rattle.heap_seat.specs.declared.fault.AllocFault.TheVariants.{Full, Stopped}
 use Rattle.heap_seat.specs.View.{View}
 use Rattle.heap_seat.specs.Words.{MayRead, KeepsWord}
-use Rattle.heap_seat.specs.Tickets.{Stops}
+use Rattle.heap_seat.specs.Tickets.{Runs, Stops}
 use Rattle.heap_seat.specs.Calls.{SameRefusals}
 use Rattle.heap_seat.specs.Rows.{IsRow}
 use Rattle.dict_model.specs.Layout.{value_index}
@@ -32,14 +32,20 @@ pub record IsNodeOf (v : View) (b : Block) (value : List ℕ) : Type 0 where
   pub fits : value_index + value_words (length value) ≤ b.words
   pub each : (image : Image) → MixesBlock v b image → value_in image b ≡ value
 
--- a key's node was taken out: the map had this value of the key, and the block that has it is held still, where no root reaches it
+-- a key's node was taken out: the map had this value of the key, and the block that has it, which the shard reached, is held still, where no root reaches it
 pub record IsTakenOut (key : ℕ) (b : Block) (v w : View) : Type 0 where
   pub value : List ℕ
   pub had : (map : Map) → GivesMap v (shard_of key) map → map key ≡ Some value
   pub gives : (map : Map) → GivesMap v (shard_of key) map → GivesMap w (shard_of key) (without_key map key)
   pub was : Contains v.held b
+  pub reached : (kind : ℕ) × MayReach v (shard_of key) b kind
   pub loose : IsLoose b w
   pub node : IsNodeOf w b value
+
+-- a search was done, and told whether the map has the key
+pub record TellsKey (key : ℕ) (found : Bool) (v w : View) : Type 0 where
+  pub runs : Runs v w
+  pub tells : (map : Map) → GivesMap v (shard_of key) map → IsTrue found ↔ (map key ≢ None)
 
 -- what a take answers: the key's node, which is out, or nothing where the map hasn't the key, and the map stays
 abbrev pub TakesOut : ℕ → Option Block → View → View → Type 0

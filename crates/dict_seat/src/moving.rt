@@ -4,6 +4,7 @@ ghost use Rattle.heap_model.specs.Sizes.{span_of};
 ghost use Rattle.heap_seat.specs.declared.fault.AllocFault.TheVariants.{Full};
 ghost use Rattle.heap_seat.specs.declared.fault.Looks.{Looks};
 ghost use Rattle.heap_seat.specs.View.{View};
+ghost use Rattle.heap_seat.specs.Words.{KeepsOwn};
 ghost use Rattle.heap_seat.specs.Tickets.{Runs, Stops};
 ghost use Rattle.heap_seat.specs.Calls.{SameRefusals};
 ghost use Rattle.heap_seat.specs.Rows.{IsRow};
@@ -11,7 +12,7 @@ ghost use Rattle.dict_model.specs.Nodes.{shard_of, table_bytes};
 ghost use Rattle.dict_model.specs.Requests.{without_key};
 ghost use Rattle.dict_model.specs.Shards.{Map};
 ghost use Rattle.dict_seat.specs.Changes.{MayChange, Changes};
-ghost use Rattle.dict_seat.specs.Moving.{TableFails, TableTakes, TakesOut, ReachesAllLeft, MovesFew};
+ghost use Rattle.dict_seat.specs.Moving.{TableFails, TableTakes, TellsKey, TakesOut, ReachesAllLeft, MovesFew};
 ghost use Rattle.dict_seat.specs.Reached.{ReachesAllHeld};
 ghost use Rattle.dict_seat.specs.Removal.{IsShard};
 ghost use Rattle.dict_seat.specs.Puts.{RootIsSet, WasTurnedDown};
@@ -86,6 +87,33 @@ impl Shard {
     {
         have_table(seat, self.number)
     }
+
+    /// Whether the key is there. Nothing is read of its value.
+    pub fn has<H: HeapSeat>(&self, seat: &mut H, key: u64) -> Result<bool, Stopped>
+        requires key { shard_of key ≡ self.now.number }
+        requires shard { IsShard (H.view seat.old) (shard_of key) }
+        ensures ok { IfOk result (λ found. TellsKey key found
+            (H.view seat.old) (H.view seat.new)) }
+        ensures cause { IfErr result (λ e. Stops e.step (H.view seat.old) (H.view seat.new)) }
+
+        // At every exit.
+        ensures unchanged { KeepsOwn (H.view seat.old) (H.view seat.new) }
+        ensures maps { Changes (shard_of key) (λ map. map) (H.view seat.old) (H.view seat.new) }
+        ensures crash { (after : Map → Map) → MayChange (shard_of key) after
+            (H.view seat.old) (H.view seat.new) }
+        ensures exact { ReachesAllHeld (H.view seat.old) → ReachesAllHeld (H.view seat.new) }
+        ensures taken { (H.view seat.new).taken ≡ (H.view seat.old).taken }
+        ensures calls { MovesFew 0 (shard_of key) (H.view seat.old) (H.view seat.new) }
+        ensures refusals { SameRefusals (H.view seat.old) (H.view seat.new) }
+        ensures kept { H.keeps seat.old seat.new }
+    {
+        match search(seat, key)? {
+            SearchEnd::Found(_) => Ok(true),
+            SearchEnd::Missing(_) => Ok(false),
+            SearchEnd::NoTable => Ok(false),
+        }
+    }
+
     /// Takes a key's node out of the shard. The answer is the block, which is held still and to
     /// which no root leads any more, or `None` where the key is missing.
     ///

@@ -60,7 +60,8 @@ returns-in_ok-unlink-in-Found-clause-crash g c =
 pub returns-in_ok-unlink-in-Found-clause-ok : goal.returns-in_ok-unlink-in-Found-clause-ok
 returns-in_ok-unlink-in-Found-clause-ok g c =
     let view = g.H.HeapSeat.view in
-    taken_behind (view c.args.seat.now) (view c.search.new.seat) (view c.unlink.new.seat) c.args.key c.in-Found.place.node c.search.ensures.quiet.quiet.unchanged c.in_ok-unlink-in-Found.ensures.ok
+    taken_behind (view c.args.seat.now) (view c.search.new.seat) (view c.unlink.new.seat) c.args.key c.in-Found.place.node c.search.ensures.quiet.quiet.unchanged
+    c.search.ensures.quiet.quiet.calls.goes_on.kinds (g.met.H.HeapSeat.seat c.search.new.seat) c.requires.shard.only c.in_ok-unlink-in-Found.ensures.ok
 
 pub returns-in-Missing-clause-ok : goal.returns-in-Missing-clause-ok
 returns-in-Missing-clause-ok g c =
