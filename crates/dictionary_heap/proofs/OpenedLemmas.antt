@@ -21,7 +21,7 @@ use Rattle.run_model.specs.Opened.{IsDictionary, IsReachedFrom, IsOpenedOver, Ha
 use Rattle.run_model.specs.Progress.{HasAnswered}
 use Rattle.worker_run.proofs.OpenLemmas.{all_opened}
 use Rattle.worker_run.proofs.ProgressLemmas.{begins}
-use Rattle.worker_run.proofs.WorkLemmas.{asked_shard}
+use Rattle.run_model.proofs.GoesOnLemmas.{asked_shard}
 use Rattle.dictionary_heap.specs.Opened.{GivesMapsOf, HasDoneNothing}
 
 -- one thread has every root

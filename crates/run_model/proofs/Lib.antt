@@ -1,7 +1,9 @@
 pub mod AlikeLemmas
 pub mod ExampleLemmas
 pub mod FullLemmas
+pub mod GoesOnLemmas
 pub mod LeavingExamples
 pub mod OneMapLemmas
+pub mod StandsLemmas
 pub mod SumLemmas
 pub mod UnmovedLemmas

@@ -1,8 +1,8 @@
 -- Values that go from key to key: what arrives of the moves that are done, once all requests of a trace are answered.
-use Rattle.std.specs.Prelude.{◌≡◌, ℕ, List, [], ◌∷◌, ◌++◌, filter, length, take, Option, None, Some}
+use Rattle.std.specs.Prelude.{◌≡◌, ℕ, List, [], ◌∷◌, ◌++◌, filter, take, Option, None, Some}
 use Rattle.heap_model.specs.Image.{Image}
 use Rattle.dict_model.specs.Nodes.{shard_of}
-use Rattle.dict_model.specs.Requests.{Request, put, get, del, move, Reply, done, full, none, found, after_one}
+use Rattle.dict_model.specs.Requests.{Request, put, move, Reply, done, after_one}
 use Rattle.dict_model.specs.Shards.{Map, MapOf}
 use Rattle.run_model.specs.Workers.{worker_of, is_of_worker}
 

@@ -19,7 +19,7 @@ use Rattle.run_model.specs.Workers.{Replies}
 use Rattle.run_model.specs.Runs.{IsOtherRoot, LeavesOthers}
 use Rattle.run_model.specs.Stands.{IsOwnOther, HasOthers}
 use Rattle.shared_run.specs.Together.{HaveWorked}
-use Rattle.worker_run.proofs.StandsLemmas.{reached_left}
+use Rattle.run_model.proofs.StandsLemmas.{reached_left}
 use Rattle.shared_run.proofs.ShareLemmas.{share, mixes, stands_last, owns_other}
 
 -- each image that may be left has the seat's other roots, and what the image that was opened reaches from them

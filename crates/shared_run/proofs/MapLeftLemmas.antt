@@ -22,7 +22,7 @@ use Rattle.shared_run.specs.Together.{HaveWorked}
 use Rattle.shared_run.proofs.ReplyLemmas.{worked_answered, worked_left}
 use Rattle.shared_run.proofs.ShardLemmas.{of_its_worker}
 use Rattle.shared_run.proofs.ShareLemmas.{share, mixes, stands_last, worker_below, owns_shard}
-use Rattle.worker_run.proofs.ProgressLemmas.{other_gives}
+use Rattle.run_model.proofs.GoesOnLemmas.{other_gives}
 
 -- one worker's part: a shard of its seat, whose map in the seat's words is the shard's map in the image that is left
 module _ (image : Image) (requests : List Request) (told final : Replies) (final_is : final ≡ told ++ replicate (length requests - length told) None)

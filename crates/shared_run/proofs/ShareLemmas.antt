@@ -24,7 +24,7 @@ use Rattle.run_model.specs.Stands.{StandsOver}
 use Rattle.run_model.specs.Working.{HasEnded, at_end, in_one}
 use Rattle.shared_run.specs.Together.{HaveWorked, IsLeftOf}
 use Rattle.shared_run.proofs.WorkerLemmas.{is_seat}
-use Rattle.worker_run.proofs.ProgressLemmas.{stands_on}
+use Rattle.run_model.proofs.GoesOnLemmas.{stands_on}
 
 -- however a worker's part has ended, what belongs to no shard stands in its seat
 ended_stands : (image : Image) (requests : List Request) (replies : Replies) (stopped : Bool) (v : HeapView) → HasEnded image requests replies stopped v → StandsOver image v

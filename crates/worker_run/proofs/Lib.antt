@@ -10,6 +10,5 @@ pub mod RecoveredLemmas
 pub mod RoomLemmas
 pub mod SaidLemmas
 pub mod SpendLemmas
-pub mod StandsLemmas
 pub mod TakenLemmas
 pub mod WorkLemmas

@@ -1,5 +1,5 @@
 -- A run goes on along its requests: those that are left, the room for values, and the replies.
-use Rattle.std.proofs.Common.{◌≡◌, ℕ, ◌<◌, ◌≤◌, ◌⊎◌, inl, inr, List, [], ◌∷◌, ◌++◌, length, map, None, Some, Contains, cond, refl, subst, sym, ap, ◌∙◌, arith}
+use Rattle.std.proofs.Common.{◌≡◌, ℕ, ◌≤◌, ◌⊎◌, inl, inr, List, [], ◌∷◌, ◌++◌, length, map, None, Some, Contains, cond, refl, subst, sym, ap, ◌∙◌}
 use Rattle.std.specs.Prelude.{nat_eq, Bool, true, false}
 use Rattle.std.proofs.lemmas.Bool.{cases_eq, cond-true, cond-false, ne_eqb, eq-eqb}
 use Rattle.std.proofs.lemmas.List.Elements.{Contains-append_left, Contains-append_right}
@@ -7,7 +7,6 @@ use Rattle.heap_model.specs.Image.{Image}
 use Rattle.heap_model.proofs.MemberLemmas.{in_head, in_rest}
 use Rattle.heap_seat.specs.View.{View}
 use Rattle.heap_seat.specs.Sound.{IsSeat}
-use Rattle.dict_model.specs.Links.{shards}
 use Rattle.dict_model.specs.Nodes.{shard_of}
 use Rattle.dict_model.specs.Requests.{Request, put, get, del, move, Reply, done, full, none, found, after, after_one}
 use Rattle.dict_model.specs.Shards.{Map}
@@ -21,7 +20,7 @@ use Rattle.run_model.specs.Working.{HasWorked, of_image, of_trace, HasRoom, Fits
 use Rattle.worker_run.specs.Said.{Told, reply_of, replies_of}
 use Rattle.dict_seat.specs.Removal.{IsShard}
 use Rattle.run_model.proofs.OneMapLemmas.{small_shard}
-use Rattle.worker_run.proofs.ProgressLemmas.{goes_on}
+use Rattle.run_model.proofs.GoesOnLemmas.{goes_on, asked_shard}
 
 -- a key has its value from before, or the request put it
 one_where : (m : Map) (q : Request) (r : Reply) (key : ℕ) (value : List ℕ) → after_one m q r key ≡ Some value → (m key ≡ Some value) ⊎ (q ≡ put key value)
@@ -120,19 +119,7 @@ work_goes_on image requests left q replies r v w seat worked may answers = recor
 pub work_begins : (image : Image) (requests : List Request) (v : View) → HasAnswered image [] v → HasWorked image requests requests [] v
 work_begins image requests v has = record { rs = []; requests_are = refl; replies_are = refl; answered = has }
 
--- a request to a shard of the seat may be made
-pub asked_shard : (image : Image) (rs : List (Request × Reply)) (v : View) (shard : ℕ) → HasMaps image → shard < shards → Contains v.roots shard → HasAnswered image rs v → IsShard v shard
-asked_shard image rs v shard maps small owned has =
-    let first = maps.each shard small in
-    record {
-      owned = owned;
-      kind_is = sym (has.stands.kinds.each shard (omega arith)) ∙ first.1.kind_is;
-      only = has.stands.only;
-      map = after first.0 (of_shard shard rs);
-      gives = has.gives shard first.0 small owned first.1;
-    }
-
--- so may the next one
+-- the next request may be made
 pub next_shard : (image : Image) (qs left : List Request) (q : Request) (replies : Replies) (v : View) → HasMaps image → Contains v.roots (shard_asked q) → HasWorked image qs (q ∷ left) replies v
     → IsShard v (shard_asked q)
 next_shard image qs left q replies v maps owned worked = asked_shard image worked.rs v (shard_asked q) maps (small_shard q) owned worked.answered

@@ -1,4 +1,5 @@
-use Rattle.worker_run.proofs.ProgressLemmas.{begins, goes_on, stands_on}
+use Rattle.run_model.proofs.GoesOnLemmas.{goes_on, stands_on}
+use Rattle.worker_run.proofs.ProgressLemmas.{begins}
 use Rattle.worker_run.proofs.laws.a_run_goes_on_request_by_request.Goals as goal
 
 pub returns-clause-begins : goal.returns-clause-begins
