@@ -81,12 +81,12 @@ quiet_walk key more table link v u w seat walking quiet = record {
 }
 
 -- the calls of a search, and some more that take no superblock
-pub moves_few : (small large shard : ℕ) (v u w : View) → small ≤ 500 → IsQuietWalk 5 shard v u → IsRow small large 0 u w → MovesFew large shard v w
+pub moves_few : (small large shard : ℕ) (v u w : View) → small ≤ 488 → IsQuietWalk 5 shard v u → IsRow small large 0 u w → MovesFew large shard v w
 moves_few small large shard v u w s walk row keys lists =
     let few = walk.few keys lists in
-    row_more (walk.small + small) (0 + large) 0 (512 + 4 * length keys) large 0 v w (omega arith) (omega arith) (omega arith) (row_then walk.small 0 0 small large 0 v u w walk.quiet.calls row)
+    row_more (walk.small + small) (0 + large) 0 (500 + 4 * length keys) large 0 v w (omega arith) (omega arith) (omega arith) (row_then walk.small 0 0 small large 0 v u w walk.quiet.calls row)
 
 pub moves_quiet : (large shard : ℕ) (v u : View) → IsQuietWalk 5 shard v u → MovesFew large shard v u
 moves_quiet large shard v u walk keys lists =
     let few = walk.few keys lists in
-    row_more walk.small 0 0 (512 + 4 * length keys) large 0 v u (omega arith) (omega arith) (omega arith) walk.quiet.calls
+    row_more walk.small 0 0 (500 + 4 * length keys) large 0 v u (omega arith) (omega arith) (omega arith) walk.quiet.calls

@@ -74,7 +74,7 @@ pub record MayBring (b : Block) (shard : ℕ) (after : Map → Map) (v w : View)
 
 -- at most so many small calls, four for each key of the shard, and so many large ones, which take no superblock
 abbrev pub MovesFew : ℕ → ℕ → View → View → Type 0
-MovesFew large shard v w = (keys : List ℕ) → ListsKeys v shard keys → IsRow (512 + 4 * length keys) large 0 v w
+MovesFew large shard v w = (keys : List ℕ) → ListsKeys v shard keys → IsRow (500 + 4 * length keys) large 0 v w
 
 -- why no table was made: the request for it was refused, the root is null and every mixture gives the map as before; or the seat stopped
 abbrev pub TableFails : ℕ → AllocFault → View → View → Type 0
