@@ -1,0 +1,9 @@
+//! One worker's part of moves, over any open heap: a node goes out of its shard and is sent, tables
+//! are made for shards that values go to, and what has arrived is brought in.
+#![tactic(auto)]
+
+mod inbox;
+mod outbox;
+
+pub use inbox::Inbox;
+pub use outbox::Outbox;

@@ -1,0 +1,60 @@
+//! Where a node goes that was taken out of its shard.
+ghost use Rattle.std.specs.Prelude.{◌≡◌, ℕ, List, OnOk, OnErr, IfErr};
+ghost use Rattle.heap_seat.specs.Calls.{IsSmallCall};
+ghost use Rattle.heap_seat.specs.Handing.{Offers};
+ghost use Rattle.heap_seat.specs.Tickets.{Stops};
+ghost use Rattle.heap_seat.specs.View.{View};
+ghost use Rattle.heap_seat.specs.Words.{KeepsOwn};
+ghost use Rattle.dict_seat.specs.Moving.{IsNodeOf};
+ghost use Rattle.dict_seat.specs.Removal.{IsLoose};
+ghost use Rattle.shard_moves.specs.Outboxes.{Sent, AddsNode};
+
+use heap_model::Block;
+use heap_seat::HeapSeat;
+use line_memory::Stopped;
+
+/// Where a seat's nodes go: each with the number of its request and the key that is to have its
+/// value.
+pub trait Outbox<H: HeapSeat> {
+    // What was sent, in this order.
+    ghost sent: { Self → List Sent };
+
+    // What goes on of the seat, over its calls and over what it sends.
+    ghost row: { H → H → Type 0 };
+
+    // That the seat may send by it.
+    ghost ready: { Self → H → Type 0 };
+
+    /// Offers a node that no root meets any more: the seat holds it no longer.
+    ///
+    /// After `Stopped` it is held still, and nothing was sent.
+    fn send(
+        &mut self,
+        seat: &mut H,
+        number: usize,
+        key: u64,
+        node: Block,
+    ) -> Result<(), Stopped>
+        requires ready { ready self.old seat.old }
+        requires loose { IsLoose node (H.view seat.old) }
+        requires node { (value : List ℕ) × IsNodeOf (H.view seat.old) node value }
+        ensures ok { OnOk result (Offers node (H.view seat.old) (H.view seat.new)) }
+        ensures added { OnOk result (AddsNode number key node (H.view seat.old)
+            (sent self.old) (sent self.new)) }
+        ensures cause { IfErr result (λ e. Stops e.step (H.view seat.old) (H.view seat.new)) }
+        ensures unchanged { OnErr result (KeepsOwn (H.view seat.old) (H.view seat.new)) }
+        ensures unsent { OnErr result (sent self.new ≡ sent self.old) }
+
+        // At every exit.
+        ensures counted { IsSmallCall (H.view seat.old) (H.view seat.new) }
+        ensures row_on { row seat.old seat.new }
+        ensures ready_on { ready self.new seat.new };
+
+    ghost row_none: { (s : H) → row s s };
+
+    ghost row_then: { (s t u : H) → row s t → row t u → row s u };
+
+    ghost row_of_call: { (s t : H) → H.keeps s t → row s t };
+
+    ghost ready_kept: { (o : Self) (s t : H) → H.keeps s t → ready o s → ready o t };
+}
