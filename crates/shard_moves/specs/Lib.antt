@@ -1,2 +1,3 @@
-pub mod Outboxes
 pub mod Inboxes
+pub mod Moves
+pub mod Outboxes

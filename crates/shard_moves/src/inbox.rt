@@ -17,7 +17,7 @@ pub trait Inbox<H: HeapSeat> {
     ghost left: { Self → List Sent };
 
     // What goes on of the seat, over its calls and over what it accepts.
-    ghost row: { H → H → Type 0 };
+    ghost goes: { H → H → Type 0 };
 
     // That the seat may accept from it.
     ghost ready: { Self → H → Type 0 };
@@ -37,14 +37,14 @@ pub trait Inbox<H: HeapSeat> {
 
         // At every exit.
         ensures counted { IsSmallCall (H.view seat.old) (H.view seat.new) }
-        ensures row_on { row seat.old seat.new }
+        ensures goes_on { goes seat.old seat.new }
         ensures ready_on { ready self.new seat.new };
 
-    ghost row_none: { (s : H) → row s s };
+    ghost goes_none: { (s : H) → goes s s };
 
-    ghost row_then: { (s t u : H) → row s t → row t u → row s u };
+    ghost goes_then: { (s t u : H) → goes s t → goes t u → goes s u };
 
-    ghost row_of_call: { (s t : H) → H.keeps s t → row s t };
+    ghost goes_kept: { (s t : H) → H.keeps s t → goes s t };
 
     ghost ready_kept: { (o : Self) (s t : H) → H.keeps s t → ready o s → ready o t };
 }

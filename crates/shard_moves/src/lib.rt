@@ -2,8 +2,10 @@
 //! are made for shards that values go to, and what has arrived is brought in.
 #![tactic(auto)]
 
+mod away;
 mod inbox;
 mod outbox;
 
+pub use away::{MoveAnswer, move_away};
 pub use inbox::Inbox;
 pub use outbox::Outbox;
