@@ -1,4 +1,5 @@
 pub mod AlikeLemmas
+pub mod CountLemmas
 pub mod ExampleLemmas
 pub mod FullLemmas
 pub mod GoesOnLemmas

@@ -1,5 +1,6 @@
 -- What requests take of an open heap: superblocks for nodes and tables, and calls.
-use Rattle.std.specs.Prelude.{◌≡◌, ℕ, ◌+◌, ◌*◌, ◌<◌, ◌≤◌, List, ◌∷◌, ◌++◌, sum_by}
+use Rattle.std.specs.Prelude.{◌≡◌, ℕ, ◌+◌, ◌*◌, ◌<◌, ◌≤◌, List, ◌∷◌, ◌++◌, sum_by, Bool, false, not, nat_eq, Option, None, Some}
+use Rattle.heap_model.specs.Geometry.{root_word}
 use Rattle.heap_seat.specs.View.{View}
 use Rattle.heap_seat.specs.Looks.{KnowsNoLess}
 use Rattle.heap_seat.specs.Rows.{IsRow}
@@ -8,6 +9,15 @@ use Rattle.dict_seat.specs.Puts.{WasNull, RootIsSet}
 use Rattle.run_model.specs.Needs.{node_span, shards_put_into}
 use Rattle.run_model.specs.Workers.{shard_asked}
 use Rattle.run_model.specs.Runs.{span_taken, first_span}
+
+-- whether a word is known, and isn't null
+abbrev pub is_set : Option ℕ → Bool
+is_set None = false
+is_set (Some x) = not (nat_eq x 0)
+
+-- whether loads see that the shard's root isn't null
+abbrev pub sees_table : View → ℕ → Bool
+sees_table v shard = is_set (v.volatile (root_word shard))
 
 abbrev pub IsPut : Request → Type 0
 IsPut (put key value) = Unit {0}

@@ -1,11 +1,11 @@
 -- How many superblocks requests take, and how many tables they make: each shard that is put into gets one at most.
-use Rattle.std.proofs.Common.{◌≡◌, ◌≢◌, ℕ, ◌+◌, ◌*◌, ◌≤◌, inl, inr, List, [], ◌∷◌, ◌++◌, sum_by, Option, None, Some, Bool, true, false, not, nat_eq, cond, Contains, refl, subst, sym, ap, ◌∙◌, arith}
+use Rattle.std.proofs.Common.{◌≡◌, ◌≢◌, ℕ, ◌+◌, ◌*◌, ◌≤◌, inl, inr, List, [], ◌∷◌, ◌++◌, sum_by, Option, None, Some, Bool, true, Contains, refl, subst, sym, ap, ◌∙◌, arith}
 use Rattle.std.specs.Prelude.{count_by, ◌&&◌}
-use Rattle.std.proofs.lemmas.Bool.{cases_eq, and_parts, and_from, and_right, eq-eqb, ne_eqb, or_left, or_right}
+use Rattle.std.proofs.lemmas.Bool.{cases_eq, and_parts, and_from, and_right, eq-eqb, or_left, or_right}
 use Rattle.std.proofs.lemmas.List.Sums.{sum_by-cons, sum_by-append}
 use Rattle.heap_model.specs.Geometry.{root_word}
 use Rattle.heap_model.specs.Image.{words_from}
-use Rattle.heap_model.proofs.MemberLemmas.{in_none, in_head, in_rest, head_or_rest}
+use Rattle.heap_model.proofs.MemberLemmas.{in_none, head_or_rest}
 use Rattle.heap_model.proofs.ReachLemmas.{not_null}
 use Rattle.heap_seat.specs.View.{View}
 use Rattle.heap_seat.specs.Words.{MayBe}
@@ -17,71 +17,12 @@ use Rattle.dict_seat.specs.Puts.{RootIsSet}
 use Rattle.run_model.specs.Needs.{is_to, put_into, shards_put_into}
 use Rattle.run_model.specs.Progress.{MayAnswer}
 use Rattle.run_model.specs.Runs.{span_taken}
-use Rattle.run_model.specs.Spending.{IsPut, TakesFew, for_node as answered_node, with_table as answered_table, HasTakenFew}
+use Rattle.run_model.proofs.CountLemmas.{count_rises, count_gains, set_value, value_set, null_unset}
+use Rattle.run_model.specs.Spending.{sees_table, IsPut, TakesFew, for_node as answered_node, with_table as answered_table, HasTakenFew}
 use Rattle.worker_run.specs.Taking.{MayTake, for_node, with_table}
 use Rattle.run_model.specs.Workers.{shard_asked}
 use Rattle.run_model.proofs.OneMapLemmas.{small_shard}
 use Rattle.heap_model.proofs.ListLemmas.{in_numbers}
-
--- where what passed still passes, no fewer do, and one more where one passes that did not
-one_count : (a b : Bool) → (a ≡ true → b ≡ true) → cond a 1 0 ≤ cond b 1 0
-one_count true true more = let all : 1 ≤ 1 = omega arith in all
-one_count true false more = let e : false ≡ true = more refl in absurd (cc)
-one_count false true more = let all : 0 ≤ 1 = omega arith in all
-one_count false false more = let all : 0 ≤ 0 = omega arith in all
-
-count_rises : (p q : ℕ → Bool) (xs : List ℕ) → ((x : ℕ) → Contains xs x → p x ≡ true → q x ≡ true) → count_by p xs ≤ count_by q xs
-count_rises p q [] more = let all : 0 ≤ 0 = omega arith in all
-count_rises p q (x ∷ xs) more =
-    let a = sum_by-cons (λ y. cond (p y) 1 0) x xs in
-    let b = sum_by-cons (λ y. cond (q y) 1 0) x xs in
-    let first = one_count (p x) (q x) (more x (in_head x xs)) in
-    let rest = count_rises p q xs (λ y h. more y (in_rest x y xs h)) in
-    omega arith
-
-count_gains : (p q : ℕ → Bool) (xs : List ℕ) (z : ℕ) → Contains xs z → p z ≡ false → q z ≡ true → ((x : ℕ) → Contains xs x → p x ≡ true → q x ≡ true)
-    → count_by p xs + 1 ≤ count_by q xs
-count_gains p q [] z h was now more = absurd (in_none z h)
-count_gains p q (x ∷ xs) z h was now more =
-    let a = sum_by-cons (λ y. cond (p y) 1 0) x xs in
-    let b = sum_by-cons (λ y. cond (q y) 1 0) x xs in
-    elim (head_or_rest x z xs h) as (λ _. count_by p (x ∷ xs) + 1 ≤ count_by q (x ∷ xs)) [
-      | inl same ↦
-          let first : cond (p x) 1 0 + 1 ≤ cond (q x) 1 0 =
-          subst (λ y. cond (p y) 1 0 + 1 ≤ cond (q y) 1 0) (sym same) (rw (was, now) (let all : 0 + 1 ≤ 1 = omega arith in all)) in
-          let rest = count_rises p q xs (λ y in_xs. more y (in_rest x y xs in_xs)) in
-          omega arith
-      | inr later ↦
-          let first = one_count (p x) (q x) (more x (in_head x xs)) in
-          let rest = count_gains p q xs z later was now (λ y in_xs. more y (in_rest x y xs in_xs)) in
-          omega arith
-    ]
-
--- whether a word is known, and isn't null
-abbrev is_set : Option ℕ → Bool
-is_set None = false
-is_set (Some x) = not (nat_eq x 0)
-
-not_zero : (x : ℕ) → not (nat_eq x 0) ≡ true → x ≢ 0
-not_zero x is e = let same = eq-eqb x 0 e in let no : not true ≡ true = subst (λ b. not b ≡ true) same is in absurd (cc)
-
-zero_not : (x : ℕ) → x ≢ 0 → not (nat_eq x 0) ≡ true
-zero_not x some = ap not (ne_eqb x 0 some)
-
-set_value : (o : Option ℕ) → is_set o ≡ true → (x : ℕ) × (o ≡ Some x) × (x ≢ 0)
-set_value None is = absurd (cc)
-set_value (Some x) is = (x, refl, not_zero x is)
-
-value_set : (o : Option ℕ) (x : ℕ) → o ≡ Some x → x ≢ 0 → is_set o ≡ true
-value_set o x is some = subst (λ k. is_set k ≡ true) (sym is) (zero_not x some)
-
-null_unset : (o : Option ℕ) → ((x : ℕ) → o ≡ Some x → x ≡ 0) → is_set o ≡ false
-null_unset None null = refl
-null_unset (Some x) null = ap not (eq-eqb x 0 (null x refl))
-
--- whether loads see that the shard's root isn't null
-abbrev pub sees_table : View → ℕ → Bool
-sees_table v shard = is_set (v.volatile (root_word shard))
 
 -- how many of the shards that are put into have a table, as loads see it
 abbrev pub tables_in : List Request → View → ℕ
