@@ -1,5 +1,6 @@
 pub mod DelLemmas
 pub mod RemovalLemmas
+pub mod BringLemmas
 pub mod ChangeLemmas
 pub mod DeleteLemmas
 pub mod ComeLemmas
@@ -11,6 +12,7 @@ pub mod FreedLemmas
 pub mod GetLemmas
 pub mod GrownLemmas
 pub mod ImageLemmas
+pub mod LooseLemmas
 pub mod MakeLemmas
 pub mod MapPublishLemmas
 pub mod MovedLemmas

@@ -7,16 +7,16 @@ use Rattle.heap_model.specs.Blocks.{IsIn}
 use Rattle.heap_seat.specs.declared.spot.Spot.TheVariants.{InBlock}
 use Rattle.heap_seat.specs.View.{View}
 use Rattle.heap_seat.specs.Words.{IsOwn, IsOwnSpot, in_block, KeepsOwn, MayHaveStored}
-use Rattle.heap_seat.specs.Calls.{Stores, WritesBack, SameRefusals}
+use Rattle.heap_seat.specs.Calls.{Stores, WritesBack, Fences, SameRefusals}
 use Rattle.heap_seat.specs.Rows.{IsRow}
 use Rattle.heap_seat.proofs.CallerLemmas.{own_same, keeps_word_then, spot_written}
 use Rattle.heap_seat.proofs.RowLemmas.{row_none, row_then, row_more, runs_then, same_refusals_then}
 use Rattle.dict_model.specs.Nodes.{value_words}
-use Rattle.dict_seat.specs.Trails.{IsSettling}
+use Rattle.dict_seat.specs.Trails.{IsDurableAt, IsSettling}
 use Rattle.dict_seat.specs.Tables.{IsClearing}
-use Rattle.dict_seat.specs.Nodes.{StoresWithin, KeepsPendingBut, Writes, WritesValue, WritesNode, IsWriting}
+use Rattle.dict_seat.specs.Nodes.{StoresWithin, KeepsPendingBut, Writes, WritesValue, WritesNode, WritesHead, IsWriting}
 use Rattle.dict_seat.proofs.GrownLemmas.{keeps_none}
-use Rattle.dict_seat.proofs.TrailLemmas.{settling_stays}
+use Rattle.dict_seat.proofs.TrailLemmas.{settles, settling_stays}
 
 -- a store, then its write-back
 pub writes : (b : Block) (index value : ℕ) (v u w : View) → IsOwnSpot v (InBlock b index) → MayHaveStored (b.first_word + index) value v u → Stores (b.first_word + index) value v u
@@ -187,3 +187,25 @@ module _ (b : Block) (count : ℕ) (v u w : View) (held : Contains u.held b) (in
 
 pub clearing_start : (b : Block) (v : View) → IsClearing b 0 v v
 clearing_start b v = record { within = within_none b v; done = inl refl; nulls = λ i below. absurd (omega arith) }
+
+-- link and key of a node that is there, and a fence behind them
+module _ (b : Block) (key next : ℕ) (v t s w : View) (held : Contains v.held b) (room : 3 ≤ b.words) (may_key : MayHaveStored (b.first_word + 1) key v t)
+    (may_next : MayHaveStored (b.first_word + 0) next t s) (keeps : KeepsOwn s w) where
+  own_in : (x : View) → x.held ≡ v.held → (i : ℕ) → i < 2 → IsOwn x.held x.roots (b.first_word + i)
+  own_in x h i less = in_block b (b.first_word + i) (subst (λ (bs : List Block). Contains bs b) (sym h) held) (record { from = omega arith; until = omega arith })
+
+  pub head_written : Writes (b.first_word + 1) key v t → Writes (b.first_word + 0) next t s → Fences s w → WritesHead b key next v w
+  head_written first second fences = record {
+    runs = runs_then v s w (runs_then v t s first.runs second.runs) fences.runs;
+    settles = λ word own out pending.
+        let one = first.pending word (λ e. out (record { from = omega arith; until = omega arith })) pending in
+        let both = second.pending word (λ e. out (record { from = omega arith; until = omega arith })) one in
+        fences.durable word (own_same t s word may_next.held may_next.roots (own_same v t word may_key.held may_key.roots own)) both;
+    next_is = settled 0 next (omega arith) second.settling;
+    key_is = settled 1 key (omega arith)
+        (settling_over t s (b.first_word + 1) key (b.first_word + 0) next (λ e. omega arith) (own_in t may_key.held 1 (omega arith)) may_next second first.settling);
+  } where
+    settled : (i x : ℕ) → i < 2 → IsSettling s (b.first_word + i) x → IsDurableAt w (b.first_word + i) x
+    settled i x less settling =
+        let own = own_in s (may_next.held ∙ may_key.held) i less in
+        settles s w (b.first_word + i) x own (keeps.words (b.first_word + i) own) (record { each = fences.durable }) settling

@@ -4,7 +4,7 @@ use Rattle.heap_model.specs.declared.block.Block.{Block}
 use Rattle.heap_model.specs.Image.{image_of_bytes}
 use Rattle.heap_model.specs.Blocks.{IsIn}
 use Rattle.heap_seat.specs.View.{View}
-use Rattle.heap_seat.specs.Words.{IsOwn, KeepsWord}
+use Rattle.heap_seat.specs.Words.{IsOwn, IsDurable, KeepsWord}
 use Rattle.heap_seat.specs.Tickets.{Runs}
 use Rattle.heap_seat.specs.Calls.{SameRefusals}
 use Rattle.heap_seat.specs.Rows.{IsRow, Settles}
@@ -78,5 +78,16 @@ pub record HasNode (b : Block) (key next : ℕ) (value : List ℕ) (v w : View) 
   pub only : (a : Block) → Contains w.held a → (a ≡ b) ⊎ Contains v.held a
   pub settles : Settles v w
   pub node : IsNodeOf w b value
+  pub next_is : IsDurableAt w (b.first_word + next_index) next
+  pub key_is : IsDurableAt w (b.first_word + key_index) key
+
+-- the words of a node that change as it goes to another bucket, its link and its key, as a block
+abbrev pub head_of : Block → Block
+head_of b = record { first_word = b.first_word; words = length_index }
+
+-- they were written and are durable, and so is each other word whose write-back was pending
+pub record WritesHead (b : Block) (key next : ℕ) (v w : View) : Type 0 where
+  pub runs : Runs v w
+  pub settles : (word : ℕ) → IsOwn v.held v.roots word → (IsIn (head_of b) word → ⊥) → Contains v.pending word → IsDurable w word
   pub next_is : IsDurableAt w (b.first_word + next_index) next
   pub key_is : IsDurableAt w (b.first_word + key_index) key

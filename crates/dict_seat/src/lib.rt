@@ -1,6 +1,7 @@
 //! A recoverable dictionary over any open heap: the requests to its shards.
 #![tactic(auto)]
 
+mod bringing;
 mod laws;
 mod moving;
 mod node;

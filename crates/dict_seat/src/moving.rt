@@ -1,5 +1,5 @@
 //! The calls of a shard by which a block goes from shard to shard, and its value is not copied.
-ghost use Rattle.std.specs.Prelude.{◌≡◌, ℕ, ◌<◌, OnOk, IfOk, IfErr};
+ghost use Rattle.std.specs.Prelude.{◌≡◌, ℕ, ◌<◌, List, OnOk, IfOk, IfErr};
 ghost use Rattle.heap_model.specs.Sizes.{span_of};
 ghost use Rattle.heap_seat.specs.declared.fault.AllocFault.TheVariants.{Full};
 ghost use Rattle.heap_seat.specs.declared.fault.Looks.{Looks};
@@ -9,14 +9,15 @@ ghost use Rattle.heap_seat.specs.Tickets.{Runs, Stops};
 ghost use Rattle.heap_seat.specs.Calls.{SameRefusals};
 ghost use Rattle.heap_seat.specs.Rows.{IsRow};
 ghost use Rattle.dict_model.specs.Nodes.{shard_of, table_bytes};
-ghost use Rattle.dict_model.specs.Requests.{without_key};
+ghost use Rattle.dict_model.specs.Requests.{with_key, without_key};
 ghost use Rattle.dict_model.specs.Shards.{Map};
 ghost use Rattle.dict_seat.specs.Changes.{MayChange, Changes};
-ghost use Rattle.dict_seat.specs.Moving.{TableFails, TableTakes, TellsKey, TakesOut, ReachesAllLeft, MovesFew};
-ghost use Rattle.dict_seat.specs.Reached.{ReachesAllHeld};
-ghost use Rattle.dict_seat.specs.Removal.{IsShard};
+ghost use Rattle.dict_seat.specs.Moving.{IsNodeOf, MayBring, MovesFew, ReachesAllLeft, TableFails, TableTakes, TakesOut, TellsKey};
+ghost use Rattle.dict_seat.specs.Reached.{ReachesAllHeld, ReachesAllHeldBut};
+ghost use Rattle.dict_seat.specs.Removal.{IsLoose, IsShard};
 ghost use Rattle.dict_seat.specs.Puts.{RootIsSet, WasTurnedDown};
 
+use crate::bringing::{bring_first, bring_over};
 use crate::removal::unlink;
 use crate::search::{SearchEnd, search, table_of};
 use crate::shard::Shard;
@@ -143,6 +144,41 @@ impl Shard {
             }
             SearchEnd::Missing(_) => Ok(None),
             SearchEnd::NoTable => Ok(None),
+        }
+    }
+    /// Sets a key to the value of a node that is held and to which no root leads, as `take` gives
+    /// it and as it comes from another seat. The value is not copied; a node that the key had is
+    /// freed.
+    ///
+    /// After `Stopped` a crash leaves the map as before or with the key set.
+    pub fn bring<H: HeapSeat>(&mut self, seat: &mut H, key: u64, node: Block) -> Result<(), Stopped>
+        requires key { shard_of key ≡ self.old.number }
+        requires shard { IsShard (H.view seat.old) (shard_of key) }
+        requires table { RootIsSet (H.view seat.old) (shard_of key) }
+        requires loose { IsLoose node (H.view seat.old) }
+        requires node { (value : List ℕ) × IsNodeOf (H.view seat.old) node value }
+        ensures ok { OnOk result ((value : List ℕ) → IsNodeOf (H.view seat.old) node value
+            → Changes (shard_of key) (λ map. with_key map key value)
+            (H.view seat.old) (H.view seat.new)) }
+        ensures runs { OnOk result (Runs (H.view seat.old) (H.view seat.new)) }
+        ensures exact { OnOk result (ReachesAllHeldBut node (H.view seat.old)
+            → ReachesAllHeld (H.view seat.new)) }
+        ensures cause { IfErr result (λ e. Stops e.step (H.view seat.old) (H.view seat.new)) }
+
+        // At every exit.
+        ensures crash { (value : List ℕ) → IsNodeOf (H.view seat.old) node value
+            → MayBring node (shard_of key) (λ map. with_key map key value)
+            (H.view seat.old) (H.view seat.new) }
+        ensures taken { (H.view seat.new).taken ≡ (H.view seat.old).taken }
+        ensures calls { MovesFew 1 (shard_of key) (H.view seat.old) (H.view seat.new) }
+        ensures refusals { SameRefusals (H.view seat.old) (H.view seat.new) }
+        ensures kept { H.keeps seat.old seat.new }
+        ensures same { self.new ≡ self.old }
+    {
+        match search(seat, key)? {
+            SearchEnd::Found(place) => bring_over(seat, place, key, node),
+            SearchEnd::Missing(table) => bring_first(seat, table, key, node),
+            SearchEnd::NoTable => unreachable!(),
         }
     }
 }
