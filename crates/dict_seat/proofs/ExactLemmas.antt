@@ -15,9 +15,10 @@ use Rattle.dict_model.specs.Shards.{LeadsTo, link_behind}
 use Rattle.dict_model.proofs.LinkLemmas.{at_first}
 use Rattle.dict_model.proofs.SpliceLemmas.{one_holder}
 use Rattle.dict_seat.specs.Quiet.{Grown}
-use Rattle.dict_seat.specs.Reached.{Sees, RootReaches, LinkReaches, MayReach, Reaches, ReachesOnlyHeld}
+use Rattle.dict_seat.specs.Reached.{Sees, RootReaches, LinkReaches, MayReach, Reaches, ReachesOnlyHeld, ReachesAllHeld, ReachesAllHeldBut}
 use Rattle.dict_seat.specs.Trails.{pointer_to, IsDurableAt, Trail, HasCome}
 use Rattle.dict_seat.proofs.GrownLemmas.{stays_held, are_placed, kind_kept, link_own, link_in, link_to}
+use Rattle.dict_seat.proofs.FreedLemmas.{only_freed}
 use Rattle.dict_seat.proofs.PublishLemmas.{IsLinkOf, MayPublish, link_at_link}
 use Rattle.dict_seat.proofs.MapPublishLemmas.{seen_read}
 use Rattle.dict_seat.proofs.TrailLemmas.{leads_held, bucket_below}
@@ -167,3 +168,13 @@ sees_freed w x b seat may kinds h unreached root = closure_included
         l.leads.1,
       );
     })
+
+-- so where all but that was reached, all is
+pub all_freed : (w x : View) (b : Block) → IsSeat w → MayHaveFreed b w x → x.kinds ≡ w.kinds → Contains w.held b → ((root kind : ℕ) → MayReach w root b kind → ⊥) → (Contains x.held b → ⊥)
+    → ReachesAllHeldBut b w → ReachesAllHeld x
+all_freed w x b seat may kinds h unreached gone all = record {
+  only = only_freed w x b seat may kinds all.only h unreached;
+  all = λ c hc.
+      let r = all.all c (may.only c hc) (λ same. gone (subst (Contains x.held) same hc)) in
+      (r.0, r.1, sees_freed w x b seat may kinds h unreached r.0 c r.1 r.2);
+}

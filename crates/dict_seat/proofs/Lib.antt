@@ -11,6 +11,7 @@ pub mod FirstLemmas
 pub mod FreedLemmas
 pub mod GetLemmas
 pub mod GrownLemmas
+pub mod HandingLemmas
 pub mod ImageLemmas
 pub mod LooseLemmas
 pub mod MakeLemmas

@@ -28,12 +28,12 @@ use Rattle.dict_seat.specs.Removal.{IsShard}
 use Rattle.dict_seat.specs.Moving.{IsNodeOf, MayBring}
 use Rattle.dict_seat.specs.Nodes.{StoresWithin, HasNode, WritesHead, head_of}
 use Rattle.dict_seat.specs.Puts.{IsMissing}
-use Rattle.dict_seat.proofs.GrownLemmas.{are_placed, root_reach, link_reach}
+use Rattle.dict_seat.proofs.GrownLemmas.{are_placed, root_reach, link_reach, keeps_none, gives_grown, reached_before}
 use Rattle.dict_seat.proofs.FreedLemmas.{only_freed, gives_freed, reached_freed}
 use Rattle.dict_seat.proofs.TrailLemmas.{leads_held, bucket_below, same_map}
 use Rattle.dict_seat.proofs.MapPublishLemmas.{seen_read, trail_held}
 use Rattle.dict_seat.proofs.ComeLemmas.{IsFollowed, own_link_followed}
-use Rattle.dict_seat.proofs.ExactLemmas.{sees_freed}
+use Rattle.dict_seat.proofs.ExactLemmas.{all_freed}
 use Rattle.dict_seat.proofs.DeleteLemmas.{shard_below}
 use Rattle.dict_seat.proofs.MovedLemmas.{node_kept}
 
@@ -168,12 +168,7 @@ module _ (n : Block) (v : View) (seat : IsSeat v) (held : Contains v.held n) whe
     less_shard shard is = record { owned = is.owned; kind_is = is.kind_is; only = less_only; map = is.map; gives = less_gives shard is.owned is.kind_is is.map is.gives }
 
     pub less_all : ReachesAllHeldBut n v → ReachesAllHeld (without n v)
-    less_all all = record {
-      only = less_only;
-      all = λ c h.
-          let r = all.all c (less_was c h) (λ same. less_gone (subst (Contains (without n v).held) same h)) in
-          (r.0, r.1, sees_freed v (without n v) n seat less_freed refl held unreached r.0 c r.1 r.2);
-    }
+    less_all all = all_freed v (without n v) n seat less_freed refl held unreached less_gone all
 
     -- what a request leaves of the seat without the block, it leaves of the seat with it, but for the block's words
     pub bring_left : (shard : ℕ) (after : Map → Map) (w : View) → IsShard v shard → MayChange shard after (without n v) w → MayBring n shard after v w
@@ -193,6 +188,29 @@ module _ (n : Block) (v : View) (seat : IsSeat v) (held : Contains v.held n) whe
 
     pub brought : (shard : ℕ) (after : Map → Map) (w : View) → IsShard v shard → Changes shard after (without n v) w → Changes shard after v w
     brought shard after w is changes = record { gives = λ map gives. changes.gives map (less_gives shard is.owned is.kind_is map gives) }
+
+    -- and what a bring leaves of the seat with it, it leaves of the seat without it
+    less_grows : Grown (without n v) v
+    less_grows = less_grown v (λ c h. h) refl (λ word own out. keeps_none v word)
+
+    pub bring_change : (shard : ℕ) (after : Map → Map) (w : View) → MayBring n shard after v w → MayChange shard after (without n v) w
+    bring_change shard after w change = record {
+      either = λ map gives. change.either map (gives_grown (without n v) v less_grows shard map gives);
+      only = change.only;
+      table = record { root = change.table.root };
+      others = record {
+        roots = change.others.roots;
+        kinds = change.others.kinds;
+        root_words = λ root owned differs. keeps_on n v w (root_word root) (change.others.root_words root owned differs);
+        blocks = λ a h none.
+            let r = change.others.blocks a (less_was a h) (λ same. less_gone (subst (Contains (without n v).held) same h))
+            (λ kind reached. none kind (reached_before (without n v) v less_grows refl seat less_only shard a kind reached)) in
+            (r.0, λ word inside. keeps_on n v w word (r.1 word inside));
+      };
+    }
+
+    pub change_less : (shard : ℕ) (after : Map → Map) (w : View) → Changes shard after v w → Changes shard after (without n v) w
+    change_less shard after w changes = record { gives = λ map gives. changes.gives map (gives_grown (without n v) v less_grows shard map gives) }
 
     -- the way to a bucket doesn't pass the block
     module _ (key : ℕ) (root_is : kind_of v (shard_of key) ≡ table_kind) where

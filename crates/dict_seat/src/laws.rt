@@ -1,17 +1,23 @@
 //! What follows for the images of a whole heap and for the requests after one, as functions with
 //! nothing to run: a caller cites their clauses.
-ghost use Rattle.std.specs.Prelude.{◌≡◌, ◌≢◌, ℕ, ◌<◌, ◌⊎◌, ◌↔◌};
+ghost use Rattle.std.specs.Prelude.{◌≡◌, ◌≢◌, ℕ, ◌<◌, ◌⊎◌, ◌↔◌, List, Contains};
+ghost use Rattle.heap_model.specs.declared.block.Block.{Block};
 ghost use Rattle.heap_model.specs.Image.{Image};
 ghost use Rattle.heap_model.specs.Header.{kinds_of};
 ghost use Rattle.heap_model.specs.Reach.{IsOutsideIn};
 ghost use Rattle.heap_seat.specs.View.{View, kind_of};
 ghost use Rattle.heap_seat.specs.Sound.{IsSeat};
-ghost use Rattle.heap_seat.specs.Words.{NamesAll};
+ghost use Rattle.heap_seat.specs.Words.{KeepsOwn, NamesAll};
+ghost use Rattle.heap_seat.specs.Calls.{IsSmallCall};
+ghost use Rattle.heap_seat.specs.Handing.{Accepts, ComesWith, Contents, GoesWith, Offers};
 ghost use Rattle.dict_model.specs.Links.{shards, table_kind, dict_links};
 ghost use Rattle.dict_model.specs.Shards.{Map, MapOf, WalkOf};
 ghost use Rattle.dict_seat.specs.Changes.{MayChange, Changes};
 ghost use Rattle.dict_seat.specs.Maps.{GivesMap, GivesEither};
-ghost use Rattle.dict_seat.specs.Removal.{IsShard};
+ghost use Rattle.dict_seat.specs.Moving.{IsNodeOf, MayBring};
+ghost use Rattle.dict_seat.specs.Puts.{RootIsSet};
+ghost use Rattle.dict_seat.specs.Reached.{ReachesAllHeld, ReachesAllHeldBut, ReachesOnlyHeld};
+ghost use Rattle.dict_seat.specs.Removal.{IsLoose, IsShard};
 ghost use Rattle.dict_seat.specs.Seats.{ShareHeap, MixesSeats};
 ghost use Rattle.dict_seat.specs.Shards.{HasShards};
 
@@ -60,4 +66,81 @@ pub fn requests_go_on_from_shard_to_shard()
     ensures goes_on { (v w : View) (shard : ℕ) (may after : Map → Map) → IsSeat v
         → MayChange shard may v w → shard < shards → HasShards v → Changes shard after v w
         → HasShards w }
+{}
+
+/// A table stays, as loads see its root: over a request to any shard, wherever it ends.
+pub fn tables_stay()
+    ensures over_requests { (v w : View) (shard other : ℕ) (may : Map → Map)
+        → MayChange shard may v w → IsShard v other → RootIsSet v other → RootIsSet w other }
+    ensures over_brings { (v w : View) (b : Block) (shard other : ℕ) (may : Map → Map)
+        → MayBring b shard may v w → IsShard v other → RootIsSet v other → RootIsSet w other }
+    ensures over_offers { (v w : View) (b : Block) (shard : ℕ) → Offers b v w
+        → IsShard v shard → RootIsSet v shard → RootIsSet w shard }
+    ensures over_accepts { (v w : View) (b : Block) (shard : ℕ) → Accepts b v w
+        → IsShard v shard → RootIsSet v shard → RootIsSet w shard }
+    ensures over_stops { (v w : View) (shard : ℕ) → KeepsOwn v w
+        → IsShard v shard → RootIsSet v shard → RootIsSet w shard }
+{}
+
+/// Bringing a node to one shard leaves each other shard its map, wherever it ends; and where it was
+/// done, requests to all of them may be made again.
+pub fn a_bring_leaves_the_other_shards()
+    ensures others { (v w : View) (b : Block) (shard other : ℕ) (may : Map → Map) (map : Map)
+        → IsSeat v → IsLoose b v → MayBring b shard may v w → shard < shards → other < shards
+        → other ≢ shard → IsShard v other → GivesMap v other map → GivesMap w other map }
+    ensures goes_on { (v w : View) (b : Block) (shard : ℕ) (may after : Map → Map)
+        → IsSeat v → IsLoose b v → MayBring b shard may v w → shard < shards → HasShards v
+        → Changes shard after v w → HasShards w }
+{}
+
+/// A block that no root reaches may be offered: the shards have their maps without it, and what is
+/// held still is what is reached still.
+pub fn a_loose_block_may_be_offered()
+    ensures shards { (v w : View) (b : Block) → IsSeat v → IsLoose b v → Offers b v w
+        → IsSmallCall v w → HasShards v → HasShards w }
+    ensures gives { (v w : View) (b : Block) (shard : ℕ) (map : Map) → IsSeat v → IsLoose b v
+        → Offers b v w → IsSmallCall v w → IsShard v shard
+        → GivesMap v shard map → GivesMap w shard map }
+    ensures only { (v w : View) (b : Block) → IsSeat v → IsLoose b v → Offers b v w
+        → IsSmallCall v w → ReachesOnlyHeld v → ReachesOnlyHeld w }
+    ensures exact { (v w : View) (b : Block) → IsSeat v → IsLoose b v → Offers b v w
+        → IsSmallCall v w → ReachesAllHeldBut b v → ReachesAllHeld w }
+{}
+
+/// A block that is accepted is no root's: the shards have their maps beside it.
+pub fn an_accepted_block_is_loose()
+    ensures loose { (v w : View) (b : Block) → IsSeat w → Accepts b v w → IsSmallCall v w
+        → ReachesOnlyHeld v → IsLoose b w }
+    ensures shards { (v w : View) (b : Block) → IsSeat w → Accepts b v w → IsSmallCall v w
+        → HasShards v → HasShards w }
+    ensures gives { (v w : View) (b : Block) (shard : ℕ) (map : Map) → Accepts b v w
+        → GivesMap v shard map → GivesMap w shard map }
+    ensures only { (v w : View) (b : Block) → IsSeat w → Accepts b v w → IsSmallCall v w
+        → ReachesOnlyHeld v → ReachesOnlyHeld w }
+    ensures exact { (v w : View) (b : Block) → IsSeat w → Accepts b v w → IsSmallCall v w
+        → ReachesAllHeld v → ReachesAllHeldBut b w }
+{}
+
+/// A node that goes with what one seat knew of it, and comes so to another, is a node of its value
+/// there.
+pub fn a_node_goes_with_its_value()
+    ensures { (v w : View) (b : Block) (c : Contents) (value : List ℕ) → GoesWith b c v
+        → ComesWith b c w → IsNodeOf v b value → IsNodeOf w b value }
+{}
+
+/// A call that stores nothing and hands nothing over leaves all: so does an offer or an accept of a
+/// seat that stopped.
+pub fn calls_that_store_nothing_leave_all()
+    ensures shards { (v w : View) → IsSeat w → KeepsOwn v w → IsSmallCall v w
+        → HasShards v → HasShards w }
+    ensures gives { (v w : View) (shard : ℕ) (map : Map) → KeepsOwn v w
+        → GivesMap v shard map → GivesMap w shard map }
+    ensures exact { (v w : View) → IsSeat w → KeepsOwn v w → IsSmallCall v w
+        → ReachesAllHeld v → ReachesAllHeld w }
+    ensures exact_but { (v w : View) (b : Block) → IsSeat w → KeepsOwn v w → IsSmallCall v w
+        → ReachesAllHeldBut b v → ReachesAllHeldBut b w }
+    ensures loose { (v w : View) (b : Block) → IsSeat w → KeepsOwn v w → IsSmallCall v w
+        → ReachesOnlyHeld v → IsLoose b v → IsLoose b w }
+    ensures node { (v w : View) (b : Block) (value : List ℕ) → KeepsOwn v w
+        → Contains v.held b → IsNodeOf v b value → IsNodeOf w b value }
 {}
