@@ -4,6 +4,7 @@ pub mod Removal
 pub mod Changes
 pub mod Maps
 pub mod Moving
+pub mod MovingExamples
 pub mod Nodes
 pub mod Puts
 pub mod Quiet
