@@ -37,7 +37,7 @@ module _ (b : Block) (v w : View) (seat : IsSeat v) (loose : IsLoose b v) (offer
   own_left _ (in_block a word h inside) out = in_block a word (stays_but a h (λ same. out (subst (λ (x : Block). IsIn x word) same inside))) inside
   own_left _ (in_root i word h is) out = in_root i word (subst (λ (rs : List ℕ). Contains rs i) offers.blocks.roots h) is
 
-  offered : MayHaveFreed b v w
+  pub offered : MayHaveFreed b v w
   offered = record {
     only = offers.blocks.keeps;
     keeps = stays_but;

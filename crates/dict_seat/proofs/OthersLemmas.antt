@@ -74,18 +74,17 @@ module _ (v w : View) (shard : ℕ) (may : Map → Map) (seat : IsSeat v) (small
   others_give other map differs is = gives_others v w shard other seat is.only change.others small is.kind_is differs is.owned map
 
   -- one that was answered leaves a map to each
+  pub shard_on : (after : Map → Map) (other : ℕ) → IsShard v other → Changes shard after v w → IsShard w other
+  shard_on after other is changes = elim (cases_eq other shard) as (λ _. IsShard w other) [
+    | inl same ↦ record {
+      owned = owned_on other is.owned;
+      kind_is = kind_on other is.kind_is;
+      only = change.only;
+      map = after is.map;
+      gives = subst (λ n. GivesMap w n (after is.map)) (sym same) (changes.gives is.map (subst (λ n. GivesMap v n is.map) same is.gives));
+    }
+    | inr differs ↦ record { owned = owned_on other is.owned; kind_is = kind_on other is.kind_is; only = change.only; map = is.map; gives = others_give other is.map differs is is.gives }
+  ]
+
   pub shards_on : (after : Map → Map) → HasShards v → Changes shard after v w → HasShards w
-  shards_on after has changes = record {
-    each = λ other below.
-        let is = has.each other below in
-        elim (cases_eq other shard) as (λ _. IsShard w other) [
-          | inl same ↦ record {
-            owned = owned_on other is.owned;
-            kind_is = kind_on other is.kind_is;
-            only = change.only;
-            map = after is.map;
-            gives = subst (λ n. GivesMap w n (after is.map)) (sym same) (changes.gives is.map (subst (λ n. GivesMap v n is.map) same is.gives));
-          }
-          | inr differs ↦ record { owned = owned_on other is.owned; kind_is = kind_on other is.kind_is; only = change.only; map = is.map; gives = others_give other is.map differs is is.gives }
-        ];
-  }
+  shards_on after has changes = record { each = λ other below. shard_on after other (has.each other below) changes }
