@@ -1,48 +1,27 @@
 -- A node goes out of its shard and is offered: what that leaves.
-use Rattle.std.proofs.Common.{◌≡◌, ◌≢◌, ◌⊎◌, inl, inr, ℕ, ◌+◌, ◌*◌, ◌≤◌, List, length, Option, None, Some, Contains, true, false, refl, subst, sym, ap, ◌∙◌, arith}
+use Rattle.std.proofs.Common.{◌≡◌, ◌⊎◌, inl, inr, ℕ, ◌+◌, ◌*◌, List, length, Option, None, Some, Contains, true, false, refl, subst, sym, ◌∙◌, arith}
 use Rattle.heap_model.specs.declared.block.Block.{Block}
-use Rattle.heap_model.specs.Blocks.{IsIn}
 use Rattle.heap_seat.specs.View.{View}
-use Rattle.heap_seat.specs.Words.{IsOwn, in_block, in_root, KeepsWord, KeepsOwn}
-use Rattle.heap_seat.specs.Calls.{SameRefusals, IsSmallCall}
-use Rattle.heap_seat.specs.Free.{MayHaveFreed}
+use Rattle.heap_seat.specs.Words.{in_block, in_root, KeepsOwn}
+use Rattle.heap_seat.specs.Calls.{IsSmallCall}
 use Rattle.heap_seat.specs.Handing.{Offers}
 use Rattle.heap_seat.specs.Sound.{IsSeat}
-use Rattle.heap_seat.specs.Rows.{IsRow}
 use Rattle.heap_seat.proofs.RowLemmas.{row_then, row_more, row_small}
-use Rattle.heap_seat.proofs.CallerLemmas.{keeps_word_then, mixes_before}
-use Rattle.heap_model.specs.Image.{Image}
+use Rattle.heap_seat.proofs.CallerLemmas.{keeps_word_then}
 use Rattle.dict_model.specs.Nodes.{shard_of}
-use Rattle.dict_model.specs.Requests.{Request, move, Reply, done, full, none, without_key, IsReply, move_done, move_full, move_none}
+use Rattle.dict_model.specs.Requests.{move, done, full, none, without_key, IsReply, move_done, move_full, move_none}
 use Rattle.dict_model.specs.Shards.{Map}
 use Rattle.dict_seat.specs.Changes.{MayChange, Changes}
-use Rattle.dict_seat.specs.Maps.{IsMapIn, GivesMap}
+use Rattle.dict_seat.specs.Maps.{IsMapIn}
 use Rattle.dict_seat.specs.Moving.{IsTakenOut, TakesOut, TellsKey, MovesFew}
-use Rattle.dict_seat.specs.Reached.{ReachesOnlyHeld, ReachesAllHeld, ReachesAllHeldBut}
-use Rattle.dict_seat.specs.Removal.{IsShard, IsLoose}
+use Rattle.dict_seat.specs.Reached.{ReachesAllHeld, ReachesAllHeldBut}
+use Rattle.dict_seat.specs.Removal.{IsShard}
 use Rattle.dict_seat.proofs.ChangeLemmas.{freed, table_then, table_grown}
 use Rattle.dict_seat.proofs.DeleteLemmas.{shard_below}
-use Rattle.dict_seat.proofs.ExactLemmas.{sees_freed}
+use Rattle.dict_seat.proofs.HandingLemmas.{offered, offered_all}
 use Rattle.dict_seat.proofs.GrownLemmas.{grown_keeps, only_grown, kind_kept, map_grown, mixes_grown}
-use Rattle.run_model.specs.Progress.{Answers, MayAnswer}
+use Rattle.run_model.specs.Progress.{Answers}
 use Rattle.run_model.specs.Working.{MakesCalls}
-
--- an offer leaves of the other blocks what a free leaves
-pub offered : (b : Block) (v w : View) → Offers b v w → SameRefusals v w → MayHaveFreed b v w
-offered b v w offers same = record {
-  only = offers.blocks.keeps;
-  keeps = λ a h differs. left a differs (offers.blocks.only a h);
-  roots = sym offers.blocks.roots;
-  words = λ word own out. offers.words word (still word own out);
-  refusals = same;
-} where
-  left : (a : Block) → a ≢ b → (a ≡ b) ⊎ Contains w.held a → Contains w.held a
-  left a differs (inl is) = absurd (differs is)
-  left a differs (inr h) = h
-
-  still : (word : ℕ) → IsOwn v.held v.roots word → (IsIn b word → ⊥) → IsOwn w.held w.roots word
-  still _ (in_block a word h inside) out = in_block a word (left a (λ is. out (subst (λ (x : Block). IsIn x word) is inside)) (offers.blocks.only a h)) inside
-  still _ (in_root i word h is) out = in_root i word (subst (λ (rs : List ℕ). Contains rs i) offers.blocks.roots h) is
 
 -- a change, and calls behind it that store nothing
 pub change_then : (shard : ℕ) (after : Map → Map) (v u w : View) → IsSeat u → IsSeat w → Contains v.roots shard → KeepsOwn u w → w.kinds ≡ u.kinds → MayChange shard after v u → MayChange shard after v w
@@ -73,15 +52,10 @@ module _ (key : ℕ) (b : Block) (v u w : View) (seat : IsSeat u) (shard : IsSha
   pub gone : Changes (shard_of key) (λ m. without_key m key) v w × MayChange (shard_of key) (λ m. without_key m key) v w
   gone = freed (shard_of key) (λ m. without_key m key) v u w b out.reached.0 (shard_below key) (kind_kept v u (shard_of key) may.others.kinds ∙ shard.kind_is) seat
       (subst (λ (rs : List ℕ). Contains rs (shard_of key)) (sym may.others.roots) shard.owned) out.loose.held (record { gives = out.gives }) may.only may.table may.others out.reached.1 out.loose.unreached
-      (offered b u w offers call.refusals) call.goes_on.kinds
+      (offered b u w seat out.loose offers call) call.goes_on.kinds
 
   pub all_gone : ReachesAllHeldBut b u → ReachesAllHeld w
-  all_gone all = record {
-    only = gone.1.only;
-    all = λ c h.
-        let r = all.all c (offers.blocks.keeps c h) (λ same. offers.blocks.new (subst (Contains w.held) same h)) in
-        (r.0, r.1, sees_freed u w b seat (offered b u w offers call.refusals) call.goes_on.kinds out.loose.held out.loose.unreached r.0 c r.1 r.2);
-  }
+  all_gone all = offered_all b u w seat out.loose offers call all
 
   pub answers_done : (to : ℕ) → Answers (move key to) done v w
   answers_done to = record { right = λ m gives. move_done key to out.value (out.had m gives); gives = gone.0.gives }

@@ -1,1 +1,2 @@
 pub mod AwayLemmas
+pub mod TableLemmas

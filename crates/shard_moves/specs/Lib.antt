@@ -1,3 +1,4 @@
 pub mod Inboxes
 pub mod Moves
 pub mod Outboxes
+pub mod Tables

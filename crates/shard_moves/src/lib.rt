@@ -5,7 +5,9 @@
 mod away;
 mod inbox;
 mod outbox;
+mod tables;
 
 pub use away::{MoveAnswer, move_away};
 pub use inbox::Inbox;
 pub use outbox::Outbox;
+pub use tables::make_tables;

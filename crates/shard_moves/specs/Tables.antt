@@ -1,0 +1,48 @@
+-- Tables that are made before requests: which shards have one then, what they took, and why one has none.
+use Rattle.std.specs.Prelude.{◌≡◌, ℕ, ◌+◌, ◌<◌, ◌≤◌, Bool, true, false, not, ◌&&◌, List, get_or, count_by}
+use Rattle.heap_model.specs.Image.{words_from}
+use Rattle.heap_model.specs.Sizes.{span_of}
+use Rattle.heap_seat.specs.declared.fault.Looks.{Looks}
+use Rattle.heap_seat.specs.Looks.{KnowsNoLess}
+use Rattle.heap_seat.specs.View.{View}
+use Rattle.dict_model.specs.Links.{shards}
+use Rattle.dict_model.specs.Nodes.{table_bytes}
+use Rattle.dict_seat.specs.Puts.{RootIsSet, WasTurnedDown}
+use Rattle.run_model.specs.Spending.{sees_table}
+
+-- whether the shard's flag is set
+abbrev pub is_flagged : List Bool → ℕ → Bool
+is_flagged flags shard = get_or flags shard false
+
+-- how many flags of shards are set
+abbrev pub flag_count : List Bool → ℕ
+flag_count flags = count_by (is_flagged flags) (words_from (λ i. i) 0 shards)
+
+-- how many flagged shards got a table from the first view to the second, as loads see it, and how many had none in the first
+abbrev pub tables_made : List Bool → View → View → ℕ
+tables_made flags v w = count_by (λ shard. is_flagged flags shard && (sees_table w shard && not (sees_table v shard))) (words_from (λ i. i) 0 shards)
+
+abbrev pub tables_missing : List Bool → View → ℕ
+tables_missing flags v = count_by (λ shard. is_flagged flags shard && not (sees_table v shard)) (words_from (λ i. i) 0 shards)
+
+-- when the mark of taken superblocks was last read none was left for a table, and none was taken since
+pub record HadNoTableRoom (w : View) : Type 0 where
+  pub past : w.capacity < w.used_look.seen + span_of table_bytes
+  pub now : w.used_look.taken ≡ w.taken
+
+-- At a moment from the one state to the other there was no room for a table, and nothing was forgotten of the mark since. The heap turned down a
+-- request for a table's block between the two.
+pub record WasRefusedTable {S : Type 0} (view : S → View) (keeps : S → S → Type 0) (has_none : S → S → ℕ → Looks → Type 0) (s t : S) : Type 0 where
+  pub at : S
+  pub before : keeps s at
+  pub behind : keeps at t
+  pub knows : KnowsNoLess (view at) (view t)
+  pub until : (view at).taken ≤ (view t).taken
+  pub room : HadNoTableRoom (view at)
+  pub looks : Looks
+  pub none : WasTurnedDown keeps has_none table_bytes looks s t
+
+-- what is told of a shard: that it has a table, or that there was no room for one
+abbrev pub TellsTable : {S : Type 0} → (S → View) → (S → S → Type 0) → (S → S → ℕ → Looks → Type 0) → ℕ → Bool → S → S → Type 0
+TellsTable view keeps has_none shard true s t = RootIsSet (view t) shard
+TellsTable view keeps has_none shard false s t = WasRefusedTable view keeps has_none s t
