@@ -86,3 +86,7 @@ full_of_nothing (move_full key to value there) = absurd (cc)
 -- a move that is done of a key that is missing
 done_of_nothing : IsReply no_keys (move 1 2) done → ⊥
 done_of_nothing (move_done key to value there) = absurd (cc)
+
+-- nor is a key that is there told to be missing
+none_of_something : IsReply (with_key no_keys 1 []) (move 1 2) none → ⊥
+none_of_something (move_none key to missing) = absurd (cc)

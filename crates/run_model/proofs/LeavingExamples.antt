@@ -11,6 +11,7 @@ use Rattle.heap_model.specs.Header.{used_of, kinds_of}
 use Rattle.heap_model.specs.Image.{Image}
 use Rattle.heap_model.specs.Pointers.{Leads}
 use Rattle.heap_model.specs.Reach.{ReachFrom, by_start}
+use Rattle.heap_model.proofs.MemberLemmas.{in_head, in_rest}
 use Rattle.dict_model.specs.Links.{shards, dict_links}
 use Rattle.dict_model.specs.Requests.{Request, put, get, move, Reply, done, full, found, with_key, after, after_one, IsReply, get_found}
 use Rattle.dict_model.specs.Shards.{Map, MapOf, no_keys, is_empty}
@@ -149,6 +150,30 @@ not_closed left is = is
 pub move_not_full_with_room : IsFullRightly (sized 4 2) 1 (move 5 6 ∷ []) (Some full ∷ []) → ⊥
 move_not_full_with_room is =
     let past : 4 < 2 + 1 + 0 + 1 = is.move_cause 0 (omega arith) [] [] 5 6 refl in omega (arith, past)
+
+-- nor where the image has a table there, nor of one alone of two moves to a shard
+pub move_not_full_with_table : (image : Image) → image (root_word 6) ≢ 0 → IsFullRightly image 1 (move 5 6 ∷ []) (Some full ∷ []) → ⊥
+move_not_full_with_table image some is = some (is.no_table 5 6 (in_head (move 5 6, full) []))
+
+pub moves_not_apart : (image : Image) → IsFullRightly image 1 (move 5 6 ∷ move 7 14 ∷ []) (Some full ∷ Some done ∷ []) → ⊥
+moves_not_apart image is =
+    is.alike 5 6 7 14 refl (in_head (move 5 6, full) ((move 7 14, done) ∷ [])) (in_rest (move 5 6, full) (move 7 14, done) ((move 7 14, done) ∷ []) (in_head (move 7 14, done) []))
+
+-- nor is a key of another shard
+not_in_one : (m : Map) (value : List ℕ) → m 9 ≡ Some value → MapOf bare 1 m → ⊥
+not_in_one m value there is =
+    let e : Some value ≡ None = sym there ∙ one_map_of bare 1 m no_keys is (no_keys_in 1 (omega arith)) 9 in absurd (cc)
+
+-- a run that moved a value and wasn't stopped leaves it under its other key
+pub moved_is_left : LeavesMaps bare 1 (put 5 (97 ∷ []) ∷ move 5 9 ∷ []) (Some done ∷ Some done ∷ []) false bare → ⊥
+moved_is_left leaves =
+    let some = leaves.have_arrived.all refl no_keys no_keys_at_all 1 (omega arith) in
+    elim (leaves.each no_keys no_keys_at_all 1 no_keys (omega arith) (no_keys_in 1 (omega arith))) [
+      | inl there ↦
+          let is = subst (λ n. MapOf bare 1 (after no_keys (of_shard 1 (moved_once ++ take n (arrivals no_keys moved_once))))) some there in
+          not_in_one (after no_keys (of_shard 1 (moved_once ++ take 1 (arrivals no_keys moved_once)))) (97 ∷ []) refl is
+      | inr stop ↦ let e : false ≡ true = stop.0 in absurd (cc)
+    ]
 
 -- without a stop all has arrived
 pub all_arrive : (arrived : ℕ → ℕ) → HaveArrived bare 1 (put 5 [] ∷ move 5 9 ∷ []) (Some done ∷ Some done ∷ []) false arrived → arrived 0 ≡ 1

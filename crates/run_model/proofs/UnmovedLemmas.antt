@@ -8,7 +8,7 @@ use Rattle.dict_model.specs.Links.{shards}
 use Rattle.dict_model.specs.Requests.{Request, put, get, del, move, Reply, done, full, none, found, after_one}
 use Rattle.dict_model.specs.Shards.{Map}
 use Rattle.run_model.specs.Arrivals.{arrivals, worker_arrivals}
-use Rattle.run_model.specs.Needs.{is_to, put_into, shards_put_into, bring_to, brings_to, tables_needed, has_move}
+use Rattle.run_model.specs.Needs.{is_to, put_into, shards_put_into, is_brought_to, brings, tables_needed, has_move}
 use Rattle.run_model.specs.Runs.{answered}
 use Rattle.run_model.specs.Workers.{Replies, is_of_worker}
 
@@ -47,15 +47,15 @@ none_of_part test (del key ∷ qs) unmoved = by_case (none_of_part test qs unmov
 none_of_part test (move key to ∷ qs) unmoved = absurd (cc)
 
 -- a shard that is put into is brought a value
-pub put_is_brought : (requests : List Request) (shard : ℕ) → put_into requests shard ≡ true → bring_to requests shard ≡ true
+pub put_is_brought : (requests : List Request) (shard : ℕ) → put_into requests shard ≡ true → is_brought_to requests shard ≡ true
 put_is_brought [] shard is = is
-put_is_brought (put key value ∷ qs) shard is = elim (or_cases (is_to shard (put key value)) (put_into qs shard) is) as (λ _. bring_to (put key value ∷ qs) shard ≡ true) [
-  | inl first ↦ or_left (brings_to shard (put key value)) (bring_to qs shard) first
-  | inr later ↦ or_right (brings_to shard (put key value)) (bring_to qs shard) (put_is_brought qs shard later)
+put_is_brought (put key value ∷ qs) shard is = elim (or_cases (is_to shard (put key value)) (put_into qs shard) is) as (λ _. is_brought_to (put key value ∷ qs) shard ≡ true) [
+  | inl first ↦ or_left (brings shard (put key value)) (is_brought_to qs shard) first
+  | inr later ↦ or_right (brings shard (put key value)) (is_brought_to qs shard) (put_is_brought qs shard later)
 ]
 put_is_brought (get key ∷ qs) shard is = put_is_brought qs shard is
 put_is_brought (del key ∷ qs) shard is = put_is_brought qs shard is
-put_is_brought (move key to ∷ qs) shard is = or_right (brings_to shard (move key to)) (bring_to qs shard) (put_is_brought qs shard is)
+put_is_brought (move key to ∷ qs) shard is = or_right (brings shard (move key to)) (is_brought_to qs shard) (put_is_brought qs shard is)
 
 count_more : (p q : ℕ → Bool) (xs : List ℕ) → ((x : ℕ) → p x ≡ true → q x ≡ true) → count_by p xs ≤ count_by q xs
 count_more p q [] more = let all : 0 ≤ 0 = omega arith in all
@@ -73,4 +73,4 @@ count_more p q (x ∷ xs) more =
 
 -- so there are no fewer of these
 pub puts_need_tables : (requests : List Request) → shards_put_into requests ≤ tables_needed requests
-puts_need_tables requests = count_more (put_into requests) (bring_to requests) (words_from (λ i. i) 0 shards) (put_is_brought requests)
+puts_need_tables requests = count_more (put_into requests) (is_brought_to requests) (words_from (λ i. i) 0 shards) (put_is_brought requests)

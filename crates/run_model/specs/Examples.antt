@@ -58,7 +58,7 @@ two_shards = refl
 moved_need : superblocks_needed (move 5 6 ∷ []) ∷ superblocks_needed (put 5 [] ∷ move 5 6 ∷ []) ∷ superblocks_needed (put 5 [] ∷ move 5 13 ∷ move 13 5 ∷ []) ∷ [] ≡ 2 ∷ 4 ∷ 3 ∷ []
 moved_need = refl
 
--- the tables of two workers are those of the trace
+-- the shards that each of two workers puts into; where nothing moves these are those of the trace
 shards_of_two : map (λ worker. tables_needed (worker_requests 2 worker mixed)) (0 ∷ 1 ∷ []) ≡ 1 ∷ 1 ∷ []
 shards_of_two = refl
 
@@ -202,3 +202,10 @@ comes_to_each = refl
 -- so many have arrived for a shard as its worker has brought in
 come_so_far : map (λ count. length (arrived_for 1 2 no_keys moved_across (λ worker. count))) (0 ∷ 1 ∷ 2 ∷ []) ≡ 0 ∷ 1 ∷ 2 ∷ []
 come_so_far = refl
+
+-- and it is the first part of what comes to that worker, in the order of the trace
+abbrev pub moved_to_one : List (Request × Reply)
+moved_to_one = two_values ++ (move 5 3, done) ∷ (move 6 9, done) ∷ []
+
+come_first : arrived_for 2 3 no_keys moved_to_one (λ worker. worker) ≡ (put 3 (97 ∷ []), done) ∷ []
+come_first = refl

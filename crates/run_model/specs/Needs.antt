@@ -32,20 +32,20 @@ abbrev pub shards_put_into : List Request → ℕ
 shards_put_into requests = count_by (put_into requests) (words_from (λ i. i) 0 shards)
 
 -- whether the request brings a value to the shard: a put, or a move to one of its keys
-abbrev pub brings_to : ℕ → Request → Bool
-brings_to shard (put key value) = nat_eq (shard_of key) shard
-brings_to shard (get key) = false
-brings_to shard (del key) = false
-brings_to shard (move key to) = nat_eq (shard_of to) shard
+abbrev pub brings : ℕ → Request → Bool
+brings shard (put key value) = nat_eq (shard_of key) shard
+brings shard (get key) = false
+brings shard (del key) = false
+brings shard (move key to) = nat_eq (shard_of to) shard
 
 -- whether one of the requests does
-abbrev pub bring_to : List Request → ℕ → Bool
-bring_to [] shard = false
-bring_to (request ∷ requests) shard = brings_to shard request || bring_to requests shard
+abbrev pub is_brought_to : List Request → ℕ → Bool
+is_brought_to [] shard = false
+is_brought_to (request ∷ requests) shard = brings shard request || is_brought_to requests shard
 
 -- how many shards are brought a value: each may need a table, which takes one superblock at most
 abbrev pub tables_needed : List Request → ℕ
-tables_needed requests = count_by (bring_to requests) (words_from (λ i. i) 0 shards)
+tables_needed requests = count_by (is_brought_to requests) (words_from (λ i. i) 0 shards)
 
 -- whether one of the requests is a move
 abbrev pub has_move : List Request → Bool

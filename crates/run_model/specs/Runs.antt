@@ -1,5 +1,5 @@
 -- What a run of a trace by some workers is: which requests are answered, with which replies, and what image is left.
-use Rattle.std.specs.Prelude.{◌≡◌, ◌≢◌, ℕ, ◌+◌, ◌*◌, ◌<◌, ◌≤◌, ◌⊎◌, Bool, true, false, cond, nat_eq, List, [], ◌∷◌, ◌++◌, length, map, filter, replicate, sum_by, None, Some}
+use Rattle.std.specs.Prelude.{◌≡◌, ◌≢◌, ℕ, ◌+◌, ◌*◌, ◌<◌, ◌≤◌, ◌⊎◌, Bool, true, false, cond, nat_eq, List, [], ◌∷◌, ◌++◌, length, map, filter, replicate, sum_by, None, Some, Contains}
 use Rattle.heap_model.specs.declared.block.Block.{Block}
 use Rattle.heap_model.specs.Image.{Image}
 use Rattle.heap_model.specs.Geometry.{clean, dirty, version, state_word, version_word, root_word, roots, IsReserved}
@@ -87,6 +87,10 @@ pub record IsFullRightly (image : Image) (workers : ℕ) (requests : List Reques
   pub move_cause : (worker : ℕ) → worker < workers → (before later : List (Request × Reply)) (key to : ℕ)
       → worker_answered workers worker requests replies ≡ before ++ (move key to, full) ∷ later
       → capacity_of image < used_of image + 1 + spans_beside workers (worker_of workers (shard_of to)) requests replies + tables_needed requests
+  -- and only where that shard had no table in the image; then each move to the shard is refused whose key is there
+  pub no_table : (key to : ℕ) → Contains (answered requests replies) (move key to, full) → image (root_word (shard_of to)) ≡ 0
+  pub alike : (key to other target : ℕ) → shard_of target ≡ shard_of to → Contains (answered requests replies) (move key to, full)
+      → Contains (answered requests replies) (move other target, done) → ⊥
 
 -- in each shard the replies are right, one after the other from its map in the image on
 pub record RepliesRightly (image : Image) (requests : List Request) (replies : Replies) : Type 0 where

@@ -10,7 +10,7 @@ use Rattle.core_model.specs.View.{Setup}
 use Rattle.heap_rule.proofs.ClosedLemmas.{looked_at_most}
 use Rattle.core_model.specs.Opening.{setup_of}
 use Rattle.run_model.specs.Needs.{node_span, has_move, shards_put_into}
-use Rattle.run_model.specs.Runs.{IsFullRightly, span_taken, spans_beside, worker_answered, worker_span}
+use Rattle.run_model.specs.Runs.{answered, IsFullRightly, span_taken, spans_beside, worker_answered, worker_span}
 use Rattle.run_model.specs.Workers.{Replies, is_of_worker, worker_requests, worker_replies}
 use Rattle.shared_run.specs.Together.{HaveWorked}
 use Rattle.shared_run.proofs.CountLemmas.{shards_all}
@@ -69,6 +69,9 @@ module _ (words : List ℕ) (held : List Block) (workers budget : ℕ) (requests
     move_cause = λ worker below before later key to is.
         let mine = worker_requests workers worker requests in
         let there = subst (λ rs. Contains rs (move key to, full)) (sym is) (Contains-append_right before ((move key to, full) ∷ later) (move key to, full) (in_head (move key to, full) later)) in
-        let moved = moves_in mine (worker_replies workers worker requests replies) key to full there in
-        absurd (let no : true ≡ false = sym moved ∙ none_of_part (is_of_worker workers worker) requests unmoved in cc);
-  }
+        none_moved mine (worker_replies workers worker requests replies) (none_of_part (is_of_worker workers worker) requests unmoved) key to full there;
+    no_table = λ key to there. absurd (none_moved requests replies unmoved key to full there);
+    alike = λ key to other target same there also. none_moved requests replies unmoved key to full there;
+  } where
+    none_moved : (qs : List Request) (rs : Replies) → has_move qs ≡ false → (key to : ℕ) (a : Reply) → Contains (answered qs rs) (move key to, a) → ⊥
+    none_moved qs rs none key to a there = let no : true ≡ false = sym (moves_in qs rs key to a there) ∙ none in absurd (cc)
