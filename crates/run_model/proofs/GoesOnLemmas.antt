@@ -17,6 +17,8 @@ use Rattle.run_model.specs.Progress.{Answers, MayAnswer, HasAnswered}
 use Rattle.run_model.specs.Runs.{of_shard}
 use Rattle.run_model.specs.Stands.{StandsOver}
 use Rattle.run_model.specs.Workers.{shard_asked}
+use Rattle.run_model.specs.Working.{TakesRequest, TakesRequests}
+use Rattle.heap_seat.specs.declared.fault.Looks.{Looks}
 use Rattle.run_model.proofs.OneMapLemmas.{small_shard}
 use Rattle.run_model.proofs.StandsLemmas.{others_stay}
 use Rattle.dict_seat.proofs.OthersLemmas.{gives_others}
@@ -115,3 +117,9 @@ asked_shard image rs v shard maps small owned has =
       map = after first.0 (of_shard shard rs);
       gives = has.gives shard first.0 small owned first.1;
     }
+
+-- the states that a seat went through, with one more
+pub takes_push : {S : Type 0} (view : S → View) (keeps : S → S → Type 0) (has_none : S → S → ℕ → Looks → Type 0) (rs : List (Request × Reply)) (q : Request) (r : Reply) (s t u : S)
+    → TakesRequests view keeps has_none rs s t → TakesRequest view keeps has_none q r t u → TakesRequests view keeps has_none (rs ++ ((q, r) ∷ [])) s u
+takes_push view keeps has_none [] q r s t u so_far more = (u, subst (λ x. TakesRequest view keeps has_none q r x u) so_far more, refl)
+takes_push view keeps has_none (x ∷ rs) q r s t u so_far more = (so_far.0, so_far.1, takes_push view keeps has_none rs q r so_far.0 t u so_far.2 more)

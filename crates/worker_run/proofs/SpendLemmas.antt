@@ -6,7 +6,6 @@ use Rattle.std.proofs.lemmas.List.Elements.{Contains-append_left, Contains-appen
 use Rattle.std.proofs.lemmas.List.Sums.{sum_by-cons, sum_by-append}
 use Rattle.heap_model.specs.Image.{Image}
 use Rattle.heap_model.proofs.MemberLemmas.{map_in}
-use Rattle.heap_seat.specs.declared.fault.Looks.{Looks}
 use Rattle.heap_seat.specs.View.{View}
 use Rattle.heap_seat.proofs.RowLemmas.{row_none, row_then, row_more}
 use Rattle.dict_model.specs.Requests.{Request, put, Reply, full, after}
@@ -20,7 +19,7 @@ use Rattle.run_model.specs.Opened.{HasMaps}
 use Rattle.run_model.specs.Runs.{answered, unanswered, of_shard, span_taken}
 use Rattle.run_model.specs.Spending.{IsPut, HadNoRoom, IsFullBehind, AreFullRightly, MakeFew}
 use Rattle.run_model.specs.Workers.{key_of, shard_asked, Replies}
-use Rattle.run_model.specs.Working.{Fits, HasWorked, MakesCalls, TakesRequest, TakesRequests, words_copied}
+use Rattle.run_model.specs.Working.{Fits, HasWorked, MakesCalls, words_copied}
 use Rattle.worker_run.specs.Said.{IsShort, Told, reply_of, replies_of}
 use Rattle.worker_run.proofs.AnsweringLemmas.{copies_few, there_or_not}
 use Rattle.worker_run.proofs.KeyLemmas.{seat_keys}
@@ -203,9 +202,3 @@ refused_next view keeps requests rs q r s t was kept same now = record {
         | inr old ↦ was.each before old.0 key value old.1
       ];
 }
-
--- the states that a seat went through, with one more
-pub takes_push : {S : Type 0} (view : S → View) (keeps : S → S → Type 0) (has_none : S → S → ℕ → Looks → Type 0) (rs : List (Request × Reply)) (q : Request) (r : Reply) (s t u : S)
-    → TakesRequests view keeps has_none rs s t → TakesRequest view keeps has_none q r t u → TakesRequests view keeps has_none (rs ++ ((q, r) ∷ [])) s u
-takes_push view keeps has_none [] q r s t u so_far more = (u, subst (λ x. TakesRequest view keeps has_none q r x u) so_far more, refl)
-takes_push view keeps has_none (x ∷ rs) q r s t u so_far more = (so_far.0, so_far.1, takes_push view keeps has_none rs q r so_far.0 t u so_far.2 more)

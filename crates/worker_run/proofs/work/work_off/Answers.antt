@@ -6,7 +6,8 @@ use Rattle.run_model.specs.Workers.{worker_requests}
 use Rattle.run_model.specs.Working.{HasWorked, Fits, IsUnderWay, TakesRequests}
 use Rattle.worker_run.specs.Said.{Line, request_of, requests_of, replies_of}
 use Rattle.worker_run.proofs.MineLemmas.{is_next, mine_among, mine_next, owns_still, puts_owned, rooms_next, no_room_left}
-use Rattle.worker_run.proofs.SpendLemmas.{answered_none, answered_next, unanswered_now, worked_count, few_none, few_next, few_more, full_behind, knows_call, refused_none, refused_on, refused_next, takes_push}
+use Rattle.run_model.proofs.GoesOnLemmas.{takes_push}
+use Rattle.worker_run.proofs.SpendLemmas.{answered_none, answered_next, unanswered_now, worked_count, few_none, few_next, few_more, full_behind, knows_call, refused_none, refused_on, refused_next}
 use Rattle.worker_run.proofs.TakenLemmas.{HasTaken, taken_next, taken_stopped, taken_ended}
 use Rattle.worker_run.proofs.WorkLemmas.{work_begins, room_fits, work_replied}
 use Rattle.worker_run.proofs.work.work_off.Goals as goal
