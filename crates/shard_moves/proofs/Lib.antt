@@ -1,2 +1,4 @@
+pub mod ArrivalLemmas
 pub mod AwayLemmas
+pub mod BroughtLemmas
 pub mod TableLemmas

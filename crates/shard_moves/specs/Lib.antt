@@ -1,3 +1,4 @@
+pub mod Arriving
 pub mod Inboxes
 pub mod Moves
 pub mod Outboxes
