@@ -1,0 +1,4 @@
+pub mod Account
+pub mod Delivery
+pub mod Rule
+pub mod Examples
