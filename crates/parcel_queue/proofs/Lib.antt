@@ -1,0 +1,6 @@
+pub mod OrderLemmas
+pub mod PieceLemmas
+pub mod ShareLemmas
+pub mod FairLemmas
+pub mod JoinLemmas
+mod ExampleLemmas
