@@ -3,4 +3,5 @@ pub mod PieceLemmas
 pub mod ShareLemmas
 pub mod FairLemmas
 pub mod JoinLemmas
+pub mod DeliveryLemmas
 mod ExampleLemmas

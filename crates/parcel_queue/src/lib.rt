@@ -2,10 +2,12 @@
 //! nothing is lost, and nothing comes twice.
 #![tactic(auto)]
 
+mod laws;
 mod pass;
 mod queue;
 mod rule;
 
+pub use laws::{a_delivery_loses_and_repeats_nothing, an_owner_takes_what_its_senders_put};
 pub use pass::Pass;
 pub use queue::ParcelQueue;
 pub use rule::Fact;

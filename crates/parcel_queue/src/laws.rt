@@ -1,0 +1,34 @@
+//! What follows for what was put and taken, as functions with nothing to run: a caller cites their
+//! clauses.
+
+ghost use Rattle.std.specs.Prelude.{◌≡◌, ◌+◌, ℕ, List, [], All, Contains, length, map, sum_by};
+ghost use Rattle.parcel_queue.specs.Account.{Account, PassView, all_joined, unused, with_all_taken};
+ghost use Rattle.parcel_queue.specs.Delivery.{AreDelivered, IsDelivered};
+
+/// Where the owner of a queue took in the passes of all its senders, and then took until it found
+/// no parcel, it has what they put: each parcel as often, and no other.
+pub fn an_owner_takes_what_its_senders_put<T>()
+    ensures parts { (owner : Account T) (senders : List (PassView T))
+        → (all_joined owner senders).parts
+        ≡ owner.parts + sum_by (λ sender. sender.account.parts) senders }
+    ensures delivered { (parts : ℕ) (senders : List (PassView T)) (taken : List T)
+        → All (λ sender. sender.account.taken ≡ []) senders
+        → IsDelivered (with_all_taken (all_joined (unused parts) senders) taken)
+        → AreDelivered (map (λ sender. sender.account.put) senders) taken }
+{}
+
+/// Of what is delivered nothing is lost, nothing comes from nowhere, and nothing comes more or less
+/// often than it was put.
+pub fn a_delivery_loses_and_repeats_nothing<T>()
+    ensures lost { (sent : List (List T)) (taken parcels : List T) (parcel : T)
+        → AreDelivered sent taken → Contains sent parcels → Contains parcels parcel
+        → Contains taken parcel }
+    ensures made { (sent : List (List T)) (taken : List T) (parcel : T)
+        → AreDelivered sent taken → Contains taken parcel
+        → (parcels : List T) × Contains sent parcels × Contains parcels parcel }
+    ensures count { (sent : List (List T)) (taken : List T) → AreDelivered sent taken
+        → length taken ≡ sum_by length sent }
+    ensures weights { (weigh : T → ℕ) (sent : List (List T)) (taken : List T)
+        → AreDelivered sent taken
+        → sum_by weigh taken ≡ sum_by (λ parcels. sum_by weigh parcels) sent }
+{}
