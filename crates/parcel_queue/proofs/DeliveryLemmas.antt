@@ -37,15 +37,17 @@ module _ {T : Type 0} where
 
   pub delivered : (parts : ℕ) (ps : List (PassView T)) (taken : List T) → All TookNone ps
       → IsDelivered (with_all_taken (all_joined (unused parts) ps) taken) → AreDelivered (map put_with ps) taken
-  delivered parts ps taken none d = record { same = from (sym (joined_put (unused parts) ps))
-      (upto d.same (ap (λ (ys : List T). ys ++ taken) (joined_taken (unused parts) ps none))) }
+  delivered parts ps taken none d = record {
+    same = from (sym (joined_put (unused parts) ps))
+        (upto d.same (ap (λ (ys : List T). ys ++ taken) (joined_taken (unused parts) ps none)));
+  }
 
   -- where a list stands in a list of lists, its members stand in all of them
   inside : (ls : List (List T)) (l : List T) (x : T) → Contains ls l → Contains l x → Contains (all_of ls) x
   inside [] l x has in' = absurd (let none = has.1 in omega (arith, none))
   inside (k ∷ ls) l x has in' = ⊎_elim
       (λ first. ⊎_elim (λ h. absurd (let none = h.1 in omega (arith, none)))
-          (λ same. Contains-append_left k (all_of ls) x (subst (λ (y : List T). Contains y x) (sym same) in')) (Contains-push_cases [] k l first))
+      (λ same. Contains-append_left k (all_of ls) x (subst (λ (y : List T). Contains y x) (sym same) in')) (Contains-push_cases [] k l first))
       (λ later. Contains-append_right k (all_of ls) x (inside ls l x later in')) (Contains-append_cases (k ∷ []) ls l has)
 
   -- and what stands in all of them stands in one

@@ -4,4 +4,5 @@ pub mod ShareLemmas
 pub mod FairLemmas
 pub mod JoinLemmas
 pub mod DeliveryLemmas
+pub mod NumberLemmas
 mod ExampleLemmas

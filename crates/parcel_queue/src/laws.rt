@@ -2,6 +2,7 @@
 //! clauses.
 
 ghost use Rattle.std.specs.Prelude.{◌≡◌, ◌+◌, ℕ, List, [], All, Contains, length, map, sum_by};
+ghost use Rattle.std.specs.List.Sorted.{IsNonDecreasingBy, IsPermutation, IsStrictlyIncreasing};
 ghost use Rattle.parcel_queue.specs.Account.{Account, PassView, all_joined, unused, with_all_taken};
 ghost use Rattle.parcel_queue.specs.Delivery.{AreDelivered, IsDelivered};
 
@@ -31,4 +32,12 @@ pub fn a_delivery_loses_and_repeats_nothing<T>()
     ensures weights { (weigh : T → ℕ) (sent : List (List T)) (taken : List T)
         → AreDelivered sent taken
         → sum_by weigh taken ≡ sum_by (λ parcels. sum_by weigh parcels) sent }
+{}
+
+/// Parcels that came in any order, and are sorted by numbers that differ, are the list of what was
+/// sent in the order of these numbers.
+pub fn parcels_sorted_by_number_are_those_sent<T>()
+    ensures { (number : T → ℕ) (sent taken : List T) → IsPermutation sent taken
+        → IsStrictlyIncreasing (map number sent) → IsNonDecreasingBy number taken
+        → taken ≡ sent }
 {}

@@ -7,7 +7,10 @@ mod pass;
 mod queue;
 mod rule;
 
-pub use laws::{a_delivery_loses_and_repeats_nothing, an_owner_takes_what_its_senders_put};
+pub use laws::{
+    a_delivery_loses_and_repeats_nothing, an_owner_takes_what_its_senders_put,
+    parcels_sorted_by_number_are_those_sent,
+};
 pub use pass::Pass;
 pub use queue::ParcelQueue;
 pub use rule::Fact;
