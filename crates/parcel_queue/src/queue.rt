@@ -1,5 +1,5 @@
 //! A queue of parcels, and what its passes do.
-ghost use Rattle.std.specs.Prelude.{◌≡◌, ◌<◌, All, IfOk, MatchOption, MatchResult, OnOk};
+ghost use Rattle.std.specs.Prelude.{◌≡◌, ◌<◌, ◌+◌, All, IfOk, MatchOption, MatchResult, OnOk, sum_by};
 ghost use Rattle.parcel_queue.specs.Account.{PassView, all_joined, all_parts, joined, less_a_part, unused, with_put, with_taken};
 ghost use Rattle.parcel_queue.specs.Delivery.{HasTaken, IsDelivered};
 
@@ -78,6 +78,8 @@ impl<T, J: Fact<T>> ParcelQueue<T, J> {
         requires parts { 0 < pass.old.account.parts }
         ensures queue { pass.new.queue ≡ self.now.queue }
         ensures account { pass.new.account ≡ all_joined pass.old.account others.items }
+        ensures parts { pass.new.account.parts
+            ≡ pass.old.account.parts + sum_by (λ other. other.account.parts) others.items }
     {
         for other in others {
             self.absorb(pass, other);
@@ -122,6 +124,7 @@ impl<T, J: Fact<T>> ParcelQueue<T, J> {
         requires parts { 0 < pass.old.account.parts }
         ensures queue { pass.new.queue ≡ self.now.queue }
         ensures taken { HasTaken J.holds pass.old.account pass.new.account into.old.items into.new.items }
+        ensures facts { All J.holds into.old.items → All J.holds into.new.items }
         ensures all { OnOk result (pass.new.account.parts ≡ all_parts → IsDelivered pass.new.account) }
     {
         for _ in rt.forever() {
