@@ -7,4 +7,6 @@ mod alone;
 #[cfg(test)]
 mod letters;
 #[cfg(test)]
+mod owner;
+#[cfg(test)]
 mod threads;

@@ -2,7 +2,7 @@
 
 ghost use Rattle.std.specs.Prelude.{◌≡◌, ◌<◌, All, IfErr, IfOk};
 ghost use Rattle.parcel_queue.specs.Account.{all_parts, unused};
-ghost use Rattle.parcel_tests.specs.Sending.{AreOf, IsFreshPassOf, IsPassOf};
+ghost use Rattle.parcel_tests.specs.Sending.{AreOf, IsFreshPassOf, IsPassOf, IsSenderOf};
 
 use crate::letters::{Letter, Line, Run};
 use parcel_queue::Pass;
@@ -15,10 +15,10 @@ use std::thread;
 use std::thread::Threads;
 
 /// How many letters each sender sends.
-const LETTERS: u64 = 2_000;
+pub const LETTERS: u64 = 2_000;
 
 /// How many letters there are in all.
-const ALL: usize = 4_000;
+pub const ALL: usize = 4_000;
 
 /// Room for far fewer letters than are sent.
 const ROOM: usize = 8;
@@ -43,9 +43,9 @@ struct Worked {
 
 /// Puts a letter, or gives it back after many looks.
 fn put_one<J: Run>(line: &Line<J>, pass: &mut Pass<Letter>, letter: Letter) -> Result<(), Letter>
-    requires pass { IsPassOf line.now pass.old }
+    requires pass { IsSenderOf line.now pass.old }
     requires day { letter.day ≡ J.day }
-    ensures pass { IsPassOf line.now pass.new }
+    ensures pass { IsSenderOf line.now pass.new }
     ensures day { IfErr result (λ back. back.day ≡ J.day) }
 {
     let mut left = letter;
@@ -60,18 +60,18 @@ fn put_one<J: Run>(line: &Line<J>, pass: &mut Pass<Letter>, letter: Letter) -> R
 }
 
 /// Puts all letters of a sender; those for which there was no room stay.
-fn send<J: Run>(
+pub fn send<J: Run>(
     line: &Line<J>,
     pass: &mut Pass<Letter>,
     first: u64,
     day: u64,
     letters: &mut Vec<Letter>,
 ) -> Result<(), AllocError>
-    requires pass { IsPassOf line.now pass.old }
+    requires pass { IsSenderOf line.now pass.old }
     requires day { J.day ≡ day }
     requires first { first < 10000 }
     requires letters { AreOf J.day letters.old.items }
-    ensures pass { IsPassOf line.now pass.new }
+    ensures pass { IsSenderOf line.now pass.new }
     ensures letters { AreOf J.day letters.new.items }
 {
     for number in first..first + LETTERS {
@@ -249,7 +249,7 @@ fn run_on<R: Threads + Wait + Sync>(
 }
 
 /// Whether each number below so many is that of one letter, and no other number is.
-fn are_all(alloc: Global, letters: &[Letter]) -> Result<bool, AllocError> {
+pub fn are_all(alloc: Global, letters: &[Letter]) -> Result<bool, AllocError> {
     let mut seen = vec![in alloc; false; ALL]?;
     for letter in letters {
         let number = letter.number as usize;

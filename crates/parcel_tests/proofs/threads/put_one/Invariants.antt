@@ -1,6 +1,6 @@
 use Rattle.std.proofs.Common.{◌≡◌}
-use Rattle.parcel_tests.specs.Sending.{IsPassOf}
+use Rattle.parcel_tests.specs.Sending.{IsSenderOf}
 use Rattle.parcel_tests.proofs.threads.put_one.Given as goal
 
 abbrev pub invariant-loop : goal.invariant-loop
-invariant-loop g l = IsPassOf l.line l.pass × (l.left.day ≡ g.J.Run.day)
+invariant-loop g l = IsSenderOf l.line l.pass × (l.left.day ≡ g.J.Run.day)
