@@ -4,5 +4,6 @@ pub mod ShareLemmas
 pub mod FairLemmas
 pub mod JoinLemmas
 pub mod DeliveryLemmas
+pub mod RowLemmas
 pub mod NumberLemmas
 mod ExampleLemmas

@@ -6,6 +6,7 @@ mod laws;
 mod pass;
 mod queue;
 mod rule;
+mod senders;
 
 pub use laws::{
     a_delivery_loses_and_repeats_nothing, an_owner_takes_what_its_senders_put,
@@ -14,3 +15,4 @@ pub use laws::{
 pub use pass::Pass;
 pub use queue::ParcelQueue;
 pub use rule::Fact;
+pub use senders::Senders;
