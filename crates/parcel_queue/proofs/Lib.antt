@@ -5,5 +5,6 @@ pub mod FairLemmas
 pub mod JoinLemmas
 pub mod DeliveryLemmas
 pub mod RowLemmas
+pub mod EachLemmas
 pub mod NumberLemmas
 mod ExampleLemmas

@@ -5,6 +5,7 @@
 mod laws;
 mod pass;
 mod queue;
+mod row;
 mod rule;
 mod senders;
 
@@ -14,5 +15,6 @@ pub use laws::{
 };
 pub use pass::Pass;
 pub use queue::ParcelQueue;
+pub use row::absorb_each;
 pub use rule::Fact;
 pub use senders::Senders;

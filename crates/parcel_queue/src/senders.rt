@@ -1,7 +1,7 @@
 //! What a worker has to send parcels to all workers.
 
 ghost use Rattle.std.specs.Prelude.{◌≡◌, ◌<◌, MatchResult, length};
-ghost use Rattle.parcel_queue.specs.Row.{ArePassesOf, put_at};
+ghost use Rattle.parcel_queue.specs.Row.{ArePassesOf, changed_at, having_put};
 
 use crate::pass::Pass;
 use crate::queue::ParcelQueue;
@@ -19,7 +19,7 @@ fn put_to<T, J: Fact<T>>(
     requires to { to < length queues.now }
     requires fact { J.holds parcel }
     ensures passes { ArePassesOf queues.now passes.new.items }
-    ensures put { MatchResult result (λ _. passes.new.items ≡ put_at to parcel passes.old.items)
+    ensures put { MatchResult result (λ _. passes.new.items ≡ changed_at (having_put parcel) to passes.old.items)
         (λ back. (back ≡ parcel) × (passes.new.items ≡ passes.old.items)) }
 {
     queues[to].try_put(&mut passes[to], parcel)
@@ -60,7 +60,7 @@ impl<'a, T, J: Fact<T>> Senders<'a, T, J> {
         requires to { to < length self.old.queues }
         requires fact { J.holds parcel }
         ensures queues { self.new.queues ≡ self.old.queues }
-        ensures put { MatchResult result (λ _. self.new.passes ≡ put_at to parcel self.old.passes)
+        ensures put { MatchResult result (λ _. self.new.passes ≡ changed_at (having_put parcel) to self.old.passes)
             (λ back. (back ≡ parcel) × (self.new.passes ≡ self.old.passes)) }
     {
         put_to(self.queues, &mut self.passes, to, parcel)

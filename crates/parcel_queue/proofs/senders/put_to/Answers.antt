@@ -1,4 +1,4 @@
-use Rattle.std.proofs.Common.{◌<◌, sym, subst, ◌∙◌, arith}
+use Rattle.std.proofs.Common.{◌<◌, subst, arith}
 use Rattle.parcel_queue.specs.Account.{QueueView}
 use Rattle.parcel_queue.specs.Row.{IsPassOf}
 use Rattle.parcel_queue.proofs.RowLemmas.{as_many, at_place, still_passes, still_one, row_after}
@@ -19,16 +19,16 @@ try_put-requires-clause-parts g c = (at_place c.args.queues.now c.args.passes.no
 pub returns-clause-passes : goal.returns-clause-passes
 returns-clause-passes g c =
     let end = at_place c.args.queues.now c.args.passes.now.items c.args.to c.index-queues-to.result c.index_mut.result.now
-        c.requires.passes c.requires.to c.index-queues-to.is c.index_mut.ensures.value in
+    c.requires.passes c.requires.to c.index-queues-to.is c.index_mut.ensures.value in
     still_passes c.args.queues.now c.args.passes.now.items c.args.to c.index-queues-to.result c.try_put.new.pass c.requires.passes c.requires.to
     (subst (λ (q : QueueView). IsPassOf q c.try_put.new.pass) c.index-queues-to.is
-    (still_one c.index-queues-to.result c.index_mut.result.now c.try_put.new.pass c.args.parcel c.try_put.result end.part
+    (still_one c.index-queues-to.result c.index_mut.result.now c.try_put.new.pass c.args.parcel c.try_put.result end
     c.try_put.ensures.queue c.try_put.ensures.put))
 
 pub returns-clause-put : goal.returns-clause-put
 returns-clause-put g c =
     let end = at_place c.args.queues.now c.args.passes.now.items c.args.to c.index-queues-to.result c.index_mut.result.now
-        c.requires.passes c.requires.to c.index-queues-to.is c.index_mut.ensures.value in
+    c.requires.passes c.requires.to c.index-queues-to.is c.index_mut.ensures.value in
     let n = as_many c.args.queues.now c.args.passes.now.items c.requires.passes in let to = c.requires.to in
-    row_after c.args.passes.now.items c.args.to c.index_mut.result.now c.try_put.new.pass c.args.parcel c.try_put.result (omega (arith, n, to))
-    c.index_mut.ensures.value (c.try_put.ensures.queue ∙ sym end.same) c.try_put.ensures.put
+    row_after c.args.passes.now.items c.args.to c.index-queues-to.result c.index_mut.result.now c.try_put.new.pass c.args.parcel c.try_put.result
+    (omega (arith, n, to)) c.index_mut.ensures.value end c.try_put.ensures.queue c.try_put.ensures.put
