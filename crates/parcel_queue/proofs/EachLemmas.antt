@@ -1,5 +1,5 @@
 -- The passes of a row take in others, of which the last one comes first.
-use Rattle.std.proofs.Common.{◌≡◌, ℕ, zero, suc, ◌<◌, List, [], ◌∷◌, ◌++◌, length, refl, ap, sym, ◌∙◌, arith}
+use Rattle.std.proofs.Common.{◌≡◌, ℕ, ◌<◌, List, [], ◌∷◌, ◌++◌, length, refl, ap, sym, ◌∙◌, arith}
 use Rattle.std.specs.Prelude.{⊤}
 use Rattle.parcel_queue.specs.Account.{PassView, QueueView}
 use Rattle.parcel_queue.specs.Row.{ArePassesOf, IsOfPlace, having_joined, changed_at, each_joined}
@@ -41,7 +41,8 @@ module _ {T : Type 0} where
   last_first (o ∷ os) [] p inside = refl
   last_first (o ∷ os) (p' ∷ ps) p inside = ap (λ (l : List (PassView T)). having_joined p' o ∷ l) (last_first os ps p (omega (arith, inside)))
 
-  pub joins_last : (os ps : List (PassView T)) (p : PassView T) {now all left : List (PassView T)} {n : ℕ} → each_joined os all ≡ left → all ≡ ps ++ p ∷ []
+  pub joins_last : (os ps : List (PassView T)) (p : PassView T) {now all left : List (PassView T)} {n : ℕ} → each_joined os all ≡ left
+      → all ≡ ps ++ p ∷ []
       → n ≡ length ps → length ps < length os → now ≡ changed_at (having_joined p) n os → each_joined now ps ≡ left
   joins_last os ps p so is at inside now = ap (λ (l : List (PassView T)). each_joined l ps) (now ∙ ap (λ n. changed_at (having_joined p) n os) at)
       ∙ last_first os ps p inside ∙ ap (each_joined os) (sym is) ∙ so

@@ -6,5 +6,6 @@ pub mod JoinLemmas
 pub mod DeliveryLemmas
 pub mod RowLemmas
 pub mod EachLemmas
+pub mod HandLemmas
 pub mod NumberLemmas
 mod ExampleLemmas

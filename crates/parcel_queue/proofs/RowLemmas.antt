@@ -34,11 +34,12 @@ module _ {T : Type 0} where
     part = subst (λ (a : PassView T). 0 < a.account.parts) (sym is_p) end.part;
   }
 
-  same_fields : (p p' : PassView T) → p.queue ≡ p'.queue → p.account ≡ p'.account → p ≡ p'
-  same_fields p p' q a = ap (λ (t : TableId). record { queue = t; account = p.account }) q ∙ ap (λ (b : Account T). record { queue = p'.queue; account = b }) a
+  pub same_fields : (p p' : PassView T) → p.queue ≡ p'.queue → p.account ≡ p'.account → p ≡ p'
+  same_fields p p' q a =
+      ap (λ (t : TableId). record { queue = t; account = p.account }) q ∙ ap (λ (b : Account T). record { queue = p'.queue; account = b }) a
 
   -- the row with another pass in one place
-  is_changed : (f : PassView T → PassView T) (ps : List (PassView T)) (i : ℕ) (d p : PassView T) → i < length ps → p ≡ f (get_or ps i d)
+  pub is_changed : (f : PassView T → PassView T) (ps : List (PassView T)) (i : ℕ) (d p : PassView T) → i < length ps → p ≡ f (get_or ps i d)
       → set ps i p ≡ changed_at f i ps
   is_changed f [] i d p inside now = absurd (omega (arith, inside))
   is_changed f (p' ∷ ps) zero d p inside now = ap (λ (a : PassView T). a ∷ ps) now
@@ -50,25 +51,31 @@ module _ {T : Type 0} where
   is_same (p' ∷ ps) (suc i) d p inside now = ap (λ (l : List (PassView T)). p' ∷ l) (is_same ps i d p (omega (arith, inside)) now)
 
   -- a pass to the same queue with this account
-  is_now : (q : QueueView) (old new : PassView T) (a : Account T) → IsPassOf q old → new.queue ≡ q.queue → new.account ≡ a → new ≡ record old { account = a }
+  is_now : (q : QueueView) (old new : PassView T) (a : Account T) → IsPassOf q old → new.queue ≡ q.queue → new.account ≡ a
+      → new ≡ record old { account = a }
   is_now q old new a end same now = same_fields new (record old { account = a }) (same ∙ sym end.same) now
 
   -- what a put leaves of its pass, as a pass in the row
   pub still_one : (q : QueueView) (old new : PassView T) (x : T) (r : Result Unit T) → IsPassOf q old → new.queue ≡ q.queue
       → MatchResult r (λ _. new.account ≡ with_put old.account x) (λ back. (back ≡ x) × (new.account ≡ old.account)) → IsPassOf q new
-  still_one q old new x (Ok done) end same now = record { same = same; part = subst (λ (a : Account T). 0 < a.parts) (sym now) end.part }
-  still_one q old new x (Err back) end same now = record { same = same; part = subst (λ (a : Account T). 0 < a.parts) (sym now.1) end.part }
+  still_one q old new x (Ok done) end same now =
+      record { same = same; part = subst (λ (a : Account T). 0 < a.parts) (sym now) end.part }
+  still_one q old new x (Err back) end same now =
+      record { same = same; part = subst (λ (a : Account T). 0 < a.parts) (sym now.1) end.part }
 
-  pub row_after : (ps : List (PassView T)) (i : ℕ) (q : QueueView) (old new : PassView T) (x : T) (r : Result Unit T) → i < length ps → old ≡ get_or ps i old
+  pub row_after : (ps : List (PassView T)) (i : ℕ) (q : QueueView) (old new : PassView T) (x : T) (r : Result Unit T) → i < length ps
+      → old ≡ get_or ps i old
       → IsPassOf q old → new.queue ≡ q.queue
       → MatchResult r (λ _. new.account ≡ with_put old.account x) (λ back. (back ≡ x) × (new.account ≡ old.account))
       → MatchResult r (λ _. set ps i new ≡ changed_at (having_put x) i ps) (λ back. (back ≡ x) × (set ps i new ≡ ps))
   row_after ps i q old new x (Ok done) inside at end same now =
       is_changed (having_put x) ps i old new inside (is_now q old new (with_put old.account x) end same now ∙ ap (having_put x) at)
-  row_after ps i q old new x (Err back) inside at end same now = (now.0, is_same ps i old new inside (is_now q old new old.account end same now.1 ∙ at))
+  row_after ps i q old new x (Err back) inside at end same now =
+      (now.0, is_same ps i old new inside (is_now q old new old.account end same now.1 ∙ at))
 
   -- the same of a pass that took in another
-  pub joined_one : (q : QueueView) (old new other : PassView T) → IsPassOf q old → new.queue ≡ q.queue → new.account ≡ joined old.account other.account → IsPassOf q new
+  pub joined_one : (q : QueueView) (old new other : PassView T) → IsPassOf q old → new.queue ≡ q.queue
+      → new.account ≡ joined old.account other.account → IsPassOf q new
   joined_one q old new other end same now = let part = end.part in
       record { same = same; part = subst (λ (a : Account T). 0 < a.parts) (sym now) (omega (arith, part)) }
 

@@ -27,6 +27,13 @@ module _ {T : Type 0} where
   IsOfPlace (q ∷ queues) zero p = p.queue ≡ q.queue
   IsOfPlace (q ∷ queues) (suc n) p = IsOfPlace queues n p
 
+  -- of the pass at this place another one may be made
+  abbrev pub IsOwnedAt : List QueueView → List (PassView T) → ℕ → Type 0
+  IsOwnedAt [] passes n = ⊥
+  IsOwnedAt (q ∷ queues) [] n = ⊥
+  IsOwnedAt (q ∷ queues) (p ∷ passes) zero = IsOwnerOf q p
+  IsOwnedAt (q ∷ queues) (p ∷ passes) (suc n) = IsOwnedAt queues passes n
+
   -- the pass once this parcel was put with it
   abbrev pub having_put : T → PassView T → PassView T
   having_put x p = record p { account = with_put p.account x }

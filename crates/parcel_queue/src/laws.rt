@@ -1,10 +1,11 @@
 //! What follows for what was put and taken, as functions with nothing to run: a caller cites their
 //! clauses.
 
-ghost use Rattle.std.specs.Prelude.{◌≡◌, ◌+◌, ℕ, List, [], All, Contains, length, map, sum_by};
+ghost use Rattle.std.specs.Prelude.{◌≡◌, ◌<◌, ◌+◌, ℕ, List, [], All, Contains, get_or, length, map, sum_by};
 ghost use Rattle.std.specs.List.Sorted.{IsNonDecreasingBy, IsPermutation, IsStrictlyIncreasing};
-ghost use Rattle.parcel_queue.specs.Account.{Account, PassView, all_joined, unused, with_all_taken};
+ghost use Rattle.parcel_queue.specs.Account.{Account, PassView, QueueView, all_joined, unused, with_all_taken};
 ghost use Rattle.parcel_queue.specs.Delivery.{AreDelivered, IsDelivered};
+ghost use Rattle.parcel_queue.specs.Row.{ArePassesOf, IsPassOf};
 
 /// Where the owner of a queue took in the passes of all its senders, and then took until it found
 /// no parcel, it has what they put: each parcel as often, and no other.
@@ -40,4 +41,13 @@ pub fn parcels_sorted_by_number_are_those_sent<T>()
     ensures { (number : T → ℕ) (sent taken : List T) → IsPermutation sent taken
         → IsStrictlyIncreasing (map number sent) → IsNonDecreasingBy number taken
         → taken ≡ sent }
+{}
+
+/// In a row of passes each is one to the queue in its place.
+pub fn each_pass_of_a_row_is_to_its_queue<T>()
+    ensures count { (queues : List QueueView) (passes : List (PassView T))
+        → ArePassesOf queues passes → length passes ≡ length queues }
+    ensures each { (queues : List QueueView) (passes : List (PassView T)) (at : ℕ)
+        (queue : QueueView) (pass : PassView T) → ArePassesOf queues passes → at < length queues
+        → queue ≡ get_or queues at queue → pass ≡ get_or passes at pass → IsPassOf queue pass }
 {}

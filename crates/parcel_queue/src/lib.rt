@@ -11,10 +11,10 @@ mod senders;
 
 pub use laws::{
     a_delivery_loses_and_repeats_nothing, an_owner_takes_what_its_senders_put,
-    parcels_sorted_by_number_are_those_sent,
+    each_pass_of_a_row_is_to_its_queue, parcels_sorted_by_number_are_those_sent,
 };
 pub use pass::Pass;
 pub use queue::ParcelQueue;
-pub use row::absorb_each;
+pub use row::{a_pass_to_each, absorb_each};
 pub use rule::Fact;
 pub use senders::Senders;

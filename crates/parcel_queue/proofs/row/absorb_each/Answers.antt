@@ -1,4 +1,4 @@
-use Rattle.std.proofs.Common.{◌<◌, refl, sym, subst, ◌∙◌, arith}
+use Rattle.std.proofs.Common.{refl, subst, arith}
 use Rattle.parcel_queue.specs.Row.{IsOfPlace}
 use Rattle.parcel_queue.proofs.RowLemmas.{as_many}
 use Rattle.parcel_queue.proofs.EachLemmas.{Lead, all_lead, last_leads, others_lead, has_place, joins_last}
@@ -9,13 +9,15 @@ loop-other-init g c = (c.requires.owners, all_lead c.args.queues.now c.args.othe
 
 pub absorb_at-requires-clause-at : goal.absorb_at-requires-clause-at
 absorb_at-requires-clause-at g c =
-    let inside = has_place c.args.queues.now c.pop.new.self.items c.in-Some.other (subst (Lead c.args.queues.now) c.in-Some.ensures.items c.loop-other.invariant.1) in
+    let lead = subst (Lead c.args.queues.now) c.in-Some.ensures.items c.loop-other.invariant.1 in
+    let inside = has_place c.args.queues.now c.pop.new.self.items c.in-Some.other lead in
     let ok = c.pop.new.self.ok in omega (arith, inside, c.len-at.ensures, ok)
 
 pub absorb_at-requires-clause-other : goal.absorb_at-requires-clause-other
 absorb_at-requires-clause-other g c =
     subst (λ n. IsOfPlace c.args.queues.now n c.in-Some.other) (let ok = c.pop.new.self.ok in omega (arith, c.len-at.ensures, ok))
-    (last_leads c.args.queues.now c.pop.new.self.items c.in-Some.other (subst (Lead c.args.queues.now) c.in-Some.ensures.items c.loop-other.invariant.1))
+    (last_leads c.args.queues.now c.pop.new.self.items c.in-Some.other
+    (subst (Lead c.args.queues.now) c.in-Some.ensures.items c.loop-other.invariant.1))
 
 pub loop-other-preserved : goal.loop-other-preserved
 loop-other-preserved g c =

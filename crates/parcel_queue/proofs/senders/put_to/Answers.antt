@@ -1,4 +1,4 @@
-use Rattle.std.proofs.Common.{◌<◌, subst, arith}
+use Rattle.std.proofs.Common.{subst, arith}
 use Rattle.parcel_queue.specs.Account.{QueueView}
 use Rattle.parcel_queue.specs.Row.{IsPassOf}
 use Rattle.parcel_queue.proofs.RowLemmas.{as_many, at_place, still_passes, still_one, row_after}
