@@ -1,7 +1,7 @@
 -- The owners' passes, of which the first ones have given a part, and the passes that were made of these.
 use Rattle.std.proofs.Common.{◌≡◌, ℕ, zero, suc, ◌+◌, ◌<◌, List, [], ◌∷◌, ◌++◌, length, get_or, set, map, refl, ap, sym, subst, ◌∙◌, arith}
 use Rattle.parcel_queue.specs.Account.{PassView, QueueView, unused, less_a_part}
-use Rattle.parcel_queue.specs.Row.{IsOwnerOf, AreOwnersOf, ArePassesOf, IsOwnedAt, giving_a_part, with_a_part, changed_at}
+use Rattle.parcel_queue.specs.Row.{IsOwnerOf, ArePassesWith, ArePassesOf, IsOwnedAt, giving_a_part, with_a_part, changed_at}
 use Rattle.parcel_queue.proofs.RowLemmas.{is_changed, same_fields}
 
 module _ {T : Type 0} where
@@ -16,14 +16,14 @@ module _ {T : Type 0} where
   handed (suc n) (p ∷ ps) = with_a_part p ∷ handed n ps
 
   -- as many owners as queues
-  pub as_many_owners : (qs : List QueueView) (ps : List (PassView T)) → AreOwnersOf qs ps → length ps ≡ length qs
+  pub as_many_owners : (qs : List QueueView) (ps : List (PassView T)) → ArePassesWith 1 qs ps → length ps ≡ length qs
   as_many_owners [] [] all = refl
   as_many_owners [] (p ∷ ps) all = absurd all
   as_many_owners (q ∷ qs) [] all = absurd all
   as_many_owners (q ∷ qs) (p ∷ ps) all = ap suc (as_many_owners qs ps all.1)
 
   -- the next one may give a part
-  pub owns_next : (qs : List QueueView) (ps : List (PassView T)) (n : ℕ) → AreOwnersOf qs ps → n < length qs → IsOwnedAt qs (given n ps) n
+  pub owns_next : (qs : List QueueView) (ps : List (PassView T)) (n : ℕ) → ArePassesWith 1 qs ps → n < length qs → IsOwnedAt qs (given n ps) n
   owns_next [] ps n all inside = absurd (omega (arith, inside))
   owns_next (q ∷ qs) [] n all inside = absurd all
   owns_next (q ∷ qs) (p ∷ ps) zero all inside = all.0
@@ -47,7 +47,7 @@ module _ {T : Type 0} where
       → q ≡ get_or qs n q → p ≡ get_or ps n p → IsOwnerOf q p
   at_owner qs ps n q p own is_q is_p = let o = owned qs ps n q p own in record {
     same = ap (λ (a : PassView T). a.queue) is_p ∙ o.same ∙ ap (λ (a : QueueView). a.queue) (sym is_q);
-    parts = subst (λ (a : PassView T). 1 < a.account.parts) (sym is_p) o.parts;
+    more = subst (λ (a : PassView T). 1 < a.account.parts) (sym is_p) o.more;
   }
 
   pub given_more : (ps : List (PassView T)) (n : ℕ) → n < length ps → changed_at giving_a_part n (given n ps) ≡ given (n + 1) ps
@@ -77,23 +77,24 @@ module _ {T : Type 0} where
   handed_all (p ∷ ps) zero e = absurd (omega (arith, e))
   handed_all (p ∷ ps) (suc n) e = ap (λ (k : List (PassView T)). with_a_part p ∷ k) (handed_all ps n (omega (arith, e)))
 
-  pub owners_pass : (qs : List QueueView) (ps : List (PassView T)) → AreOwnersOf qs ps → ArePassesOf qs ps
-  owners_pass [] [] all = tt
-  owners_pass [] (p ∷ ps) all = absurd all
-  owners_pass (q ∷ qs) [] all = absurd all
-  owners_pass (q ∷ qs) (p ∷ ps) all = let more = all.0.parts in (record { same = all.0.same; part = omega (arith, more) }, owners_pass qs ps all.1)
+  -- who has more than some parts has more than one part fewer, and still has that once a part is given
+  pub fewer : (m : ℕ) (qs : List QueueView) (ps : List (PassView T)) → ArePassesWith (suc m) qs ps → ArePassesWith m qs ps
+  fewer m [] [] all = tt
+  fewer m [] (p ∷ ps) all = absurd all
+  fewer m (q ∷ qs) [] all = absurd all
+  fewer m (q ∷ qs) (p ∷ ps) all = let more = all.0.more in (record { same = all.0.same; more = omega (arith, more) }, fewer m qs ps all.1)
 
-  pub given_pass : (qs : List QueueView) (ps : List (PassView T)) → AreOwnersOf qs ps → ArePassesOf qs (map giving_a_part ps)
-  given_pass [] [] all = tt
-  given_pass [] (p ∷ ps) all = absurd all
-  given_pass (q ∷ qs) [] all = absurd all
-  given_pass (q ∷ qs) (p ∷ ps) all = let more = all.0.parts in (record { same = all.0.same; part = omega (arith, more) }, given_pass qs ps all.1)
+  pub given_pass : (m : ℕ) (qs : List QueueView) (ps : List (PassView T)) → ArePassesWith (suc m) qs ps → ArePassesWith m qs (map giving_a_part ps)
+  given_pass m [] [] all = tt
+  given_pass m [] (p ∷ ps) all = absurd all
+  given_pass m (q ∷ qs) [] all = absurd all
+  given_pass m (q ∷ qs) (p ∷ ps) all = let more = all.0.more in (record { same = all.0.same; more = omega (arith, more) }, given_pass m qs ps all.1)
 
-  pub handed_pass : (qs : List QueueView) (ps : List (PassView T)) → AreOwnersOf qs ps → ArePassesOf qs (map with_a_part ps)
+  pub handed_pass : (qs : List QueueView) (ps : List (PassView T)) → ArePassesWith 1 qs ps → ArePassesOf qs (map with_a_part ps)
   handed_pass [] [] all = tt
   handed_pass [] (p ∷ ps) all = absurd all
   handed_pass (q ∷ qs) [] all = absurd all
-  handed_pass (q ∷ qs) (p ∷ ps) all = (record { same = all.0.same; part = omega arith }, handed_pass qs ps all.1)
+  handed_pass (q ∷ qs) (p ∷ ps) all = (record { same = all.0.same; more = omega arith }, handed_pass qs ps all.1)
 
   -- an owner that gave a part, in its place, and the pass that was made of it
   pub gave : (ps : List (PassView T)) (n : ℕ) (q : QueueView) (old new : PassView T) → n < length ps → old ≡ get_or ps n old → IsOwnerOf q old

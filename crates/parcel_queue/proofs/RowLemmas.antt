@@ -31,7 +31,7 @@ module _ {T : Type 0} where
       → q ≡ get_or qs i q → p ≡ get_or ps i p → IsPassOf q p
   at_place qs ps i q p all inside is_q is_p = let end = in_place qs ps i q p all inside in record {
     same = ap (λ (a : PassView T). a.queue) is_p ∙ end.same ∙ ap (λ (a : QueueView). a.queue) (sym is_q);
-    part = subst (λ (a : PassView T). 0 < a.account.parts) (sym is_p) end.part;
+    more = subst (λ (a : PassView T). 0 < a.account.parts) (sym is_p) end.more;
   }
 
   pub same_fields : (p p' : PassView T) → p.queue ≡ p'.queue → p.account ≡ p'.account → p ≡ p'
@@ -59,9 +59,9 @@ module _ {T : Type 0} where
   pub still_one : (q : QueueView) (old new : PassView T) (x : T) (r : Result Unit T) → IsPassOf q old → new.queue ≡ q.queue
       → MatchResult r (λ _. new.account ≡ with_put old.account x) (λ back. (back ≡ x) × (new.account ≡ old.account)) → IsPassOf q new
   still_one q old new x (Ok done) end same now =
-      record { same = same; part = subst (λ (a : Account T). 0 < a.parts) (sym now) end.part }
+      record { same = same; more = subst (λ (a : Account T). 0 < a.parts) (sym now) end.more }
   still_one q old new x (Err back) end same now =
-      record { same = same; part = subst (λ (a : Account T). 0 < a.parts) (sym now.1) end.part }
+      record { same = same; more = subst (λ (a : Account T). 0 < a.parts) (sym now.1) end.more }
 
   pub row_after : (ps : List (PassView T)) (i : ℕ) (q : QueueView) (old new : PassView T) (x : T) (r : Result Unit T) → i < length ps
       → old ≡ get_or ps i old
@@ -76,8 +76,8 @@ module _ {T : Type 0} where
   -- the same of a pass that took in another
   pub joined_one : (q : QueueView) (old new other : PassView T) → IsPassOf q old → new.queue ≡ q.queue
       → new.account ≡ joined old.account other.account → IsPassOf q new
-  joined_one q old new other end same now = let part = end.part in
-      record { same = same; part = subst (λ (a : Account T). 0 < a.parts) (sym now) (omega (arith, part)) }
+  joined_one q old new other end same now = let more = end.more in
+      record { same = same; more = subst (λ (a : Account T). 0 < a.parts) (sym now) (omega (arith, more)) }
 
   pub row_joined : (ps : List (PassView T)) (i : ℕ) (q : QueueView) (old new other : PassView T) → i < length ps → old ≡ get_or ps i old
       → IsPassOf q old → new.queue ≡ q.queue → new.account ≡ joined old.account other.account → set ps i new ≡ changed_at (having_joined other) i ps

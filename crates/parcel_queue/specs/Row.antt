@@ -3,23 +3,25 @@ use Rattle.std.specs.Prelude.{◌≡◌, ℕ, zero, suc, ◌<◌, List, [], ◌�
 use Rattle.std.specs.List.{AllZip}
 use Rattle.parcel_queue.specs.Account.{PassView, QueueView, unused, less_a_part, with_put, joined}
 
--- a pass to this queue that may be used
-pub record IsPassOf {T : Type 0} (queue : QueueView) (pass : PassView T) : Type 0 where
+-- a pass to this queue with more than so many parts
+pub record IsPassWith {T : Type 0} (parts : ℕ) (queue : QueueView) (pass : PassView T) : Type 0 where
   pub same : pass.queue ≡ queue.queue
-  pub part : 0 < pass.account.parts
-
--- one of which another pass may be made
-pub record IsOwnerOf {T : Type 0} (queue : QueueView) (pass : PassView T) : Type 0 where
-  pub same : pass.queue ≡ queue.queue
-  pub parts : 1 < pass.account.parts
+  pub more : parts < pass.account.parts
 
 module _ {T : Type 0} where
-  -- a pass to each of the queues
-  abbrev pub ArePassesOf : List QueueView → List (PassView T) → Type 0
-  ArePassesOf queues passes = AllZip IsPassOf queues passes
+  -- one that may be used, and one of which another may be made
+  abbrev pub IsPassOf : QueueView → PassView T → Type 0
+  IsPassOf queue pass = IsPassWith 0 queue pass
 
-  abbrev pub AreOwnersOf : List QueueView → List (PassView T) → Type 0
-  AreOwnersOf queues passes = AllZip IsOwnerOf queues passes
+  abbrev pub IsOwnerOf : QueueView → PassView T → Type 0
+  IsOwnerOf queue pass = IsPassWith 1 queue pass
+
+  -- to each of the queues a pass with more than so many parts
+  abbrev pub ArePassesWith : ℕ → List QueueView → List (PassView T) → Type 0
+  ArePassesWith parts queues passes = AllZip (IsPassWith parts) queues passes
+
+  abbrev pub ArePassesOf : List QueueView → List (PassView T) → Type 0
+  ArePassesOf queues passes = ArePassesWith 0 queues passes
 
   -- the pass is one to the queue at this place
   abbrev pub IsOfPlace : List QueueView → ℕ → PassView T → Type 0

@@ -1,11 +1,11 @@
 //! What follows for what was put and taken, as functions with nothing to run: a caller cites their
 //! clauses.
 
-ghost use Rattle.std.specs.Prelude.{◌≡◌, ◌<◌, ◌+◌, ℕ, List, [], All, Contains, get_or, length, map, sum_by};
+ghost use Rattle.std.specs.Prelude.{◌≡◌, ◌<◌, ◌+◌, ℕ, List, [], All, Contains, get_or, length, map, set, suc, sum_by};
 ghost use Rattle.std.specs.List.Sorted.{IsNonDecreasingBy, IsPermutation, IsStrictlyIncreasing};
 ghost use Rattle.parcel_queue.specs.Account.{Account, PassView, QueueView, all_joined, unused, with_all_taken};
 ghost use Rattle.parcel_queue.specs.Delivery.{AreDelivered, IsDelivered};
-ghost use Rattle.parcel_queue.specs.Row.{ArePassesOf, IsPassOf};
+ghost use Rattle.parcel_queue.specs.Row.{ArePassesOf, ArePassesWith, IsPassOf};
 
 /// Where the owner of a queue took in the passes of all its senders, and then took until it found
 /// no parcel, it has what they put: each parcel as often, and no other.
@@ -43,11 +43,17 @@ pub fn parcels_sorted_by_number_are_those_sent<T>()
         → taken ≡ sent }
 {}
 
-/// In a row of passes each is one to the queue in its place.
+/// In a row of passes each is one to the queue in its place, and a row stays one where a pass
+/// changes. Who has more than some parts has more than fewer.
 pub fn each_pass_of_a_row_is_to_its_queue<T>()
     ensures count { (queues : List QueueView) (passes : List (PassView T))
         → ArePassesOf queues passes → length passes ≡ length queues }
     ensures each { (queues : List QueueView) (passes : List (PassView T)) (at : ℕ)
         (queue : QueueView) (pass : PassView T) → ArePassesOf queues passes → at < length queues
         → queue ≡ get_or queues at queue → pass ≡ get_or passes at pass → IsPassOf queue pass }
+    ensures kept { (queues : List QueueView) (passes : List (PassView T)) (at : ℕ)
+        (queue : QueueView) (pass : PassView T) → ArePassesOf queues passes → at < length queues
+        → IsPassOf (get_or queues at queue) pass → ArePassesOf queues (set passes at pass) }
+    ensures fewer { (parts : ℕ) (queues : List QueueView) (passes : List (PassView T))
+        → ArePassesWith (suc parts) queues passes → ArePassesWith parts queues passes }
 {}

@@ -1,8 +1,8 @@
 //! A row of queues, one for each worker: passes to all of them, made of the owners' passes and
 //! joined to these again.
 
-ghost use Rattle.std.specs.Prelude.{◌≡◌, ◌<◌, IfOk, get_or, if◌then◌else◌, is_ok, length, map};
-ghost use Rattle.parcel_queue.specs.Row.{AreOwnersOf, ArePassesOf, IsOfPlace, IsOwnedAt, changed_at, each_joined, giving_a_part, having_joined, with_a_part};
+ghost use Rattle.std.specs.Prelude.{◌≡◌, ◌<◌, ℕ, suc, IfOk, get_or, if◌then◌else◌, is_ok, length, map};
+ghost use Rattle.parcel_queue.specs.Row.{ArePassesOf, ArePassesWith, IsOfPlace, IsOwnedAt, changed_at, each_joined, giving_a_part, having_joined, with_a_part};
 
 use crate::pass::Pass;
 use crate::queue::ParcelQueue;
@@ -63,10 +63,11 @@ pub fn a_pass_to_each<T, J: Fact<T>>(
     queues: &[ParcelQueue<T, J>],
     owners: &mut Vec<Pass<T>>,
 ) -> Result<Vec<Pass<T>>, AllocError>
-    requires owners { AreOwnersOf queues.now owners.old.items }
+    requires owners { ArePassesWith 1 queues.now owners.old.items }
     ensures given { owners.new.items ≡ (if is_ok result then map giving_a_part owners.old.items else owners.old.items) }
     ensures passes { IfOk result (λ passes. passes.items ≡ map with_a_part owners.old.items) }
-    ensures owners { ArePassesOf queues.now owners.new.items }
+    ensures parts { (parts : ℕ) → ArePassesWith (suc parts) queues.now owners.old.items
+        → ArePassesWith parts queues.now owners.new.items }
     ensures all { IfOk result (λ passes. ArePassesOf queues.now passes.items) }
 {
     let mut passes = Vec::with_capacity(alloc, queues.len())?;

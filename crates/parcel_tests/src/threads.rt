@@ -24,7 +24,7 @@ pub const ALL: usize = 4_000;
 const ROOM: usize = 8;
 
 /// How often a thread looks into a queue, at most.
-const MOST_LOOKS: u64 = 100_000_000;
+pub const MOST_LOOKS: u64 = 100_000_000;
 
 /// What a thread begins with: it sends letters from this number on, or it takes.
 #[derive(Drop)]

@@ -17,7 +17,7 @@ absorb-requires-clause-queue g c = (
 
 pub absorb-requires-clause-parts : goal.absorb-requires-clause-parts
 absorb-requires-clause-parts g c = (at_place c.args.queues.now c.args.owners.now.items c.args.at c.index-queues-at.result c.index_mut.result.now
-    c.requires.owners c.requires.at c.index-queues-at.is c.index_mut.ensures.value).part
+    c.requires.owners c.requires.at c.index-queues-at.is c.index_mut.ensures.value).more
 
 pub returns-clause-owners : goal.returns-clause-owners
 returns-clause-owners g c =

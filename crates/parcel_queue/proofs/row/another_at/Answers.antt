@@ -12,7 +12,7 @@ another-requires-clause-queue g c = (at_owner c.args.queues.now c.args.owners.no
 
 pub another-requires-clause-parts : goal.another-requires-clause-parts
 another-requires-clause-parts g c = (at_owner c.args.queues.now c.args.owners.now.items c.args.at c.index-queues-at.result c.index_mut.result.now
-    c.requires.owner c.index-queues-at.is c.index_mut.ensures.value).parts
+    c.requires.owner c.index-queues-at.is c.index_mut.ensures.value).more
 
 pub returns-clause-changed : goal.returns-clause-changed
 returns-clause-changed g c =

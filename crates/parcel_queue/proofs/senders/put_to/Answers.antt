@@ -14,7 +14,7 @@ try_put-requires-clause-queue g c = (at_place c.args.queues.now c.args.passes.no
 
 pub try_put-requires-clause-parts : goal.try_put-requires-clause-parts
 try_put-requires-clause-parts g c = (at_place c.args.queues.now c.args.passes.now.items c.args.to c.index-queues-to.result c.index_mut.result.now
-    c.requires.passes c.requires.to c.index-queues-to.is c.index_mut.ensures.value).part
+    c.requires.passes c.requires.to c.index-queues-to.is c.index_mut.ensures.value).more
 
 pub returns-clause-passes : goal.returns-clause-passes
 returns-clause-passes g c =
