@@ -3,7 +3,6 @@
 ghost use Rattle.std.specs.Prelude.{◌≡◌, ◌<◌, [], ◌∷◌, All, IfOk, OnOk, length};
 ghost use Rattle.parcel_queue.specs.Account.{all_parts, unused};
 ghost use Rattle.parcel_queue.specs.Row.{ArePassesOf, ArePassesWith};
-ghost use Rattle.parcel_tests.specs.Sending.{AreOf};
 
 use crate::letters::{Letter, Line, OfRun, Run};
 use crate::threads::{ALL, LETTERS, MOST_LOOKS, are_all};
@@ -144,9 +143,9 @@ fn collect<J: Run, R: Wait>(
 ) -> Result<(), AllocError>
     requires owners { ArePassesOf queues.now owners.old.items }
     requires at { at < length queues.now }
-    requires letters { AreOf J.day letters.old.items }
+    requires letters { All (λ letter. letter.day ≡ J.day) letters.old.items }
     ensures owners { ArePassesOf queues.now owners.new.items }
-    ensures letters { AreOf J.day letters.new.items }
+    ensures letters { All (λ letter. letter.day ≡ J.day) letters.new.items }
 {
     each_pass_of_a_row_is_to_its_queue::<Letter>();
     queues[at].take_all(rt, &mut owners[at], letters)

@@ -3,7 +3,7 @@
 ghost use Rattle.std.specs.Prelude.{◌≡◌, ◌<◌, ◌+◌, [], ◌∷◌, All, IfOk, IsTrue, map, sum_by};
 ghost use Rattle.parcel_queue.specs.Account.{all_parts, unused};
 ghost use Rattle.parcel_queue.specs.Delivery.{AreDelivered};
-ghost use Rattle.parcel_tests.specs.Sending.{AreOf, IsFreshPassOf, IsSenderOf};
+ghost use Rattle.parcel_tests.specs.Sending.{IsFreshPassOf, IsSenderOf};
 
 use crate::letters::{Letter, Line, Run};
 use crate::threads::{ALL, LETTERS, are_all, send};

@@ -2,7 +2,7 @@
 
 ghost use Rattle.std.specs.Prelude.{◌≡◌, ◌<◌, All, IfErr, IfOk};
 ghost use Rattle.parcel_queue.specs.Account.{all_parts, unused};
-ghost use Rattle.parcel_tests.specs.Sending.{AreOf, IsFreshPassOf, IsPassOf, IsSenderOf};
+ghost use Rattle.parcel_tests.specs.Sending.{IsFreshPassOf, IsPassOf, IsSenderOf};
 
 use crate::letters::{Letter, Line, Run};
 use parcel_queue::Pass;
@@ -70,9 +70,9 @@ pub fn send<J: Run>(
     requires pass { IsSenderOf line.now pass.old }
     requires day { J.day ≡ day }
     requires first { first < 10000 }
-    requires letters { AreOf J.day letters.old.items }
+    requires letters { All (λ letter. letter.day ≡ J.day) letters.old.items }
     ensures pass { IsSenderOf line.now pass.new }
-    ensures letters { AreOf J.day letters.new.items }
+    ensures letters { All (λ letter. letter.day ≡ J.day) letters.new.items }
 {
     for number in first..first + LETTERS {
         letters.reserve(1)?;
@@ -91,9 +91,9 @@ fn receive<J: Run, R: Wait>(
     letters: &mut Vec<Letter>,
 ) -> Result<(), AllocError>
     requires pass { IsPassOf line.now pass.old }
-    requires letters { AreOf J.day letters.old.items }
+    requires letters { All (λ letter. letter.day ≡ J.day) letters.old.items }
     ensures pass { IsPassOf line.now pass.new }
-    ensures letters { AreOf J.day letters.new.items }
+    ensures letters { All (λ letter. letter.day ≡ J.day) letters.new.items }
 {
     for _ in 0..MOST_LOOKS {
         if letters.len() >= ALL {
@@ -119,7 +119,7 @@ fn work<J: Run, R: Wait>(
     requires job { IsFreshPassOf line.now job.pass × (job.first < 10000) }
     requires day { J.day ≡ day }
     ensures pass { IfOk result (λ w. IsPassOf line.now w.pass) }
-    ensures letters { IfOk result (λ w. AreOf J.day w.letters.items) }
+    ensures letters { IfOk result (λ w. All (λ letter. letter.day ≡ J.day) w.letters.items) }
 {
     let Job {
         mut pass,
@@ -145,14 +145,14 @@ fn work_together<J: Run + Sync, R: Threads + Wait + Sync>(
 ) -> Result<Vec<Result<Worked, AllocError>>, AllocError>
     requires jobs { All (λ job. IsFreshPassOf line.now job.pass × (job.first < 10000)) jobs.items }
     requires day { J.day ≡ day }
-    ensures passes { IfOk result (λ all. All (λ one. IfOk one (λ w. IsPassOf line.now w.pass × AreOf J.day w.letters.items)) all.items) }
+    ensures passes { IfOk result (λ all. All (λ one. IfOk one (λ w. IsPassOf line.now w.pass × All (λ letter. letter.day ≡ J.day) w.letters.items)) all.items) }
 {
     let worked = thread::map_vec(
         rt,
         jobs,
         &|job: Job| -> Result<Worked, AllocError>
             requires { (J.day ≡ day) × IsFreshPassOf line.now job.pass × (job.first < 10000) }
-            ensures { IfOk result (λ w. IsPassOf line.entry.now w.pass × AreOf J.day w.letters.items) }
+            ensures { IfOk result (λ w. IsPassOf line.entry.now w.pass × All (λ letter. letter.day ≡ J.day) w.letters.items) }
         { work::<J, R>(rt, alloc, line, job, day) },
     )?;
     Ok(worked)
@@ -199,9 +199,9 @@ fn gather<J: Run>(
     _line: &Line<J>,
     mut worked: Vec<Result<Worked, AllocError>>,
 ) -> Result<Gathered, AllocError>
-    requires { All (λ one. IfOk one (λ w. IsPassOf _line.now w.pass × AreOf J.day w.letters.items)) worked.items }
+    requires { All (λ one. IfOk one (λ w. IsPassOf _line.now w.pass × All (λ letter. letter.day ≡ J.day) w.letters.items)) worked.items }
     ensures passes { IfOk result (λ g. All (λ pass. pass.queue ≡ _line.now.queue) g.passes.items) }
-    ensures letters { IfOk result (λ g. AreOf J.day g.letters.items) }
+    ensures letters { IfOk result (λ g. All (λ letter. letter.day ≡ J.day) g.letters.items) }
 {
     let mut passes = Vec::with_capacity(alloc, worked.len())?;
     let mut letters = Vec::new(alloc);
@@ -223,7 +223,7 @@ fn run<J: Run + Sync, R: Threads + Wait + Sync>(
     day: u64,
 ) -> Result<Vec<Letter>, AllocError>
     requires { J.day ≡ day }
-    ensures { IfOk result (λ letters. AreOf day letters.items) }
+    ensures { IfOk result (λ letters. All (λ letter. letter.day ≡ day) letters.items) }
 {
     let (line, mut owner) = Line::<J>::new(alloc, ROOM)?;
     let jobs = deal(alloc, &line, &mut owner)?;
@@ -243,7 +243,7 @@ fn run_on<R: Threads + Wait + Sync>(
     alloc: Global,
     day: u64,
 ) -> Result<Vec<Letter>, AllocError>
-    ensures { IfOk result (λ letters. AreOf day letters.items) }
+    ensures { IfOk result (λ letters. All (λ letter. letter.day ≡ day) letters.items) }
 {
     run::<Brand, R>(rt, alloc, day)
 }

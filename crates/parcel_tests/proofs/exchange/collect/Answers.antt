@@ -1,4 +1,4 @@
-use Rattle.std.proofs.Common.{◌<◌, ap, sym, subst}
+use Rattle.std.proofs.Common.{◌<◌, sym, subst}
 use Rattle.parcel_queue.specs.Account.{Account, QueueView}
 use Rattle.parcel_queue.specs.Row.{IsPassOf}
 use Rattle.parcel_tests.proofs.exchange.collect.Goals as goal
