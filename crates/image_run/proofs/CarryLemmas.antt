@@ -1,5 +1,6 @@
 -- What a run over the words that recovery leaves does, it does over the image.
 use Rattle.std.proofs.Common.{◌≡◌, ℕ, ◌<◌, Bool, List, refl, sym, subst, ◌∙◌, inl, inr, arith}
+use Rattle.std.proofs.Math.Nat.{mod-lt}
 use Rattle.std.specs.BTreeMap.{BTreeMap, get}
 use Rattle.std.specs.Ordering.{nat_cmp}
 use Rattle.heap_model.specs.declared.block.Block.{Block}
@@ -11,11 +12,13 @@ use Rattle.heap_model.specs.Recovery.{in_header, is_reserved}
 use Rattle.heap_model.proofs.ReachLemmas.{reach_kept, more_roots, reach_by_kinds}
 use Rattle.heap_recover.proofs.UnchangedLemmas.{words_unchanged, roots_unchanged}
 use Rattle.dict_model.specs.Links.{shards, dict_links}
+use Rattle.dict_model.specs.Nodes.{shard_of}
 use Rattle.dict_model.specs.Requests.{Request}
 use Rattle.dict_model.specs.Shards.{Map, MapOf}
 use Rattle.dict_model.proofs.ShardLemmas.{one_map_of}
 use Rattle.dictionary.specs.Reading.{AreMaps, RecoversTo}
 use Rattle.dictionary.proofs.SameLemmas.{traced_alike, kinds_kept, map_kept}
+use Rattle.run_model.specs.Arrivals.{IsWholeMap}
 use Rattle.run_model.specs.Runs.{IsOtherRoot}
 use Rattle.run_model.specs.Needs.{ListsKeysOf}
 use Rattle.worker_run.specs.Said.{Told}
@@ -56,6 +59,12 @@ module _ (old new : Image) (to : RecoversTo old new) (maps : List (BTreeMap ℕ 
   others_reach b kind reached = reach_by_kinds new (kinds_of old) (kinds_of new) dict_links (λ root below. sym (kinds_kept old new to root below)) b kind
       (reach_kept old new IsOtherRoot (kinds_of old) dict_links others_alike b kind reached)
 
+  -- the whole map of the image is that of the words
+  whole_of_words : (whole : Map) → IsWholeMap old whole → IsWholeMap new whole
+  whole_of_words whole is = record {
+    each = λ key. let at = is.each key in (at.0, map_of_words (shard_of key) at.0 (mod-lt key (omega arith)) at.1, at.2);
+  }
+
   carried : (requests : List Request) (workers budget : ℕ) (told : List Told) (stopped : Bool) (left : List ℕ)
       → Leaves new requests workers budget told stopped left → Leaves old requests workers budget told stopped left
   carried requests workers budget told stopped left leaves = record {
@@ -74,8 +83,22 @@ module _ (old new : Image) (to : RecoversTo old new) (maps : List (BTreeMap ℕ 
       cause = λ worker low before later key value is.
           let more = leaves.full.cause worker low before later key value is in
           omega (arith, more, (to.recovered.same capacity_word (in_header capacity_word (inr (inr (inl refl))))), used_stays);
+      move_cause = λ worker low before later key target is.
+          let more = leaves.full.move_cause worker low before later key target is in
+          omega (arith, more, (to.recovered.same capacity_word (in_header capacity_word (inr (inr (inl refl))))), used_stays);
+      no_table = λ key target there.
+          sym (roots_unchanged old new (kinds_of old) dict_links to.recovered (shard_of target) (let small : shard_of target < shards = mod-lt target (omega arith) in omega (arith, small)))
+          ∙ leaves.full.no_table key target there;
+      alike = leaves.full.alike;
     };
-    maps = record { each = λ shard map below is. leaves.maps.each shard map below (map_of_words shard map below is) };
+    maps = record {
+      arrived = leaves.maps.arrived;
+      have_arrived = record {
+        all = λ going whole is. leaves.maps.have_arrived.all going whole (whole_of_words whole is);
+        none = leaves.maps.have_arrived.none;
+      };
+      each = λ whole is_whole shard map below is. leaves.maps.each whole (whole_of_words whole is_whole) shard map below (map_of_words shard map below is);
+    };
     header = record {
       well_formed = leaves.header.well_formed;
       version_is = leaves.header.version_is;
