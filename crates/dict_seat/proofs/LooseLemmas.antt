@@ -25,8 +25,8 @@ use Rattle.dict_seat.specs.Trails.{pointer_to, IsSettling, Trail, HasCome}
 use Rattle.dict_seat.specs.Quiet.{Grown, FollowsLink}
 use Rattle.dict_seat.specs.Changes.{MayChange, Changes, IsReadPlace}
 use Rattle.dict_seat.specs.Removal.{IsShard}
-use Rattle.dict_seat.specs.Moving.{IsNodeOf, MayBring}
-use Rattle.dict_seat.specs.Nodes.{StoresWithin, HasNode, WritesHead, head_of}
+use Rattle.dict_seat.specs.Moving.{IsNodeOf, MayBring, head_of}
+use Rattle.dict_seat.specs.Nodes.{StoresWithin, HasNode, WritesHead}
 use Rattle.dict_seat.specs.Puts.{IsMissing}
 use Rattle.dict_seat.proofs.GrownLemmas.{are_placed, root_reach, link_reach, keeps_none, gives_grown, reached_before}
 use Rattle.dict_seat.proofs.FreedLemmas.{only_freed, gives_freed, reached_freed}
@@ -171,8 +171,9 @@ module _ (n : Block) (v : View) (seat : IsSeat v) (held : Contains v.held n) whe
     less_all all = all_freed v (without n v) n seat less_freed refl held unreached less_gone all
 
     -- what a request leaves of the seat without the block, it leaves of the seat with it, but for the block's words
-    pub bring_left : (shard : ℕ) (after : Map → Map) (w : View) → IsShard v shard → MayChange shard after (without n v) w → MayBring n shard after v w
-    bring_left shard after w is change = record {
+    pub bring_left : (shard : ℕ) (after : Map → Map) (w : View) → IsShard v shard → MayChange shard after (without n v) w
+        → Contains w.held n → ((word : ℕ) → IsIn n word → (IsIn (head_of n) word → ⊥) → KeepsWord v w word) → MayBring n shard after v w
+    bring_left shard after w is change stays value = record {
       either = λ map gives. change.either map (less_gives shard is.owned is.kind_is map gives);
       only = change.only;
       table = record { root = change.table.root };
@@ -184,6 +185,8 @@ module _ (n : Block) (v : View) (seat : IsSeat v) (held : Contains v.held n) whe
             let r = change.others.blocks a (less_held a h differs) (λ kind reached. none kind (reached_freed v (without n v) n seat less_freed refl only held unreached shard a kind reached)) in
             (r.0, λ word inside. keeps_back n v w word (r.1 word inside));
       };
+      stays = stays;
+      value = value;
     }
 
     pub brought : (shard : ℕ) (after : Map → Map) (w : View) → IsShard v shard → Changes shard after (without n v) w → Changes shard after v w

@@ -12,7 +12,7 @@ use Rattle.heap_seat.specs.Words.{MayRead, KeepsWord}
 use Rattle.heap_seat.specs.Tickets.{Runs, Stops}
 use Rattle.heap_seat.specs.Calls.{SameRefusals}
 use Rattle.heap_seat.specs.Rows.{IsRow}
-use Rattle.dict_model.specs.Layout.{value_index}
+use Rattle.dict_model.specs.Layout.{length_index, value_index}
 use Rattle.dict_model.specs.Nodes.{largest_value, shard_of, value_words, value_in, table_bytes}
 use Rattle.dict_model.specs.Requests.{without_key}
 use Rattle.dict_model.specs.Shards.{Map}
@@ -65,12 +65,19 @@ pub record KeepsOthersBut (b : Block) (shard : ℕ) (v w : View) : Type 0 where
   pub blocks : (a : Block) → Contains v.held a → a ≢ b → ((kind : ℕ) → MayReach v shard a kind → ⊥)
       → Contains w.held a × ((word : ℕ) → IsIn a word → KeepsWord v w word)
 
+-- the words of a node that change as it goes to another bucket, its link and its key, as a block
+abbrev pub head_of : Block → Block
+head_of b = record { first_word = b.first_word; words = length_index }
+
 -- what a bring leaves wherever it ends: every mixture gives the map before or the map after, only held blocks are reached, the shard keeps its table, and what other roots have stays
+-- the block is held still, and of its words only the link and the key may have been stored to: it has its value still
 pub record MayBring (b : Block) (shard : ℕ) (after : Map → Map) (v w : View) : Type 0 where
   pub either : (map : Map) → GivesMap v shard map → GivesEither w shard map (after map)
   pub only : ReachesOnlyHeld w
   pub table : KeepsTable shard v w
   pub others : KeepsOthersBut b shard v w
+  pub stays : Contains w.held b
+  pub value : (word : ℕ) → IsIn b word → (IsIn (head_of b) word → ⊥) → KeepsWord v w word
 
 -- at most so many small calls, four for each key of the shard, and so many large ones, which take no superblock
 abbrev pub MovesFew : ℕ → ℕ → View → View → Type 0

@@ -10,7 +10,7 @@ use Rattle.heap_seat.specs.Calls.{SameRefusals}
 use Rattle.heap_seat.specs.Rows.{IsRow, Settles}
 use Rattle.dict_model.specs.Layout.{next_index, key_index, length_index, value_index}
 use Rattle.dict_model.specs.Nodes.{value_words}
-use Rattle.dict_seat.specs.Moving.{IsNodeOf}
+use Rattle.dict_seat.specs.Moving.{IsNodeOf, head_of}
 use Rattle.dict_seat.specs.Reached.{Reading}
 use Rattle.dict_seat.specs.Trails.{IsDurableAt, IsSettling}
 
@@ -81,11 +81,7 @@ pub record HasNode (b : Block) (key next : ℕ) (value : List ℕ) (v w : View) 
   pub next_is : IsDurableAt w (b.first_word + next_index) next
   pub key_is : IsDurableAt w (b.first_word + key_index) key
 
--- the words of a node that change as it goes to another bucket, its link and its key, as a block
-abbrev pub head_of : Block → Block
-head_of b = record { first_word = b.first_word; words = length_index }
-
--- they were written and are durable, and so is each other word whose write-back was pending
+-- the link and the key of a node were written and are durable, and so is each other word whose write-back was pending
 pub record WritesHead (b : Block) (key next : ℕ) (v w : View) : Type 0 where
   pub runs : Runs v w
   pub settles : (word : ℕ) → IsOwn v.held v.roots word → (IsIn (head_of b) word → ⊥) → Contains v.pending word → IsDurable w word

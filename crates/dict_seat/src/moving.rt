@@ -146,9 +146,11 @@ impl Shard {
             SearchEnd::NoTable => Ok(None),
         }
     }
+
     /// Sets a key to the value of a node that is held and to which no root leads, as `take` gives
-    /// it and as it comes from another seat. The value is not copied; a node that the key had is
-    /// freed.
+    /// it and as it comes from another seat. The value is not copied: the block itself is what
+    /// holds it then, and of its words only the link and the key are stored to. A node that the
+    /// key had is freed.
     ///
     /// After `Stopped` a crash leaves the map as before or with the key set.
     pub fn bring<H: HeapSeat>(&mut self, seat: &mut H, key: u64, node: Block) -> Result<(), Stopped>

@@ -131,7 +131,7 @@ returns-in-Found-clause-crash g c =
     let u = view c.search.new.seat in
     let seat = g.met.H.HeapSeat.seat c.search.new.seat in
     let kinds = quiet.calls.goes_on.kinds in
-    λ value node. bring_after v u c.args.node seat quiet.unchanged kinds (shard_of c.args.key) (λ map. with_key map c.args.key value) (view c.bring_over.new.seat) c.requires.shard.only
+    λ value node. bring_after v u c.args.node seat quiet.unchanged kinds (shard_of c.args.key) (λ map. with_key map c.args.key value) (view c.bring_over.new.seat) c.requires.shard.only c.requires.loose.held
     (c.bring_over.ensures.crash value (node_still v u c.args.node seat quiet.unchanged kinds value c.requires.loose.held node))
 
 pub returns-in-Missing-clause-ok : goal.returns-in-Missing-clause-ok
@@ -166,7 +166,7 @@ returns-in-Missing-clause-crash g c =
     let u = view c.search.new.seat in
     let seat = g.met.H.HeapSeat.seat c.search.new.seat in
     let kinds = quiet.calls.goes_on.kinds in
-    λ value node. bring_after v u c.args.node seat quiet.unchanged kinds (shard_of c.args.key) (λ map. with_key map c.args.key value) (view c.bring_first.new.seat) c.requires.shard.only
+    λ value node. bring_after v u c.args.node seat quiet.unchanged kinds (shard_of c.args.key) (λ map. with_key map c.args.key value) (view c.bring_first.new.seat) c.requires.shard.only c.requires.loose.held
     (c.bring_first.ensures.crash value (node_still v u c.args.node seat quiet.unchanged kinds value c.requires.loose.held node))
 
 pub returns-in-Found-clause-calls : goal.returns-in-Found-clause-calls
