@@ -4,6 +4,7 @@
 //! of the program leaves them alone.
 #![tactic(auto)]
 
+mod moves;
 mod runs;
 mod standing;
 
@@ -24,6 +25,8 @@ mod filter;
 mod heaps;
 #[cfg(test)]
 mod made;
+#[cfg(test)]
+mod move_tests;
 #[cfg(test)]
 mod readings;
 #[cfg(test)]

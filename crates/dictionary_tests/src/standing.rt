@@ -1,6 +1,7 @@
 //! A dictionary on a heap for one thread.
 ghost use Rattle.std.specs.Prelude.{◌<◌, ◌^◌};
 
+use crate::moves::move_key;
 use block_heap::{AllocFault, Chance, Closed, SeqHeap, Stopped};
 use dict_model::LARGEST_VALUE;
 use dict_seat::Shard;
@@ -80,6 +81,22 @@ impl<C: Chance> Standing<C> {
             self.stopped = Some(stopped);
         }
         answer
+    }
+
+    /// Takes the one key out, and brings its node to the other one, whose shard has a table by then;
+    /// the answer is whether the key was there.
+    pub fn move_key(&mut self, from: u64, to: u64) -> Result<bool, AllocFault> {
+        if let Some(stopped) = self.stopped {
+            return Err(AllocFault::Stopped(stopped));
+        }
+        match move_key(&mut self.heap, from, to) {
+            Ok(found) => Ok(found),
+            Err(AllocFault::Full(looks)) => Err(AllocFault::Full(looks)),
+            Err(AllocFault::Stopped(stopped)) => {
+                self.stopped = Some(stopped);
+                Err(AllocFault::Stopped(stopped))
+            }
+        }
     }
 
     /// Closes the heap, and gives what loads saw and what a crash would have left.
