@@ -1,16 +1,15 @@
 -- A block that goes to another seat, and one that comes from one: what the seat's shards are without it and beside it.
-use Rattle.std.proofs.Common.{◌≡◌, ◌≢◌, ℕ, ◌<◌, inl, inr, List, Contains, Some, refl, subst, sym, ◌∙◌}
+use Rattle.std.proofs.Common.{◌≡◌, ◌≢◌, ℕ, ◌<◌, ◌⊎◌, inl, inr, List, Contains, Some, refl, subst, sym, ◌∙◌}
 use Rattle.std.proofs.lemmas.Bool.{cases_eq}
 use Rattle.heap_model.specs.declared.block.Block.{Block}
 use Rattle.heap_model.specs.Blocks.{IsIn}
 use Rattle.heap_model.specs.Geometry.{root_word}
 use Rattle.heap_seat.specs.View.{View}
-use Rattle.heap_seat.specs.Words.{IsOwn, in_block, in_root, MayBe, MayRead, KeepsWord}
+use Rattle.heap_seat.specs.Words.{IsOwn, in_block, in_root, MayBe, KeepsWord}
 use Rattle.heap_seat.specs.Calls.{IsSmallCall}
 use Rattle.heap_seat.specs.Free.{MayHaveFreed}
 use Rattle.heap_seat.specs.Handing.{Accepts, ComesWith, Contents, GoesWith, Offers}
 use Rattle.heap_seat.specs.Sound.{IsSeat}
-use Rattle.heap_seat.proofs.CallerLemmas.{read_before}
 use Rattle.dict_model.specs.Links.{shards}
 use Rattle.dict_model.specs.Shards.{Map}
 use Rattle.dict_seat.specs.Maps.{GivesMap}
@@ -18,13 +17,13 @@ use Rattle.dict_seat.specs.Reached.{Reaches, ReachesAllHeld, ReachesAllHeldBut, 
 use Rattle.dict_seat.specs.Quiet.{Grown}
 use Rattle.dict_seat.specs.Changes.{MayChange, Changes}
 use Rattle.dict_seat.specs.Removal.{IsLoose, IsShard}
-use Rattle.dict_seat.specs.Moving.{IsNodeOf, MayBring}
+use Rattle.dict_seat.specs.Moving.{IsNodeIn, IsNodeOf, MayBring}
 use Rattle.dict_seat.specs.Puts.{RootIsSet}
 use Rattle.dict_seat.specs.Shards.{HasShards}
 use Rattle.dict_seat.proofs.GrownLemmas.{kind_kept, only_grown, reached_before, reached_held, shard_grown}
 use Rattle.dict_seat.proofs.FreedLemmas.{only_freed, gives_freed}
 use Rattle.dict_seat.proofs.ExactLemmas.{sees_grown, all_freed}
-use Rattle.dict_seat.proofs.MovedLemmas.{node_carried}
+use Rattle.dict_seat.proofs.MovedLemmas.{node_kept}
 use Rattle.dict_seat.proofs.LooseLemmas.{without, less_seat, less_shard, less_gives, bring_change, change_less}
 use Rattle.dict_seat.proofs.OthersLemmas.{others_give, shards_on}
 
@@ -92,15 +91,23 @@ module _ (b : Block) (v w : View) (seat : IsSeat w) (accepts : Accepts b v w) (c
 pub grown_shards : (v w : View) → IsSeat w → Grown v w → w.kinds ≡ v.kinds → HasShards v → HasShards w
 grown_shards v w seat grown kinds has = record { each = λ shard below. shard_grown v w shard seat grown kinds (has.each shard below) }
 
--- the value goes with the block
-pub node_comes : (v w : View) (b : Block) (c : Contents) (value : List ℕ) → GoesWith b c v → ComesWith b c w → IsNodeOf v b value → IsNodeOf w b value
-node_comes v w b c value goes comes = node_carried v w b value (λ word x inside behind may.
-    let sent : View = record v { volatile = c.volatile; durable = c.durable } in
-    let there : MayRead sent word x = elim may as (λ _. MayRead sent word x) [
-      | inl seen ↦ inl (subst (λ known. MayBe known x) (comes.volatile word inside) seen)
-      | inr left ↦ inr (subst (λ known. MayBe known x) (comes.durable word inside) left)
-    ] in
-    read_before v sent word x (goes.words word inside) there)
+-- the value goes with the block, and comes with it
+pub node_goes : (v : View) (b : Block) (c : Contents) (value : List ℕ) → GoesWith b c v → IsNodeOf v b value → IsNodeIn c b value
+node_goes v b c value goes node =
+    let there : IsNodeOf (record v { volatile = c.volatile; durable = c.durable }) b value =
+    node_kept v (record v { volatile = c.volatile; durable = c.durable }) b value (λ word inside behind. goes.words word inside) node in
+    record { short = there.short; fits = there.fits; each = there.each }
+
+pub node_comes : (w : View) (b : Block) (c : Contents) (value : List ℕ) → ComesWith b c w → IsNodeIn c b value → IsNodeOf w b value
+node_comes w b c value comes node = record {
+  short = node.short;
+  fits = node.fits;
+  each = λ image mixes. node.each image (λ word inside.
+      elim (mixes word inside) as (λ _. MayBe (c.volatile word) (image word) ⊎ MayBe (c.durable word) (image word)) [
+        | inl seen ↦ inl (subst (λ known. MayBe known (image word)) (comes.volatile word inside) seen)
+        | inr left ↦ inr (subst (λ known. MayBe known (image word)) (comes.durable word inside) left)
+      ]);
+}
 
 -- what a bring leaves of other shards
 module _ (v w : View) (b : Block) (shard : ℕ) (may : Map → Map) (seat : IsSeat v) (loose : IsLoose b v) (change : MayBring b shard may v w) (small : shard < shards) where

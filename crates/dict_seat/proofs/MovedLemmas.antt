@@ -17,7 +17,7 @@ use Rattle.dict_seat.specs.Maps.{GivesMap}
 use Rattle.dict_seat.specs.Trails.{IsDurableAt}
 use Rattle.dict_seat.specs.Changes.{IsReadPlace}
 use Rattle.dict_seat.specs.Removal.{IsShard}
-use Rattle.dict_seat.specs.Moving.{MixesBlock, IsNodeOf, IsTakenOut, TellsKey, TakesOut}
+use Rattle.dict_seat.specs.Moving.{MixesBlock, IsNodeOf, IsTakenOut, TellsKey, TakesOut, known_of}
 use Rattle.dict_seat.specs.Reached.{ReachesOnlyHeld}
 use Rattle.dict_seat.specs.Walks.{IsFoundPlace}
 use Rattle.dict_seat.proofs.GrownLemmas.{Grown, grown_keeps, gives_grown, shard_grown, reached_before}
@@ -41,7 +41,7 @@ value_same image other b same fits =
 pub node_carried : (v w : View) (b : Block) (value : List ℕ) → ((word x : ℕ) → IsIn b word → b.first_word + 2 ≤ word → MayRead w word x → MayRead v word x)
     → IsNodeOf v b value → IsNodeOf w b value
 node_carried v w b value before node = record { short = node.short; fits = node.fits; each = by_image } where
-  by_image : (image : Image) → MixesBlock w b image → value_in image b ≡ value
+  by_image : (image : Image) → MixesBlock (known_of w) b image → value_in image b ≡ value
   by_image image mixes =
       let full = readable v image in
       let there : value_in full b ≡ value = node.each full (λ word inside. readable_may v image word) in
@@ -75,7 +75,7 @@ module _ (u : View) (seat : IsSeat u) (key : ℕ) (place : Place) (next : ℕ) (
     now : (map key ≡ Some (value_in (now_image u) place.node)) × IsNode (now_image u) (shard_of key) (bucket_of key) place.node
     now = has_value map gives (now_image u) (now_completes u).mixes
 
-    by_image : (image : Image) → MixesBlock u place.node image → value_in image place.node ≡ value_in (now_image u) place.node
+    by_image : (image : Image) → MixesBlock (known_of u) place.node image → value_in image place.node ≡ value_in (now_image u) place.node
     by_image image mixes =
         let full = readable u image in
         let there = has_value map gives full (readable_mixes u image) in

@@ -14,7 +14,7 @@ use Rattle.dict_seat.specs.Maps.{IsMapIn, GivesMap}
 use Rattle.dict_seat.specs.Reached.{MayReach, ReachesOnlyHeld}
 use Rattle.dict_seat.specs.Trails.{pointer_to, IsDurableAt, HasCome}
 use Rattle.dict_seat.specs.Quiet.{Grown}
-use Rattle.dict_seat.specs.Moving.{MixesBlock, IsNodeOf}
+use Rattle.dict_seat.specs.Moving.{MixesBlock, IsNodeOf, known_of}
 use Rattle.dict_seat.specs.Nodes.{IsWrittenNode, MakesNode, HasNode}
 use Rattle.dict_seat.specs.Changes.{MayChange, Changes}
 use Rattle.dict_seat.proofs.GrownLemmas.{new_block_outside, reached_before, reached_held}
@@ -36,7 +36,7 @@ one_reading u word value read settled (inr may) = subst (λ (known : Option ℕ)
 pub written_value : (u : View) (n : Block) (key next : ℕ) (value : List ℕ) → 3 + value_words (length value) ≤ n.words → length value ≤ largest_value
     → ((k : ℕ) → k < length value → get_or value k 0 < 256) → IsWrittenNode (IsDurableAt u) n key next value → IsNodeOf u n value
 written_value u n key next value room short small written = record { short = short; fits = room; each = by_image } where
-  by_image : (image : Image) → MixesBlock u n image → value_in image n ≡ value
+  by_image : (image : Image) → MixesBlock (known_of u) n image → value_in image n ≡ value
   by_image image mixes =
       let word : (i x : ℕ) → i < 3 + value_words (length value) → IsDurableAt u (n.first_word + i) x → image (n.first_word + i) ≡ x = λ i x less settled.
       one_reading u (n.first_word + i) x (image (n.first_word + i)) settled (mixes (n.first_word + i) (record { from = omega arith; until = omega arith })) in

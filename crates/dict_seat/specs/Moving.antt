@@ -1,5 +1,5 @@
 -- A node on its way from shard to shard: what it has, and what the calls of a shard leave that make a table, take a node out and bring one.
-use Rattle.std.specs.Prelude.{◌≡◌, ◌≢◌, ℕ, ◌+◌, ◌*◌, ◌≤◌, ◌↔◌, Bool, IsTrue, List, length, Option, None, Some, Contains}
+use Rattle.std.specs.Prelude.{◌≡◌, ◌≢◌, ℕ, ◌+◌, ◌*◌, ◌≤◌, ◌⊎◌, ◌↔◌, Bool, IsTrue, List, length, Option, None, Some, Contains}
 use Rattle.heap_model.specs.declared.block.Block.{Block}
 use Rattle.heap_model.specs.Geometry.{root_word}
 use Rattle.heap_model.specs.Image.{Image}
@@ -8,9 +8,10 @@ use Rattle.heap_model.specs.Sizes.{span_of}
 use Rattle.heap_seat.specs.declared.fault.AllocFault.{AllocFault}
 use Rattle.heap_seat.specs.declared.fault.AllocFault.TheVariants.{Full, Stopped}
 use Rattle.heap_seat.specs.View.{View}
-use Rattle.heap_seat.specs.Words.{MayRead, KeepsWord}
+use Rattle.heap_seat.specs.Words.{MayBe, MayRead, KeepsWord}
 use Rattle.heap_seat.specs.Tickets.{Runs, Stops}
 use Rattle.heap_seat.specs.Calls.{SameRefusals}
+use Rattle.heap_seat.specs.Handing.{Contents}
 use Rattle.heap_seat.specs.Rows.{IsRow}
 use Rattle.dict_model.specs.Layout.{length_index, value_index}
 use Rattle.dict_model.specs.Nodes.{largest_value, shard_of, value_words, value_in, table_bytes}
@@ -22,15 +23,23 @@ use Rattle.dict_seat.specs.Removal.{IsLoose}
 use Rattle.dict_seat.specs.Puts.{IsRefused, WasNull}
 use Rattle.dict_seat.specs.Walks.{ListsKeys}
 
--- each word of the block has a value that may be read, whatever stands elsewhere
-abbrev pub MixesBlock : View → Block → Image → Type 0
-MixesBlock v b image = (word : ℕ) → IsIn b word → MayRead v word (image word)
+-- what a seat knows of words, as it goes with a block
+abbrev pub known_of : View → Contents
+known_of v = record { volatile = v.volatile; durable = v.durable }
+
+-- each word of the block has one of its two values, where these are known, whatever stands elsewhere
+abbrev pub MixesBlock : Contents → Block → Image → Type 0
+MixesBlock c b image = (word : ℕ) → IsIn b word → MayBe (c.volatile word) (image word) ⊎ MayBe (c.durable word) (image word)
 
 -- the block has room for the value, and has it in each mixture of what its words may have
-pub record IsNodeOf (v : View) (b : Block) (value : List ℕ) : Type 0 where
+pub record IsNodeIn (c : Contents) (b : Block) (value : List ℕ) : Type 0 where
   pub short : length value ≤ largest_value
   pub fits : value_index + value_words (length value) ≤ b.words
-  pub each : (image : Image) → MixesBlock v b image → value_in image b ≡ value
+  pub each : (image : Image) → MixesBlock c b image → value_in image b ≡ value
+
+-- so it is, as far as the seat knows its words
+abbrev pub IsNodeOf : View → Block → List ℕ → Type 0
+IsNodeOf v = IsNodeIn (known_of v)
 
 -- a key's node was taken out: the map had this value of the key, and the block that has it, which the shard reached, is held still, where no root reaches it
 pub record IsTakenOut (key : ℕ) (b : Block) (v w : View) : Type 0 where

@@ -14,7 +14,7 @@ ghost use Rattle.dict_model.specs.Links.{shards, table_kind, dict_links};
 ghost use Rattle.dict_model.specs.Shards.{Map, MapOf, WalkOf};
 ghost use Rattle.dict_seat.specs.Changes.{MayChange, Changes};
 ghost use Rattle.dict_seat.specs.Maps.{GivesMap, GivesEither};
-ghost use Rattle.dict_seat.specs.Moving.{IsNodeOf, MayBring};
+ghost use Rattle.dict_seat.specs.Moving.{IsNodeIn, IsNodeOf, MayBring};
 ghost use Rattle.dict_seat.specs.Puts.{RootIsSet};
 ghost use Rattle.dict_seat.specs.Reached.{ReachesAllHeld, ReachesAllHeldBut, ReachesOnlyHeld};
 ghost use Rattle.dict_seat.specs.Removal.{IsLoose, IsShard};
@@ -121,10 +121,14 @@ pub fn an_accepted_block_is_loose()
         → ReachesAllHeld v → ReachesAllHeldBut b w }
 {}
 
-/// A node that goes with what one seat knew of it, and comes so to another, is a node of its value
-/// there.
+/// A node keeps its value on its way: what goes with it is a node of its value, and what comes is
+/// one.
 pub fn a_node_goes_with_its_value()
-    ensures { (v w : View) (b : Block) (c : Contents) (value : List ℕ) → GoesWith b c v
+    ensures goes { (v : View) (b : Block) (c : Contents) (value : List ℕ) → GoesWith b c v
+        → IsNodeOf v b value → IsNodeIn c b value }
+    ensures comes { (w : View) (b : Block) (c : Contents) (value : List ℕ) → ComesWith b c w
+        → IsNodeIn c b value → IsNodeOf w b value }
+    ensures across { (v w : View) (b : Block) (c : Contents) (value : List ℕ) → GoesWith b c v
         → ComesWith b c w → IsNodeOf v b value → IsNodeOf w b value }
 {}
 
