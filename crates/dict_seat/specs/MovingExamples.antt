@@ -22,7 +22,7 @@ use Rattle.dict_seat.specs.Removal.{IsLoose}
 use Rattle.dict_seat.specs.Trails.{pointer_to}
 
 -- a node of five words with the value "ab", another block, and a third that is not held
-abbrev node : Block
+abbrev pub node : Block
 node = record { first_word = 1100; words = 5 }
 
 abbrev other : Block
@@ -32,11 +32,11 @@ abbrev third : Block
 third = record { first_word = 1107; words = 2 }
 
 -- the words: root 2, and of the node its length and its value, which has such bytes behind it
-abbrev stored : ℕ → ℕ → ℕ → ℕ
+abbrev pub stored : ℕ → ℕ → ℕ → ℕ
 stored root behind word = cond (nat_eq word 42) root (cond (nat_eq word 1102) 2 (cond (nat_eq word 1103) (25185 + 65536 * behind) 0))
 
 -- a seat with root 2, whose kind has no links; loads see the one of root and bytes, and a crash leaves the other
-abbrev seeing : ℕ → ℕ → ℕ → ℕ → View
+abbrev pub seeing : ℕ → ℕ → ℕ → ℕ → View
 seeing root root_left behind behind_left = record (seat_with (look_with 0 0) 7) {
   held = node ∷ other ∷ [];
   roots = 2 ∷ [];
@@ -54,7 +54,7 @@ one_of (inl e) = e
 one_of (inr e) = e
 
 -- a node of "ab": where loads and crashes agree, and where the bytes behind the value don't
-is_node : IsNodeOf (seeing 0 0 0 0) node (97 ∷ 98 ∷ []) × IsNodeOf (seeing 0 0 0 7) node (97 ∷ 98 ∷ [])
+pub is_node : IsNodeOf (seeing 0 0 0 0) node (97 ∷ 98 ∷ []) × IsNodeOf (seeing 0 0 0 7) node (97 ∷ 98 ∷ [])
 is_node = (
   record {
     short = omega arith;

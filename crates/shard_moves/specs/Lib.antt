@@ -1,4 +1,5 @@
 pub mod Arriving
+pub mod Examples
 pub mod Inboxes
 pub mod Moves
 pub mod Outboxes

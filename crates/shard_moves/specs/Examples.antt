@@ -1,0 +1,170 @@
+-- Worked examples by computation: what is sent and what comes, what moves are told, which tables were made and why one was not, and how far values are brought in.
+use Rattle.std.specs.Prelude.{◌≡◌, ℕ, List, [], ◌∷◌, ◌++◌, Option, None, Some, true, false, slice_index, cond, nat_eq, ⊤, refl}
+use Rattle.std.proofs.Common.{arith, ap, sym, inl, inr, ◌∙◌}
+use Rattle.heap_model.specs.declared.block.Block.{Block}
+use Rattle.heap_model.proofs.MemberLemmas.{in_head, in_none, head_or_rest}
+use Rattle.heap_seat.specs.Examples.{look_with, seat_with}
+use Rattle.heap_seat.specs.View.{View}
+use Rattle.dict_model.specs.Nodes.{table_bytes}
+use Rattle.dict_model.specs.Requests.{put, done, full, none}
+use Rattle.dict_seat.specs.MovingExamples.{is_node, node, seeing, stored}
+use Rattle.dict_seat.specs.Moving.{IsNodeOf}
+use Rattle.shard_moves.specs.declared.away.MoveAnswer.TheVariants.{Done, Full, Missing}
+use Rattle.shard_moves.specs.Arriving.{puts_of, HaveTables, ListAllKeys, ArrivesNext, HasArrived, StopsAtFirst, StopsInOne}
+use Rattle.shard_moves.specs.Inboxes.{IsLeft, TakesFirst, TakesNext}
+use Rattle.shard_moves.specs.Moves.{reply_of, SendsFor}
+use Rattle.shard_moves.specs.Outboxes.{AddsNode, Sent}
+use Rattle.shard_moves.specs.Tables.{flag_count, HadNoTableRoom, is_flagged, tables_made, tables_missing, TellsTable, WasRefusedTable}
+
+-- request 3 sends "ab" to key 9, and request 5 sends nothing but an empty value to key 1
+abbrev third : Sent
+third = record { number = 3; key = 9; value = 97 ∷ 98 ∷ [] }
+
+abbrev fifth : Sent
+fifth = record { number = 5; key = 1; value = [] }
+
+-- the number and the key of the first of a list, and the number of the second
+abbrev first_number : List Sent → ℕ
+first_number [] = 0
+first_number (s ∷ rest) = s.number
+
+abbrev first_key : List Sent → ℕ
+first_key [] = 0
+first_key (s ∷ rest) = s.key
+
+abbrev second_number : List Sent → ℕ
+second_number [] = 0
+second_number (s ∷ rest) = first_number rest
+
+-- as requests they are puts that are done
+two_puts : puts_of (third ∷ fifth ∷ []) ≡ (put 9 (97 ∷ 98 ∷ []), done) ∷ (put 1 [], done) ∷ []
+two_puts = refl
+
+-- a node of "ab" has that value alone
+one_value : (value : List ℕ) → IsNodeOf (seeing 0 0 0 0) node value → value ≡ 97 ∷ 98 ∷ []
+one_value value is = sym (is.each (stored 0 0) (λ word inside. inl refl)) ∙ is_node.0.each (stored 0 0) (λ word inside. inl refl)
+
+-- it is sent behind what was sent before; not in front of it, not with another key or number, and not as nothing
+sends_node : AddsNode 3 9 node (seeing 0 0 0 0) (fifth ∷ []) (fifth ∷ third ∷ [])
+sends_node = record { added = λ value is. ap (λ v. fifth ∷ record { number = 3; key = 9; value = v } ∷ []) (sym (one_value value is)) }
+
+sends_not : (AddsNode 3 9 node (seeing 0 0 0 0) (fifth ∷ []) (third ∷ fifth ∷ []) → ⊥) × (AddsNode 3 8 node (seeing 0 0 0 0) [] (third ∷ []) → ⊥)
+    × (AddsNode 4 9 node (seeing 0 0 0 0) [] (third ∷ []) → ⊥) × (AddsNode 3 9 node (seeing 0 0 0 0) (fifth ∷ []) (fifth ∷ []) → ⊥)
+sends_not = (
+  λ adds. let e : third ∷ fifth ∷ [] ≡ fifth ∷ third ∷ [] = adds.added (97 ∷ 98 ∷ []) is_node.0 in let n : 3 ≡ 5 = ap first_number e in omega arith,
+  λ adds. let e = ap first_key (adds.added (97 ∷ 98 ∷ []) is_node.0) in omega (arith, e),
+  λ adds. let e = ap first_number (adds.added (97 ∷ 98 ∷ []) is_node.0) in omega (arith, e),
+  λ adds. let e : fifth ∷ [] ≡ fifth ∷ third ∷ [] = adds.added (97 ∷ 98 ∷ []) is_node.0 in absurd (cc),
+)
+
+-- what a move is told, as a reply
+replies : reply_of Done ∷ reply_of Full ∷ reply_of Missing ∷ [] ≡ done ∷ full ∷ none ∷ []
+replies = refl
+
+-- a move that finds no table, or no key, sends nothing; and one that is told done sends a value
+sends_nothing : (v : View) → SendsFor 3 5 9 Full (fifth ∷ []) (fifth ∷ []) v × SendsFor 3 5 9 Missing [] [] v
+sends_nothing v = (refl, refl)
+
+sends_wrong : (v : View) → (SendsFor 3 5 9 Full [] (third ∷ []) v → ⊥) × (SendsFor 3 5 9 Missing [] (third ∷ []) v → ⊥) × (SendsFor 3 5 9 Done [] [] v → ⊥) × (SendsFor 3 5 8 Done [] (third ∷ []) v → ⊥)
+sends_wrong v = (
+  λ sends. let e : third ∷ [] ≡ [] = sends in absurd (cc),
+  λ sends. let e : third ∷ [] ≡ [] = sends in absurd (cc),
+  λ sends. let e : [] ≡ record { number = 3; key = 9; value = sends.0 } ∷ [] = sends.2 in absurd (cc),
+  λ sends. let e : 9 ≡ 8 = ap first_key sends.2 in omega arith,
+)
+
+-- something is left, or nothing
+something_left : IsLeft (third ∷ fifth ∷ []) × (IsLeft [] → ⊥)
+something_left = (record { first = third; others = fifth ∷ []; left_are = refl }, λ left. let e : [] ≡ left.first ∷ left.others = left.left_are in absurd (cc))
+
+-- nothing comes where nothing is left, and else the first comes: not the last, and not with another key
+nothing_comes : (v : View) → TakesNext (λ (w : View). w) None [] [] v v × (TakesNext (λ (w : View). w) None (third ∷ []) [] v v → ⊥)
+nothing_comes v = ((refl, refl, refl), λ none. let e : third ∷ [] ≡ [] = none.0 in absurd (cc))
+
+comes_not : (b : Block) (v w : View) → (TakesFirst 1 b (third ∷ fifth ∷ []) (third ∷ []) v w → ⊥) × (TakesFirst 8 b (third ∷ []) [] v w → ⊥) × (TakesFirst 9 b [] [] v w → ⊥)
+comes_not b v w = (
+  λ takes. let e : third ∷ fifth ∷ [] ≡ takes.first ∷ third ∷ [] = takes.left_are in let n : 5 ≡ 3 = ap second_number e in omega arith,
+  λ takes. let e : 9 ≡ takes.first.key = ap first_key takes.left_are in let k = takes.key_is in omega arith,
+  λ takes. let e : [] ≡ takes.first ∷ [] = takes.left_are in absurd (cc),
+)
+
+-- flags of shards: the first and the third, and none behind the list
+flags : is_flagged (true ∷ false ∷ true ∷ []) 0 ∷ is_flagged (true ∷ false ∷ true ∷ []) 1 ∷ is_flagged (true ∷ false ∷ true ∷ []) 7 ∷ [] ≡ true ∷ false ∷ false ∷ []
+flags = refl
+
+two_flags : flag_count (true ∷ false ∷ true ∷ []) ≡ 2
+two_flags = refl
+
+-- what loads see of a root, by its place in a list
+abbrev value_at : ℕ → List ℕ → Option ℕ
+value_at i values = Some (slice_index values i)
+
+-- shards 0 and 2 are wanted; shard 0 has a table at first, shard 2 gets one, and so does shard 3, which isn't wanted
+abbrev tables_of : List ℕ → View
+tables_of values = record (seat_with (look_with 0 0) 7) { volatile = λ word. cond (nat_eq word 40) (value_at 0 values) (cond (nat_eq word 42) (value_at 1 values) (cond (nat_eq word 43) (value_at 2 values) None)) }
+
+made_one : tables_made (true ∷ false ∷ true ∷ []) (tables_of (9 ∷ 0 ∷ 0 ∷ [])) (tables_of (9 ∷ 9 ∷ 9 ∷ [])) ≡ 1
+made_one = refl
+
+missing_one : tables_missing (true ∷ false ∷ true ∷ []) (tables_of (9 ∷ 0 ∷ 0 ∷ [])) ≡ 1
+missing_one = refl
+
+-- of two superblocks both were taken when the mark was last read, and the seat took none since; not where one was left, nor where it took one since
+no_room : HadNoTableRoom (seat_with (look_with 2 1) 7) × (HadNoTableRoom (seat_with (look_with 1 1) 7) → ⊥) × (HadNoTableRoom (seat_with (look_with 2 0) 7) → ⊥)
+no_room = (record { past = omega arith; now = refl }, λ had. let past = had.past in omega arith, λ had. let now : 0 ≡ 1 = had.now in omega arith)
+
+-- a shard is told so of such a moment; it is told that it has a table where its root isn't null
+abbrev refused_from : View → View → Type 0
+refused_from v w = WasRefusedTable (λ (x : View). x) (λ _ _. ⊤) (λ _ _ bytes looks. bytes ≡ table_bytes) v w
+
+abbrev seen_full : View
+seen_full = seat_with (look_with 2 1) 7
+
+refused : refused_from seen_full seen_full
+refused = record {
+  at = seen_full;
+  before = tt;
+  behind = tt;
+  knows = omega arith;
+  until = omega arith;
+  room = no_room.0;
+  looks = record { class_head = 0; free_head = 0; used = 2 };
+  none = record { before = seen_full; after = seen_full; kept_before = tt; none = refl; kept_after = tt };
+}
+
+-- and not where the seat knows of a lower mark behind it, or the heap turned down another number of bytes
+refused_not : (WasRefusedTable (λ (x : View). x) (λ _ _. ⊤) (λ _ _ bytes looks. bytes ≡ 16) seen_full seen_full → ⊥)
+    × (TellsTable (λ (x : View). x) (λ _ _. ⊤) (λ _ _ _ _. ⊤) 0 true seen_full (tables_of (0 ∷ 0 ∷ 0 ∷ [])) → ⊥)
+refused_not = (
+  λ was. let e : table_bytes ≡ 16 = was.none.none in omega arith,
+  λ set. let e : Some 0 ≡ Some set.value = set.seen in let z : 0 ≡ set.value = cc in set.some (sym z),
+)
+
+has_one : TellsTable (λ (x : View). x) (λ _ _. ⊤) (λ _ _ _ _. ⊤) 0 true seen_full (tables_of (9 ∷ 0 ∷ 0 ∷ []))
+has_one = record { value = 9; seen = refl; some = λ e. omega (arith, e) }
+
+-- nothing that is left needs no table, and no keys
+nothing_needed : (v : View) → HaveTables [] v × ListAllKeys [] v []
+nothing_needed v = (
+  record { shard = λ s h. absurd (in_none s h); table = λ s h. absurd (in_none s h) },
+  record { there = λ s h. absurd (in_none s h); coming = λ s h. absurd (in_none s h) },
+)
+
+-- a key that arrives is to be among the keys
+not_listed : (v : View) → ListAllKeys (third ∷ []) v (1 ∷ []) → ⊥
+not_listed v lists = elim (head_or_rest 1 9 [] (lists.coming third (in_head third []))) as (λ _. ⊥) [ inl same ↦ omega (arith, same) | inr rest ↦ in_none 9 rest ]
+
+none_stops : (xs : List Sent) (x : Sent) (ys : List Sent) → [] ≡ xs ++ (x ∷ ys) → ⊥
+none_stops [] x ys e = absurd (cc)
+none_stops (z ∷ xs) x ys e = absurd (cc)
+
+-- none is brought in where none is left; the last is not brought in before the first; and no stop is at one of none
+brought_not : (v w : View) → ArrivesNext (λ (x : View). x) false [] [] v v × (ArrivesNext (λ (x : View). x) false (third ∷ []) [] v w → ⊥) × (HasArrived (third ∷ fifth ∷ []) (third ∷ []) v w → ⊥)
+    × (StopsAtFirst [] [] v w → ⊥) × (StopsInOne (λ (x : View). x) (λ _ _. ⊤) (λ _ _ _ _. ⊤) [] [] v w → ⊥)
+brought_not v w = (
+  (refl, refl, refl),
+  λ none. let e : third ∷ [] ≡ [] = none.0 in absurd (cc),
+  λ arrived. let e : third ∷ fifth ∷ [] ≡ arrived.first ∷ third ∷ [] = arrived.left_are in let n : 5 ≡ 3 = ap second_number e in omega arith,
+  λ stops. let e : [] ≡ stops.first ∷ stops.others = stops.left_are in absurd (cc),
+  λ stops. none_stops stops.brought stops.next stops.others stops.left_are,
+)
