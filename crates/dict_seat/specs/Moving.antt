@@ -78,7 +78,8 @@ pub record KeepsOthersBut (b : Block) (shard : ℕ) (v w : View) : Type 0 where
 abbrev pub head_of : Block → Block
 head_of b = record { first_word = b.first_word; words = length_index }
 
--- what a bring leaves wherever it ends: every mixture gives the map before or the map after, only held blocks are reached, the shard keeps its table, and what other roots have stays
+-- what a bring leaves wherever it ends: every mixture gives the map before or the map after, only held blocks are reached,
+-- the shard keeps its table, and what other roots have stays
 -- the block is held still, and of its words only the link and the key may have been stored to: it has its value still
 pub record MayBring (b : Block) (shard : ℕ) (after : Map → Map) (v w : View) : Type 0 where
   pub either : (map : Map) → GivesMap v shard map → GivesEither w shard map (after map)
