@@ -4,7 +4,8 @@ ghost use Rattle.heap_seat.specs.Calls.{SameRefusals};
 ghost use Rattle.heap_seat.specs.Tickets.{Runs, Stops};
 ghost use Rattle.heap_seat.specs.View.{View};
 ghost use Rattle.dict_model.specs.Nodes.{shard_of};
-ghost use Rattle.dict_model.specs.Requests.{move};
+ghost use Rattle.dict_model.specs.Requests.{move, without_key};
+ghost use Rattle.dict_seat.specs.Changes.{MayChange};
 ghost use Rattle.dict_seat.specs.Reached.{ReachesAllHeld};
 ghost use Rattle.dict_seat.specs.Removal.{IsShard};
 ghost use Rattle.run_model.specs.Progress.{Answers, MayAnswer};
@@ -77,7 +78,8 @@ fn refuse<H: HeapSeat>(seat: &mut H, key: u64) -> Result<MoveAnswer, Stopped>
 
     // At every exit.
     ensures exact { ReachesAllHeld (H.view seat.old) → ReachesAllHeld (H.view seat.new) }
-    ensures crash { (to : ℕ) → MayAnswer (move key to) (H.view seat.old) (H.view seat.new) }
+    ensures crash { MayChange (shard_of key) (λ map. without_key map key)
+        (H.view seat.old) (H.view seat.new) }
     ensures taken { (H.view seat.new).taken ≡ (H.view seat.old).taken }
     ensures calls { (to : ℕ) → MakesCalls (move key to) (H.view seat.old) (H.view seat.new) }
     ensures refusals { SameRefusals (H.view seat.old) (H.view seat.new) }

@@ -1,17 +1,17 @@
 use Rattle.std.proofs.Common.{Bool, subst}
 use Rattle.dict_seat.specs.Moving.{TellsKey}
-use Rattle.dict_model.specs.Requests.{after_one, move, done}
+use Rattle.dict_model.specs.Requests.{without_key}
 use Rattle.shard_moves.proofs.AwayLemmas.{answers_full, answers_missing, few_moves}
 use Rattle.shard_moves.proofs.away.refuse.Goals as goal
 
 pub returns-in_err-has-clause-crash : goal.returns-in_err-has-clause-crash
-returns-in_err-has-clause-crash g c = λ to. c.has.ensures.crash (λ map. after_one map (move c.args.key to) done)
+returns-in_err-has-clause-crash g c = c.has.ensures.crash (λ map. without_key map c.args.key)
 
 pub returns-then-branch-clause-crash : goal.returns-then-branch-clause-crash
-returns-then-branch-clause-crash g c = λ to. c.has.ensures.crash (λ map. after_one map (move c.args.key to) done)
+returns-then-branch-clause-crash g c = c.has.ensures.crash (λ map. without_key map c.args.key)
 
 pub returns-else-branch-clause-crash : goal.returns-else-branch-clause-crash
-returns-else-branch-clause-crash g c = λ to. c.has.ensures.crash (λ map. after_one map (move c.args.key to) done)
+returns-else-branch-clause-crash g c = c.has.ensures.crash (λ map. without_key map c.args.key)
 
 pub returns-in_err-has-clause-calls : goal.returns-in_err-has-clause-calls
 returns-in_err-has-clause-calls g c = λ to. few_moves c.args.key to _ _ c.has.ensures.calls
