@@ -1,5 +1,5 @@
 //! A move's first part: the node goes out of its shard, and is sent.
-ghost use Rattle.std.specs.Prelude.{◌≡◌, ℕ, false, IfOk, OnOk, OnErr, IfErr};
+ghost use Rattle.std.specs.Prelude.{◌≡◌, ℕ, true, false, IfOk, OnOk, OnErr, IfErr};
 ghost use Rattle.heap_seat.specs.Calls.{SameRefusals};
 ghost use Rattle.heap_seat.specs.Tickets.{Runs, Stops};
 ghost use Rattle.heap_seat.specs.View.{View};
@@ -112,6 +112,7 @@ pub fn move_away<H: HeapSeat, O: Outbox<H>>(
     ensures sent { IfOk result (λ told. SendsFor number key to told
         (O.sent outbox.old) (O.sent outbox.new) (H.view seat.old)) }
     ensures full { IfOk result (λ told. told ≡ Full → has_table ≡ false) }
+    ensures done { IfOk result (λ told. told ≡ Done → has_table ≡ true) }
     ensures runs { OnOk result (Runs (H.view seat.old) (H.view seat.new)) }
     ensures exact { OnOk result (ReachesAllHeld (H.view seat.old)
         → ReachesAllHeld (H.view seat.new)) }
