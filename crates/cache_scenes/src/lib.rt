@@ -9,6 +9,8 @@ mod beside_core;
 #[cfg(test)]
 mod dice;
 #[cfg(test)]
+mod fences;
+#[cfg(test)]
 mod fixtures;
 #[cfg(test)]
 mod flushing;
@@ -20,6 +22,8 @@ mod meeting;
 mod neighbours;
 #[cfg(test)]
 mod order;
+#[cfg(test)]
+mod own_words;
 #[cfg(test)]
 mod pairs;
 #[cfg(test)]

@@ -12,6 +12,9 @@
 //! put 0            the first of its roots leads to its last block, durably
 //! clear 0          that root leads to no block
 //! publish          its roots lead to its blocks, in order
+//! store 3 7        it stores 7 to the word 3 of its last block
+//! back 3           it writes that word back
+//! fence            it awaits what it wrote back
 //! roll 9           9 random acts
 //! ```
 //!
@@ -24,9 +27,10 @@ ghost use Rattle.cache_scenes.specs.Holding.{anything, Holds, OwnsRoots};
 
 use crate::holders::{Halt, give_back, give_back_last, take, take_all};
 use crate::order::Turn;
+use crate::own_words::{store_last, write_back_last};
 use crate::rolling::{quiet, roll_often};
 use crate::rooted::put;
-use heap_seat::{AllocFault, Looks};
+use heap_seat::{AllocFault, HeapSeat, Looks};
 use super_block::Block;
 use thread_cache::CacheSeat;
 
@@ -54,6 +58,9 @@ pub enum Act {
     Put { root: u64 },
     Clear { root: u64 },
     Publish,
+    Store { place: u64, value: u64 },
+    Back { place: u64 },
+    Fence,
     Roll { count: u64 },
 }
 
@@ -87,6 +94,12 @@ fn act_named(name: &str, first: u64, second: u64) -> Option<Act> {
         "put" => Act::Put { root: first },
         "clear" => Act::Clear { root: first },
         "publish" => Act::Publish,
+        "store" => Act::Store {
+            place: first,
+            value: second,
+        },
+        "back" => Act::Back { place: first },
+        "fence" => Act::Fence,
         "roll" => Act::Roll { count: first },
         _ => return None,
     };
@@ -181,6 +194,24 @@ fn publish(seat: &mut CacheSeat<'_, Turn<'_>>, owned: &[u64], given: &[Block]) -
     Ok(())
 }
 
+/// A seat does something to a word of its last block, or awaits what it wrote back.
+fn perform_on_words(
+    seat: &mut CacheSeat<'_, Turn<'_>>,
+    given: &[Block],
+    act: Act,
+) -> Result<(), Halt>
+    requires { Holds (heap_view seat.old.state).held given.now }
+    ensures held { OnOk result ((heap_view seat.new.state).held ≡ (heap_view seat.old.state).held) }
+    ensures kept { KeepsSeat anything seat.old seat.new }
+{
+    match act {
+        Act::Store { place, value } => store_last(seat, given, place, value),
+        Act::Back { place } => write_back_last(seat, given, place),
+        Act::Fence => Ok(seat.fence()?),
+        _ => Err(Halt::NoSuchAct),
+    }
+}
+
 /// A seat does what its roots or its number are for.
 fn perform_dealt(
     seat: &mut CacheSeat<'_, Turn<'_>>,
@@ -198,7 +229,7 @@ fn perform_dealt(
         Act::Clear { root } => put(seat, dealt.roots, root, None),
         Act::Publish => publish(seat, dealt.roots, given),
         Act::Roll { count } => roll_often(seat, given, dealt.number, count),
-        _ => Err(Halt::NoSuchAct),
+        _ => perform_on_words(seat, given, act),
     }
 }
 
