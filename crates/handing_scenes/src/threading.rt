@@ -26,7 +26,7 @@ use super_block::Block;
 const SIZES: [u64; 5] = [16, 96, 1_024, 14_336, 131_072];
 
 /// How often each block goes round.
-const ROUNDS: u64 = 2_000;
+const ROUNDS: u64 = 10_000;
 
 /// The marks of the second thread are those of the first one behind so many turns.
 const APART: u64 = 0x8000_0000;
