@@ -8,7 +8,7 @@ use Rattle.heap_model.specs.Sizes.{span_of}
 use Rattle.heap_seat.specs.declared.fault.AllocFault.{AllocFault}
 use Rattle.heap_seat.specs.declared.fault.AllocFault.TheVariants.{Full, Stopped}
 use Rattle.heap_seat.specs.View.{View}
-use Rattle.heap_seat.specs.Words.{MayBe, MayRead, KeepsWord}
+use Rattle.heap_seat.specs.Words.{MayBe, KeepsWord}
 use Rattle.heap_seat.specs.Tickets.{Runs, Stops}
 use Rattle.heap_seat.specs.Calls.{SameRefusals}
 use Rattle.heap_seat.specs.Handing.{Contents}

@@ -1,11 +1,11 @@
 -- A trace without moves: nothing arrives, no move is refused, and the shards that need tables are those that are put into.
-use Rattle.std.proofs.Common.{◌≡◌, ℕ, ◌+◌, ◌≤◌, inl, inr, Bool, true, false, cond, List, [], ◌∷◌, length, filter, None, Some, Contains, refl, subst, sym, ap, ◌∙◌, arith}
+use Rattle.std.proofs.Common.{◌≡◌, ℕ, ◌≤◌, inl, inr, Bool, true, false, cond, List, [], ◌∷◌, filter, None, Some, refl, ap, arith}
 use Rattle.std.specs.Prelude.{count_by}
 use Rattle.std.proofs.lemmas.Bool.{or_left, or_right, or_cases}
 use Rattle.std.proofs.lemmas.List.Sums.{sum_by-cons}
 use Rattle.heap_model.specs.Image.{words_from}
 use Rattle.dict_model.specs.Links.{shards}
-use Rattle.dict_model.specs.Requests.{Request, put, get, del, move, Reply, done, full, none, found, after_one}
+use Rattle.dict_model.specs.Requests.{Request, put, get, del, move, after_one}
 use Rattle.dict_model.specs.Shards.{Map}
 use Rattle.run_model.specs.Arrivals.{arrivals, worker_arrivals}
 use Rattle.run_model.specs.Needs.{is_to, put_into, shards_put_into, is_brought_to, brings, tables_needed, has_move}
