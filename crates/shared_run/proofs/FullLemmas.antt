@@ -69,7 +69,7 @@ module _ (words : List ℕ) (held : List Block) (workers budget : ℕ) (requests
     move_cause = λ worker below before later key to is.
         let mine = worker_requests workers worker requests in
         let there = subst (λ rs. Contains rs (move key to, full)) (sym is) (Contains-append_right before ((move key to, full) ∷ later) (move key to, full) (in_head (move key to, full) later)) in
-        none_moved mine (worker_replies workers worker requests replies) (none_of_part (is_of_worker workers worker) requests unmoved) key to full there;
+        absurd (none_moved mine (worker_replies workers worker requests replies) (none_of_part (is_of_worker workers worker) requests unmoved) key to full there);
     no_table = λ key to there. absurd (none_moved requests replies unmoved key to full there);
     alike = λ key to other target same there also. none_moved requests replies unmoved key to full there;
   } where
