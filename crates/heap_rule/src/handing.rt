@@ -1,7 +1,7 @@
 //! A seat offers a held block to a carrier, and accepts the block of one.
 //!
 //! Linearization point: of an offer the split of the seat of the table; of an accept the load by the
-//! seat of the table once it stands for both. Neither changes a word, and neither can be lost.
+//! seat of the table once it stands for both. Neither stores a word, and neither can be lost.
 
 ghost use Rattle.std.specs.Prelude.{◌≡◌};
 ghost use Rattle.core_model.specs.Carriers.{accepted, carrier_of, MayHand, offered};
