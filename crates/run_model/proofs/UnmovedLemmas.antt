@@ -8,7 +8,7 @@ use Rattle.dict_model.specs.Links.{shards}
 use Rattle.dict_model.specs.Requests.{Request, put, get, del, move, after_one}
 use Rattle.dict_model.specs.Shards.{Map}
 use Rattle.run_model.specs.Arrivals.{arrivals, worker_arrivals}
-use Rattle.run_model.specs.Needs.{is_to, put_into, shards_put_into, is_brought_to, brings, tables_needed, has_move}
+use Rattle.run_model.specs.Needs.{is_to, put_into, is_brought_to, brings, has_move}
 use Rattle.run_model.specs.Runs.{answered}
 use Rattle.run_model.specs.Workers.{Replies, is_of_worker}
 
@@ -70,7 +70,3 @@ count_more p q (x ∷ xs) more =
       at true false more = let e : false ≡ true = more refl in absurd (cc)
       at false true more = let all : 0 ≤ 1 = omega arith in all
       at false false more = let all : 0 ≤ 0 = omega arith in all
-
--- so there are no fewer of these
-pub puts_need_tables : (requests : List Request) → shards_put_into requests ≤ tables_needed requests
-puts_need_tables requests = count_more (put_into requests) (is_brought_to requests) (words_from (λ i. i) 0 shards) (put_is_brought requests)

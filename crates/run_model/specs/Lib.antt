@@ -5,6 +5,7 @@ pub mod OneMap
 pub mod Opened
 pub mod Progress
 pub mod Runs
+pub mod Sending
 pub mod Spending
 pub mod Stands
 pub mod Workers

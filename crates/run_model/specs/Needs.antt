@@ -1,12 +1,12 @@
 -- What a trace asks for: the shards that it puts or moves into, the superblocks that its nodes and tables take, and how many steps its run may take.
-use Rattle.std.specs.Prelude.{◌≢◌, ℕ, ◌+◌, ◌*◌, ◌^◌, ◌<◌, Bool, true, false, cond, nat_eq, ◌||◌, List, [], ◌∷◌, length, count_by, sum_by, None, Contains}
+use Rattle.std.specs.Prelude.{◌≢◌, ℕ, ◌+◌, ◌*◌, ◌^◌, ◌<◌, Bool, true, false, cond, nat_eq, ◌||◌, ◌&&◌, List, [], ◌∷◌, length, count_by, sum_by, None, Contains}
 use Rattle.heap_model.specs.Image.{Image, words_from}
 use Rattle.heap_model.specs.Sizes.{span_of}
 use Rattle.dict_model.specs.Links.{shards}
 use Rattle.dict_model.specs.Nodes.{shard_of, node_bytes}
 use Rattle.dict_model.specs.Requests.{Request, put, get, del, move}
 use Rattle.dict_model.specs.Shards.{Map, MapOf}
-use Rattle.run_model.specs.Workers.{shard_asked}
+use Rattle.run_model.specs.Workers.{shard_asked, worker_of}
 
 -- whether the request is one to the shard
 abbrev pub is_to : ℕ → Request → Bool
@@ -27,10 +27,6 @@ put_into (get key ∷ requests) shard = put_into requests shard
 put_into (del key ∷ requests) shard = put_into requests shard
 put_into (move key to ∷ requests) shard = put_into requests shard
 
--- how many shards are put into
-abbrev pub shards_put_into : List Request → ℕ
-shards_put_into requests = count_by (put_into requests) (words_from (λ i. i) 0 shards)
-
 -- whether the request brings a value to the shard: a put, or a move to one of its keys
 abbrev pub brings : ℕ → Request → Bool
 brings shard (put key value) = nat_eq (shard_of key) shard
@@ -46,6 +42,11 @@ is_brought_to (request ∷ requests) shard = brings shard request || is_brought_
 -- how many shards are brought a value: each may need a table, which takes one superblock at most
 abbrev pub tables_needed : List Request → ℕ
 tables_needed requests = count_by (is_brought_to requests) (words_from (λ i. i) 0 shards)
+
+-- how many of these are a worker's
+abbrev pub worker_tables : ℕ → ℕ → List Request → ℕ
+worker_tables workers worker requests =
+    count_by (λ shard. nat_eq (worker_of workers shard) worker && is_brought_to requests shard) (words_from (λ i. i) 0 shards)
 
 -- whether one of the requests is a move
 abbrev pub has_move : List Request → Bool

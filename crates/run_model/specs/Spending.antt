@@ -1,12 +1,14 @@
 -- What requests take of an open heap: superblocks for nodes and tables, and calls.
-use Rattle.std.specs.Prelude.{◌≡◌, ℕ, ◌+◌, ◌*◌, ◌<◌, ◌≤◌, List, ◌∷◌, ◌++◌, sum_by, Bool, false, not, nat_eq, Option, None, Some}
+use Rattle.std.specs.Prelude.{◌≡◌, ℕ, ◌+◌, ◌*◌, ◌<◌, ◌≤◌, List, ◌∷◌, ◌++◌, count_by, sum_by, Bool, false, not, ◌&&◌, nat_eq, Option, None, Some}
 use Rattle.heap_model.specs.Geometry.{root_word}
+use Rattle.heap_model.specs.Image.{words_from}
 use Rattle.heap_seat.specs.View.{View}
 use Rattle.heap_seat.specs.Looks.{KnowsNoLess}
 use Rattle.heap_seat.specs.Rows.{IsRow}
+use Rattle.dict_model.specs.Links.{shards}
 use Rattle.dict_model.specs.Requests.{Request, put, get, del, move, Reply, full}
 use Rattle.dict_seat.specs.Puts.{WasNull, RootIsSet}
-use Rattle.run_model.specs.Needs.{node_span, shards_put_into}
+use Rattle.run_model.specs.Needs.{node_span}
 use Rattle.run_model.specs.Workers.{shard_asked}
 use Rattle.run_model.specs.Runs.{span_taken, first_span}
 
@@ -36,20 +38,27 @@ pub record HadNoRoom (request : Request) (w : View) : Type 0 where
   pub past : w.capacity < w.used_look.seen + node_span request
   pub now : w.used_look.taken ≡ w.taken
 
--- and since the first view the puts before it, and the tables of the trace, took no more than this
-pub record IsFullBehind (requests : List Request) (before : List (Request × Reply)) (request : Request) (v w : View) : Type 0 where
+-- how many of the wanted shards have no table, as loads see it; and how many got one from the first view to the second
+abbrev pub tables_missing : (ℕ → Bool) → View → ℕ
+tables_missing wanted v = count_by (λ shard. wanted shard && not (sees_table v shard)) (words_from (λ i. i) 0 shards)
+
+abbrev pub tables_made : (ℕ → Bool) → View → View → ℕ
+tables_made wanted v w = count_by (λ shard. wanted shard && (sees_table w shard && not (sees_table v shard))) (words_from (λ i. i) 0 shards)
+
+-- and since the first view the puts before it, and so many tables, took no more than this
+pub record IsFullBehind (tables : ℕ) (before : List (Request × Reply)) (request : Request) (v w : View) : Type 0 where
   pub room : HadNoRoom request w
-  pub taken : w.taken ≤ v.taken + sum_by span_taken before + shards_put_into requests
+  pub taken : w.taken ≤ v.taken + sum_by span_taken before + tables
 
 -- each put that was told that there is no room was so at a moment of the heap from the one state to the other, and nothing was forgotten of the mark since
-pub record AreFullRightly {S : Type 0} (view : S → View) (keeps : S → S → Type 0) (requests : List Request) (rs : List (Request × Reply))
+pub record AreFullRightly {S : Type 0} (view : S → View) (keeps : S → S → Type 0) (tables : ℕ) (rs : List (Request × Reply))
     (s s' : S) : Type 0 where
   pub each : (before later : List (Request × Reply)) (key : ℕ) (value : List ℕ) → rs ≡ before ++ (put key value, full) ∷ later
-      → (t : S) × keeps s t × keeps t s' × KnowsNoLess (view t) (view s') × IsFullBehind requests before (put key value) (view s) (view t)
+      → (t : S) × keeps s t × keeps t s' × KnowsNoLess (view t) (view s') × IsFullBehind tables before (put key value) (view s) (view t)
 
--- since the first view no more superblocks were taken than for the nodes of the puts that were done, for the first of the requests that are left, and for the tables of all of them
-pub record HasTakenFew (requests : List Request) (rs : List (Request × Reply)) (left : List Request) (v w : View) : Type 0 where
-  pub taken : w.taken ≤ v.taken + (sum_by span_taken rs + first_span left) + shards_put_into requests
+-- since the first view no more superblocks were taken than for the nodes of the puts that were done, for the first of the requests that are left, and for so many tables
+pub record HasTakenFew (tables : ℕ) (rs : List (Request × Reply)) (left : List Request) (v w : View) : Type 0 where
+  pub taken : w.taken ≤ v.taken + (sum_by span_taken rs + first_span left) + tables
 
 -- so many requests make three large calls each at most, and so many small ones
 pub record MakeFew (requests small : ℕ) (v w : View) : Type 0 where

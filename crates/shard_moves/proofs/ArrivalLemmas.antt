@@ -24,7 +24,7 @@ use Rattle.dict_seat.proofs.GrownLemmas.{grown_keeps, gives_grown, reached_befor
 use Rattle.dict_seat.proofs.HandingLemmas.{accepts_grown, accepted_loose, accepted_all, set_grown}
 use Rattle.shard_moves.specs.Arriving.{HaveTables, MayArrive, HasArrived, StopsAtFirst}
 use Rattle.shard_moves.specs.Inboxes.{TakesFirst, IsLeft}
-use Rattle.shard_moves.specs.Outboxes.{Sent}
+use Rattle.run_model.specs.Sending.{Sent}
 use Rattle.heap_model.proofs.MemberLemmas.{in_head}
 
 -- what is so is so on an error

@@ -22,8 +22,8 @@ use Rattle.dict_seat.proofs.OthersLemmas.{others_give, shard_on}
 use Rattle.run_model.specs.Progress.{Answers, HasAnswered}
 use Rattle.run_model.specs.Working.{TakesRequest, TakesRequests}
 use Rattle.run_model.proofs.GoesOnLemmas.{goes_on, takes_push}
-use Rattle.shard_moves.specs.Arriving.{puts_of, HaveTables, ListAllKeys, HasArrived, StopsAtFirst, StopsInOne}
-use Rattle.shard_moves.specs.Outboxes.{Sent, put_of}
+use Rattle.shard_moves.specs.Arriving.{HaveTables, ListAllKeys, HasArrived, StopsAtFirst, StopsInOne}
+use Rattle.run_model.specs.Sending.{Sent, put_of, puts_of}
 
 -- so many are brought in, and these are left
 pub record HasBrought {S : Type 0} (view : S → View) (goes : S → S → Type 0) (has_none : S → S → ℕ → Looks → Type 0) (old now : List Sent) (s t : S) : Type 0 where

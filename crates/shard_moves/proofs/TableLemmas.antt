@@ -26,10 +26,10 @@ use Rattle.dict_seat.specs.Removal.{IsShard}
 use Rattle.dict_seat.proofs.HandingLemmas.{set_changed}
 use Rattle.dict_seat.proofs.OthersLemmas.{shard_on}
 use Rattle.run_model.specs.Progress.{HasAnswered}
-use Rattle.run_model.specs.Spending.{sees_table}
+use Rattle.run_model.specs.Spending.{sees_table, tables_made, tables_missing}
 use Rattle.run_model.proofs.CountLemmas.{count_rises, count_gains, set_value, value_set, null_unset}
 use Rattle.run_model.proofs.GoesOnLemmas.{stays_on}
-use Rattle.shard_moves.specs.Tables.{is_flagged, flag_count, tables_made, tables_missing, TellsTable}
+use Rattle.shard_moves.specs.Tables.{is_flagged, flag_count, TellsTable}
 
 -- a change to the same map is none
 pub same_change : (shard : ℕ) (v w : View) → MayChange shard (λ m. m) v w → Changes shard (λ m. m) v w
@@ -60,7 +60,7 @@ pub record HasMade {S : Type 0} (view : S → View) (keeps : S → S → Type 0)
   pub told : (k : ℕ) → k < number → k < shards → is_flagged flags k ≡ true → TellsTable view keeps has_none k (is_flagged tables k) s t
   pub others : (k : ℕ) → is_flagged flags k ≡ false → is_flagged tables k ≡ is_flagged before k
   pub sees : (k : ℕ) → k < shards → is_flagged flags k ≡ true → sees_table (view s) k ≡ true → sees_table (view t) k ≡ true
-  pub taken : (view t).taken ≤ (view s).taken + tables_made flags (view s) (view t)
+  pub taken : (view t).taken ≤ (view s).taken + tables_made (is_flagged flags) (view s) (view t)
   pub calls : HasCalled flags number (view s) (view t)
   pub exact : ReachesAllHeld (view s) → ReachesAllHeld (view t)
   pub done : (view t ≡ view s) ⊎ Runs (view s) (view t)
@@ -121,7 +121,7 @@ count_unset : (f : ℕ → Bool) (n : ℕ) → n < shards → f n ≡ false → 
 count_unset f n below is = count_first f n below ∙ ap (λ b. cond b 1 0 + count_by f (words_from (λ i. i) (n + 1) (shards - (n + 1)))) is
 
 -- a table that was made was missing
-pub made_missing : (flags : List Bool) (v w : View) → tables_made flags v w ≤ tables_missing flags v
+pub made_missing : (flags : List Bool) (v w : View) → tables_made (is_flagged flags) v w ≤ tables_missing (is_flagged flags) v
 made_missing flags v w =
     count_rises (λ k. is_flagged flags k && (sees_table w k && not (sees_table v k))) (λ k. is_flagged flags k && not (sees_table v k)) (words_from (λ i. i) 0 shards)
     (λ k h both.
@@ -239,10 +239,10 @@ module _ {S : Type 0} (view : S → View) (keeps : S → S → Type 0) (has_none
     numbered : Contains (words_from (λ i. i) 0 shards) n
     numbered = in_numbers 0 shards n (omega arith) (omega arith)
 
-    pub most_on : (view u).taken ≤ (view s).taken + tables_missing flags (view s)
+    pub most_on : (view u).taken ≤ (view s).taken + tables_missing (is_flagged flags) (view s)
     unfolding shown missing
     most_on = by_case tried.takes where
-      by_case : TableTakes n (view t) (view u) → (view u).taken ≤ (view s).taken + tables_missing flags (view s)
+      by_case : TableTakes n (view t) (view u) → (view u).taken ≤ (view s).taken + tables_missing (is_flagged flags) (view s)
       by_case (for_none none) =
           let few = made_missing flags (view s) (view t) in
           let was = made.taken in omega arith
@@ -262,13 +262,13 @@ module _ {S : Type 0} (view : S → View) (keeps : S → S → Type 0) (has_none
         (and_from (sees_table (view u) k) (not (sees_table (view s) k)) (sees_on (view t) (view u) n k (λ m. m) tried.change (made.each k (omega arith) parts.0) more.0) more.1)
 
     module _ (has : Bool) (tells : TellsTable view keeps has_none n has t u) (none : has ≡ false → (view u).taken ≤ (view t).taken) where
-      taken_on : (view u).taken ≤ (view s).taken + tables_made flags (view s) (view u)
+      taken_on : (view u).taken ≤ (view s).taken + tables_made (is_flagged flags) (view s) (view u)
       unfolding shown
       taken_on = by_case has refl tells tried.takes where
-        rises : tables_made flags (view s) (view t) ≤ tables_made flags (view s) (view u)
+        rises : tables_made (is_flagged flags) (view s) (view t) ≤ tables_made (is_flagged flags) (view s) (view u)
         rises = count_rises (shown (view t)) (shown (view u)) (words_from (λ i. i) 0 shards) shown_on
 
-        by_case : (b : Bool) → has ≡ b → TellsTable view keeps has_none n b t u → TableTakes n (view t) (view u) → (view u).taken ≤ (view s).taken + tables_made flags (view s) (view u)
+        by_case : (b : Bool) → has ≡ b → TellsTable view keeps has_none n b t u → TableTakes n (view t) (view u) → (view u).taken ≤ (view s).taken + tables_made (is_flagged flags) (view s) (view u)
         by_case false is told takes = let few = none is in let more = rises in let was = made.taken in omega arith
         by_case true is told (for_none same) = let more = rises in let was = made.taken in omega arith
         by_case true is told (for_table null few) =

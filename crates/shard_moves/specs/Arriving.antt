@@ -1,5 +1,5 @@
 -- Values that have arrived are brought in, one after the other.
-use Rattle.std.specs.Prelude.{◌≡◌, ◌⊎◌, ℕ, ◌+◌, ◌*◌, List, [], ◌∷◌, ◌++◌, length, map, Bool, true, false, Contains}
+use Rattle.std.specs.Prelude.{◌≡◌, ◌⊎◌, ℕ, ◌+◌, ◌*◌, List, [], ◌∷◌, ◌++◌, length, Bool, true, false, Contains}
 use Rattle.heap_model.specs.Image.{Image}
 use Rattle.heap_seat.specs.declared.fault.Looks.{Looks}
 use Rattle.heap_seat.specs.Rows.{IsRow}
@@ -13,11 +13,7 @@ use Rattle.dict_seat.specs.Removal.{IsShard}
 use Rattle.dict_seat.specs.Walks.{ListsKeys}
 use Rattle.run_model.specs.Progress.{MayAnswer, HasAnswered}
 use Rattle.run_model.specs.Working.{TakesRequests}
-use Rattle.shard_moves.specs.Outboxes.{Sent, put_of}
-
--- as requests they are puts that are done, in the same order
-abbrev pub puts_of : List Sent → List (Request × Reply)
-puts_of values = map put_of values
+use Rattle.run_model.specs.Sending.{Sent, puts_of}
 
 -- each of the values goes to a shard that may be asked, and that has a table
 pub record HaveTables (left : List Sent) (v : View) : Type 0 where

@@ -1,6 +1,8 @@
 -- Worked examples by computation: what is sent and what comes, what moves are told, which tables were made and why one was not, and how far values are brought in.
 use Rattle.std.specs.Prelude.{◌≡◌, ℕ, List, [], ◌∷◌, ◌++◌, Option, None, Some, true, false, slice_index, cond, nat_eq, ⊤, refl}
-use Rattle.std.proofs.Common.{arith, ap, sym, inl, inr, ◌∙◌}
+use Rattle.std.proofs.Common.{arith, ap, subst, sym, inl, inr, ◌∙◌}
+use Rattle.std.specs.List.Sorted.{IsPermutation}
+use Rattle.std.proofs.lemmas.List.Sorted.{IsPermutation-refl, sum_by-IsPermutation}
 use Rattle.heap_model.specs.declared.block.Block.{Block}
 use Rattle.heap_model.proofs.MemberLemmas.{in_head, in_none, head_or_rest}
 use Rattle.heap_seat.specs.Examples.{look_with, seat_with}
@@ -10,11 +12,13 @@ use Rattle.dict_model.specs.Requests.{put, done, full, none}
 use Rattle.dict_seat.specs.MovingExamples.{is_node, node, seeing, stored}
 use Rattle.dict_seat.specs.Moving.{IsNodeOf}
 use Rattle.shard_moves.specs.declared.away.MoveAnswer.TheVariants.{Done, Full, Missing}
-use Rattle.shard_moves.specs.Arriving.{puts_of, HaveTables, ListAllKeys, ArrivesNext, HasArrived, StopsAtFirst, StopsInOne}
+use Rattle.run_model.specs.Sending.{Sent, puts_of}
+use Rattle.run_model.specs.Spending.{tables_made, tables_missing}
+use Rattle.shard_moves.specs.Arriving.{HaveTables, ListAllKeys, ArrivesNext, HasArrived, StopsAtFirst, StopsInOne}
 use Rattle.shard_moves.specs.Inboxes.{IsLeft, TakesFirst, TakesNext}
 use Rattle.shard_moves.specs.Moves.{reply_of, SendsFor}
-use Rattle.shard_moves.specs.Outboxes.{AddsNode, Sent}
-use Rattle.shard_moves.specs.Tables.{flag_count, HadNoTableRoom, is_flagged, tables_made, tables_missing, TellsTable, WasRefusedTable}
+use Rattle.shard_moves.specs.Outboxes.{AddsNode}
+use Rattle.shard_moves.specs.Tables.{flag_count, HadNoTableRoom, is_flagged, TellsTable, WasRefusedTable}
 
 -- request 3 sends "ab" to key 9, and request 5 sends nothing but an empty value to key 1
 abbrev third : Sent
@@ -44,17 +48,20 @@ two_puts = refl
 one_value : (value : List ℕ) → IsNodeOf (seeing 0 0 0 0) node value → value ≡ 97 ∷ 98 ∷ []
 one_value value is = sym (is.each (stored 0 0) (λ word inside. inl refl)) ∙ is_node.0.each (stored 0 0) (λ word inside. inl refl)
 
--- it is sent behind what was sent before; not in front of it, not with another key or number, and not as nothing
-sends_node : AddsNode 3 9 node (seeing 0 0 0 0) (fifth ∷ []) (fifth ∷ third ∷ [])
-sends_node = record { added = λ value is. ap (λ v. fifth ∷ record { number = 3; key = 9; value = v } ∷ []) (sym (one_value value is)) }
+-- it is sent besides what was sent before, in whatever order; not with another key or number, and not as nothing
+sends_node : AddsNode 3 9 node (seeing 0 0 0 0) (fifth ∷ []) (fifth ∷ third ∷ []) × AddsNode 3 9 node (seeing 0 0 0 0) (fifth ∷ []) (third ∷ fifth ∷ [])
+sends_node = (
+  record { added = λ value is. subst (λ v. IsPermutation (record { number = 3; key = 9; value = v } ∷ fifth ∷ []) (fifth ∷ third ∷ [])) (sym (one_value value is)) (record { moves = (0, 1) ∷ []; below = (omega arith, omega arith, tt); is = refl }) },
+  record { added = λ value is. subst (λ v. IsPermutation (record { number = 3; key = 9; value = v } ∷ fifth ∷ []) (third ∷ fifth ∷ [])) (sym (one_value value is)) (IsPermutation-refl (third ∷ fifth ∷ [])) },
+)
 
-sends_not : (AddsNode 3 9 node (seeing 0 0 0 0) (fifth ∷ []) (third ∷ fifth ∷ []) → ⊥) × (AddsNode 3 8 node (seeing 0 0 0 0) [] (third ∷ []) → ⊥)
+sends_not : (AddsNode 3 9 node (seeing 0 0 0 0) (fifth ∷ []) (third ∷ []) → ⊥) × (AddsNode 3 8 node (seeing 0 0 0 0) [] (third ∷ []) → ⊥)
     × (AddsNode 4 9 node (seeing 0 0 0 0) [] (third ∷ []) → ⊥) × (AddsNode 3 9 node (seeing 0 0 0 0) (fifth ∷ []) (fifth ∷ []) → ⊥)
 sends_not = (
-  λ adds. let e : third ∷ fifth ∷ [] ≡ fifth ∷ third ∷ [] = adds.added (97 ∷ 98 ∷ []) is_node.0 in let n : 3 ≡ 5 = ap first_number e in omega arith,
-  λ adds. let e = ap first_key (adds.added (97 ∷ 98 ∷ []) is_node.0) in omega (arith, e),
-  λ adds. let e = ap first_number (adds.added (97 ∷ 98 ∷ []) is_node.0) in omega (arith, e),
-  λ adds. let e : fifth ∷ [] ≡ fifth ∷ third ∷ [] = adds.added (97 ∷ 98 ∷ []) is_node.0 in absurd (cc),
+  λ adds. let e = sum_by-IsPermutation (λ s. s.number) _ _ (adds.added (97 ∷ 98 ∷ []) is_node.0) in let n : 3 ≡ 8 = e in omega (arith, n),
+  λ adds. let e = sum_by-IsPermutation (λ s. s.key) _ _ (adds.added (97 ∷ 98 ∷ []) is_node.0) in let n : 9 ≡ 8 = e in omega (arith, n),
+  λ adds. let e = sum_by-IsPermutation (λ s. s.number) _ _ (adds.added (97 ∷ 98 ∷ []) is_node.0) in let n : 3 ≡ 4 = e in omega (arith, n),
+  λ adds. let e = sum_by-IsPermutation (λ s. s.number) _ _ (adds.added (97 ∷ 98 ∷ []) is_node.0) in let n : 5 ≡ 8 = e in omega (arith, n),
 )
 
 -- what a move is told, as a reply
@@ -69,8 +76,8 @@ sends_wrong : (v : View) → (SendsFor 3 5 9 Full [] (third ∷ []) v → ⊥) �
 sends_wrong v = (
   λ sends. let e : third ∷ [] ≡ [] = sends in absurd (cc),
   λ sends. let e : third ∷ [] ≡ [] = sends in absurd (cc),
-  λ sends. let e : [] ≡ record { number = 3; key = 9; value = sends.0 } ∷ [] = sends.2 in absurd (cc),
-  λ sends. let e : 9 ≡ 8 = ap first_key sends.2 in omega arith,
+  λ sends. let e = sum_by-IsPermutation (λ s. s.key) _ _ sends.2 in let n : 0 ≡ 9 = e in omega (arith, n),
+  λ sends. let e = sum_by-IsPermutation (λ s. s.key) _ _ sends.2 in let n : 9 ≡ 8 = e in omega (arith, n),
 )
 
 -- something is left, or nothing
@@ -103,10 +110,10 @@ value_at i values = Some (slice_index values i)
 abbrev tables_of : List ℕ → View
 tables_of values = record (seat_with (look_with 0 0) 7) { volatile = λ word. cond (nat_eq word 40) (value_at 0 values) (cond (nat_eq word 42) (value_at 1 values) (cond (nat_eq word 43) (value_at 2 values) None)) }
 
-made_one : tables_made (true ∷ false ∷ true ∷ []) (tables_of (9 ∷ 0 ∷ 0 ∷ [])) (tables_of (9 ∷ 9 ∷ 9 ∷ [])) ≡ 1
+made_one : tables_made (is_flagged (true ∷ false ∷ true ∷ [])) (tables_of (9 ∷ 0 ∷ 0 ∷ [])) (tables_of (9 ∷ 9 ∷ 9 ∷ [])) ≡ 1
 made_one = refl
 
-missing_one : tables_missing (true ∷ false ∷ true ∷ []) (tables_of (9 ∷ 0 ∷ 0 ∷ [])) ≡ 1
+missing_one : tables_missing (is_flagged (true ∷ false ∷ true ∷ [])) (tables_of (9 ∷ 0 ∷ 0 ∷ [])) ≡ 1
 missing_one = refl
 
 -- of two superblocks both were taken when the mark was last read, and the seat took none since; not where one was left, nor where it took one since

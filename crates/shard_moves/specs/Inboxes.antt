@@ -4,7 +4,7 @@ use Rattle.heap_model.specs.declared.block.Block.{Block}
 use Rattle.heap_seat.specs.Handing.{Accepts}
 use Rattle.heap_seat.specs.View.{View}
 use Rattle.dict_seat.specs.Moving.{IsNodeOf}
-use Rattle.shard_moves.specs.Outboxes.{Sent}
+use Rattle.run_model.specs.Sending.{Sent}
 
 -- the first of those that were left has come, with its key, as a block that has its value
 pub record TakesFirst (key : ℕ) (node : Block) (old new : List Sent) (v w : View) : Type 0 where

@@ -1,5 +1,5 @@
--- Tables that are made before requests: which shards have one then, what they took, and why one has none.
-use Rattle.std.specs.Prelude.{◌≡◌, ℕ, ◌+◌, ◌<◌, ◌≤◌, Bool, true, false, not, ◌&&◌, List, get_or, count_by}
+-- Tables that are made before requests: which shards have one then, and why one has none.
+use Rattle.std.specs.Prelude.{◌≡◌, ℕ, ◌+◌, ◌<◌, ◌≤◌, Bool, true, false, List, get_or, count_by}
 use Rattle.heap_model.specs.Image.{words_from}
 use Rattle.heap_model.specs.Sizes.{span_of}
 use Rattle.heap_seat.specs.declared.fault.Looks.{Looks}
@@ -8,7 +8,6 @@ use Rattle.heap_seat.specs.View.{View}
 use Rattle.dict_model.specs.Links.{shards}
 use Rattle.dict_model.specs.Nodes.{table_bytes}
 use Rattle.dict_seat.specs.Puts.{RootIsSet, WasTurnedDown}
-use Rattle.run_model.specs.Spending.{sees_table}
 
 -- whether the shard's flag is set
 abbrev pub is_flagged : List Bool → ℕ → Bool
@@ -17,13 +16,6 @@ is_flagged flags shard = get_or flags shard false
 -- how many flags of shards are set
 abbrev pub flag_count : List Bool → ℕ
 flag_count flags = count_by (is_flagged flags) (words_from (λ i. i) 0 shards)
-
--- how many flagged shards got a table from the first view to the second, as loads see it, and how many had none in the first
-abbrev pub tables_made : List Bool → View → View → ℕ
-tables_made flags v w = count_by (λ shard. is_flagged flags shard && (sees_table w shard && not (sees_table v shard))) (words_from (λ i. i) 0 shards)
-
-abbrev pub tables_missing : List Bool → View → ℕ
-tables_missing flags v = count_by (λ shard. is_flagged flags shard && not (sees_table v shard)) (words_from (λ i. i) 0 shards)
 
 -- when the mark of taken superblocks was last read none was left for a table, and none was taken since
 pub record HadNoTableRoom (w : View) : Type 0 where

@@ -9,7 +9,8 @@ ghost use Rattle.dict_model.specs.Requests.{Request, Reply};
 ghost use Rattle.dict_seat.specs.Reached.{ReachesAllHeld};
 ghost use Rattle.run_model.specs.Progress.{HasAnswered};
 ghost use Rattle.run_model.specs.Working.{TakesRequests};
-ghost use Rattle.shard_moves.specs.Arriving.{puts_of, HaveTables, ListAllKeys, ArrivesNext, StopsAtFirst, StopsInOne};
+ghost use Rattle.run_model.specs.Sending.{puts_of};
+ghost use Rattle.shard_moves.specs.Arriving.{HaveTables, ListAllKeys, ArrivesNext, StopsAtFirst, StopsInOne};
 
 use crate::inbox::Inbox;
 use dict_model::SHARDS;

@@ -1,5 +1,5 @@
 //! A move's first part: the node goes out of its shard, and is sent.
-ghost use Rattle.std.specs.Prelude.{◌≡◌, ℕ, true, false, IfOk, OnOk, OnErr, IfErr};
+ghost use Rattle.std.specs.Prelude.{◌≡◌, ℕ, ◌+◌, ◌≤◌, true, false, IfOk, OnOk, OnErr, IfErr};
 ghost use Rattle.heap_seat.specs.Calls.{SameRefusals};
 ghost use Rattle.heap_seat.specs.Tickets.{Runs, Stops};
 ghost use Rattle.heap_seat.specs.View.{View};
@@ -40,6 +40,7 @@ fn send_away<H: HeapSeat, O: Outbox<H>>(
 ) -> Result<MoveAnswer, Stopped>
     requires shard { IsShard (H.view seat.old) (shard_of key) }
     requires ready { O.ready outbox.old seat.old }
+    requires room { 1 ≤ O.room outbox.old }
     ensures ok { IfOk result (λ told. Answers (move key to) (reply_of told)
         (H.view seat.old) (H.view seat.new)) }
     ensures sent { IfOk result (λ told. SendsFor number key to told
@@ -56,6 +57,7 @@ fn send_away<H: HeapSeat, O: Outbox<H>>(
     ensures taken { (H.view seat.new).taken ≡ (H.view seat.old).taken }
     ensures calls { MakesCalls (move key to) (H.view seat.old) (H.view seat.new) }
     ensures refusals { SameRefusals (H.view seat.old) (H.view seat.new) }
+    ensures room_left { O.room outbox.old ≤ O.room outbox.new + 1 }
     ensures goes_on { O.goes seat.old seat.new }
     ensures ready_on { O.ready outbox.new seat.new }
 {
@@ -107,6 +109,7 @@ pub fn move_away<H: HeapSeat, O: Outbox<H>>(
 ) -> Result<MoveAnswer, Stopped>
     requires shard { IsShard (H.view seat.old) (shard_of key) }
     requires ready { O.ready outbox.old seat.old }
+    requires room { 1 ≤ O.room outbox.old }
     ensures ok { IfOk result (λ told. Answers (move key to) (reply_of told)
         (H.view seat.old) (H.view seat.new)) }
     ensures sent { IfOk result (λ told. SendsFor number key to told
@@ -124,6 +127,7 @@ pub fn move_away<H: HeapSeat, O: Outbox<H>>(
     ensures taken { (H.view seat.new).taken ≡ (H.view seat.old).taken }
     ensures calls { MakesCalls (move key to) (H.view seat.old) (H.view seat.new) }
     ensures refusals { SameRefusals (H.view seat.old) (H.view seat.new) }
+    ensures room_left { O.room outbox.old ≤ O.room outbox.new + 1 }
     ensures goes_on { O.goes seat.old seat.new }
     ensures ready_on { O.ready outbox.new seat.new }
 {

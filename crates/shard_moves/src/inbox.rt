@@ -5,7 +5,7 @@ ghost use Rattle.heap_seat.specs.Tickets.{Stops};
 ghost use Rattle.heap_seat.specs.View.{View};
 ghost use Rattle.heap_seat.specs.Words.{KeepsOwn};
 ghost use Rattle.shard_moves.specs.Inboxes.{TakesNext, IsLeft};
-ghost use Rattle.shard_moves.specs.Outboxes.{Sent};
+ghost use Rattle.run_model.specs.Sending.{Sent};
 
 use heap_model::Block;
 use heap_seat::HeapSeat;

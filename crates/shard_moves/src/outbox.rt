@@ -1,5 +1,5 @@
 //! Where a node goes that was taken out of its shard.
-ghost use Rattle.std.specs.Prelude.{◌≡◌, ℕ, List, OnOk, OnErr, IfErr};
+ghost use Rattle.std.specs.Prelude.{◌≡◌, ℕ, ◌+◌, ◌≤◌, List, OnOk, OnErr, IfErr};
 ghost use Rattle.heap_seat.specs.Calls.{IsSmallCall};
 ghost use Rattle.heap_seat.specs.Handing.{Offers};
 ghost use Rattle.heap_seat.specs.Tickets.{Stops};
@@ -7,7 +7,8 @@ ghost use Rattle.heap_seat.specs.View.{View};
 ghost use Rattle.heap_seat.specs.Words.{KeepsOwn};
 ghost use Rattle.dict_seat.specs.Moving.{IsNodeOf};
 ghost use Rattle.dict_seat.specs.Removal.{IsLoose};
-ghost use Rattle.shard_moves.specs.Outboxes.{Sent, AddsNode};
+ghost use Rattle.run_model.specs.Sending.{Sent};
+ghost use Rattle.shard_moves.specs.Outboxes.{AddsNode};
 
 use heap_model::Block;
 use heap_seat::HeapSeat;
@@ -16,8 +17,11 @@ use line_memory::Stopped;
 /// Where a seat's nodes go: each with the number of its request and the key that is to have its
 /// value.
 pub trait Outbox<H: HeapSeat> {
-    // What was sent, in this order.
+    // What was sent, in whatever order it is told.
     ghost sent: { Self → List Sent };
+
+    // For how many more nodes there is room.
+    ghost room: { Self → ℕ };
 
     // What goes on of the seat, over its calls and over what it sends.
     ghost goes: { H → H → Type 0 };
@@ -30,6 +34,7 @@ pub trait Outbox<H: HeapSeat> {
     /// After `Stopped` it is held still, and nothing was sent.
     fn send(&mut self, seat: &mut H, number: usize, key: u64, node: Block) -> Result<(), Stopped>
         requires ready { ready self.old seat.old }
+        requires room { 1 ≤ room self.old }
         requires loose { IsLoose node (H.view seat.old) }
         requires node { (value : List ℕ) × IsNodeOf (H.view seat.old) node value }
         ensures ok { OnOk result (Offers node (H.view seat.old) (H.view seat.new)) }
@@ -41,6 +46,7 @@ pub trait Outbox<H: HeapSeat> {
 
         // At every exit.
         ensures counted { IsSmallCall (H.view seat.old) (H.view seat.new) }
+        ensures room_left { room self.old ≤ room self.new + 1 }
         ensures goes_on { goes seat.old seat.new }
         ensures ready_on { ready self.new seat.new };
 

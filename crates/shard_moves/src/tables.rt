@@ -14,7 +14,8 @@ ghost use Rattle.dict_seat.specs.Moving.{TableTakes};
 ghost use Rattle.dict_seat.specs.Reached.{ReachesAllHeld};
 ghost use Rattle.dict_seat.specs.Removal.{IsShard};
 ghost use Rattle.run_model.specs.Progress.{HasAnswered};
-ghost use Rattle.shard_moves.specs.Tables.{is_flagged, flag_count, tables_made, tables_missing, TellsTable};
+ghost use Rattle.run_model.specs.Spending.{tables_made, tables_missing};
+ghost use Rattle.shard_moves.specs.Tables.{is_flagged, flag_count, TellsTable};
 
 use dict_model::SHARDS;
 use dict_seat::{PutFault, Shard};
@@ -61,7 +62,7 @@ pub fn make_tables<H: HeapSeat>(
         → TellsTable H.view H.keeps H.has_none shard (is_flagged tables.new shard)
         seat.old seat.new) }
     ensures taken { OnOk result ((H.view seat.new).taken ≤ (H.view seat.old).taken
-        + tables_made wanted.now (H.view seat.old) (H.view seat.new)) }
+        + tables_made (is_flagged wanted.now) (H.view seat.old) (H.view seat.new)) }
     ensures exact { OnOk result (ReachesAllHeld (H.view seat.old)
         → ReachesAllHeld (H.view seat.new)) }
     ensures runs { OnOk result ((H.view seat.new ≡ H.view seat.old)
@@ -74,7 +75,7 @@ pub fn make_tables<H: HeapSeat>(
     ensures answered { (image : Image) (rs : List (Request × Reply))
         → HasAnswered image rs (H.view seat.old) → HasAnswered image rs (H.view seat.new) }
     ensures most { (H.view seat.new).taken ≤ (H.view seat.old).taken
-        + tables_missing wanted.now (H.view seat.old) }
+        + tables_missing (is_flagged wanted.now) (H.view seat.old) }
     ensures calls { IsRow (512 * flag_count wanted.now) (flag_count wanted.now)
         (flag_count wanted.now) (H.view seat.old) (H.view seat.new) }
     ensures roots { (H.view seat.new).roots ≡ (H.view seat.old).roots }
