@@ -8,7 +8,7 @@ use Rattle.std.specs.Prelude.{slice_index}
 use Rattle.hex.specs.Hex.{IsBytes, is_hex_digit, encode_lower}
 use Rattle.hex.proofs.HexLemmas.{decode_of-ok, decode_of-encode_lower}
 use Rattle.trace_text.specs.declared.request.Request.{Request}
-use Rattle.trace_text.specs.declared.request.Request.TheVariants.{Put, Get, Del}
+use Rattle.trace_text.specs.declared.request.Request.TheVariants.{Put, Get, Del, Move}
 use Rattle.trace_text.specs.Generated.{request_line, value_of, made_request, made_trace, IsWithinBounds}
 use Rattle.trace_text.specs.Trace.{lines_of, longest_value, IsValue, IsLine, AreLines}
 use Rattle.trace_text.specs.Values.{value_word}
@@ -44,11 +44,13 @@ abbrev body : Request → List ℕ
 body (Put key value) = codes "put " ++ decimal key ++ codes " " ++ value_word value
 body (Get key) = codes "get " ++ decimal key
 body (Del key) = codes "del " ++ decimal key
+body (Move key to) = codes "move " ++ decimal key ++ codes " " ++ decimal to
 
 line_is_body : (request : Request) → request_line request ≡ body request ++ 10 ∷ []
 line_is_body (Put key value) = refl
 line_is_body (Get key) = refl
 line_is_body (Del key) = refl
+line_is_body (Move key to) = refl
 
 -- it is one line that asks for the request
 body_plain : (request : Request) → IsWithinBounds request → IsPlain (body request)
@@ -67,6 +69,7 @@ body_plain (Del key) fits =
     All-append (λ n. n ≢ 10) (codes "del ") (decimal key)
     (verb_plain 100 101 108 32 (λ s. absurd (omega arith)) (λ s. absurd (omega arith)) (λ s. absurd (omega arith)) (λ s. absurd (omega arith)))
     (number_has_no 10 (decimal key) key (omega arith) (fits, refl))
+body_plain (Move key to) fits = absurd fits
 
 body_read : (request : Request) → IsWithinBounds request → IsLine (body request) request
 body_read (Put key value) fits =
@@ -74,6 +77,7 @@ body_read (Put key value) fits =
     (fits.0, refl) (value_read value fits.1 fits.2)
 body_read (Get key) fits = record { word = decimal key; line_is = refl; key_is = (fits, refl) }
 body_read (Del key) fits = record { word = decimal key; line_is = refl; key_is = (fits, refl) }
+body_read (Move key to) fits = absurd fits
 
 -- so requests are read as they are printed
 pub read_again : (requests : List Request) → All IsWithinBounds requests → AreLines (lines_of (flat_map request_line requests)) requests

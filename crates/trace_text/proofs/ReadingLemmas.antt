@@ -1,8 +1,9 @@
 -- A trace is read in one way.
-use Rattle.std.proofs.Common.{◌≡◌, ℕ, inl, inr, List, [], ◌∷◌, ◌++◌, length, codes, sym, ap, ◌∙◌, arith, append_assoc}
+use Rattle.std.proofs.Common.{◌≡◌, ℕ, inl, inr, List, [], ◌∷◌, ◌++◌, length, codes, Contains, sym, ap, subst, ◌∙◌, arith, append_assoc}
+use Rattle.heap_model.proofs.MemberLemmas.{in_none, head_or_rest}
 use Rattle.hex.proofs.HexLemmas.{decode_of-ok, decode_of-same}
 use Rattle.trace_text.specs.declared.request.Request.{Request}
-use Rattle.trace_text.specs.declared.request.Request.TheVariants.{Put, Get, Del}
+use Rattle.trace_text.specs.declared.request.Request.TheVariants.{Put, Get, Del, Move}
 use Rattle.trace_text.specs.Trace.{IsValue, IsPutLine, IsKeyLine, IsLine, AreLines, IsFirstOutside}
 use Rattle.trace_text.proofs.NumberLemmas.{number_has_no, one_number}
 use Rattle.trace_text.proofs.PieceLemmas.{same_parts, heads_differ}
@@ -50,6 +51,8 @@ one_request line (Get k) (Del m) is_a is_b = absurd (heads_differ 103 100 _ _ (s
 one_request line (Del k) (Put m w) is_a is_b = absurd (heads_differ 100 112 _ _ (sym is_a.line_is ∙ is_b.line_is) (λ same. absurd (omega arith)))
 one_request line (Del k) (Get m) is_a is_b = absurd (heads_differ 100 103 _ _ (sym is_a.line_is ∙ is_b.line_is) (λ same. absurd (omega arith)))
 one_request line (Del k) (Del m) is_a is_b = ap Del (one_key_line (codes "del") line k m (λ a b same. cc) is_a is_b)
+one_request line a (Move m n) is_a is_b = absurd is_b
+one_request line (Move k l) b is_a is_b = absurd is_a
 
 -- so lines ask for one list of requests
 pub one_reading : (lines : List (List ℕ)) (xs ys : List Request) → AreLines lines xs → AreLines lines ys → xs ≡ ys
@@ -58,6 +61,15 @@ one_reading lines xs ys are_a are_b = one_list IsLine one_request lines xs ys ar
 -- lines that ask for requests have none that is outside the grammar
 pub read_or_outside : (lines : List (List ℕ)) (asks : List Request) (number : ℕ) → AreLines lines asks → IsFirstOutside lines number → ⊥
 read_or_outside lines asks number are is = written_or_outside IsLine lines asks number are is
+
+-- no line asks for a move
+pub no_line_is_a_move : (lines : List (List ℕ)) (requests : List Request) (key to : ℕ) → AreLines lines requests → Contains requests (Move key to) → ⊥
+no_line_is_a_move lines [] key to are has = in_none (Move key to) has
+no_line_is_a_move [] (r ∷ requests) key to are has = are
+no_line_is_a_move (line ∷ lines) (r ∷ requests) key to are has = elim (head_or_rest r (Move key to) requests has) [
+  | inl same ↦ subst (λ q. IsLine line q) same are.0
+  | inr later ↦ no_line_is_a_move lines requests key to are.1 later
+]
 
 -- and only one line is the first outside
 pub one_first_outside : (lines : List (List ℕ)) (m n : ℕ) → IsFirstOutside lines m → IsFirstOutside lines n → m ≡ n

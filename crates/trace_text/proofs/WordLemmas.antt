@@ -3,7 +3,7 @@ use Rattle.std.proofs.Common.{◌≡◌, ◌≢◌, ℕ, ◌*◌, ◌<◌, ◌�
 use Rattle.std.specs.List.{All}
 use Rattle.hex.proofs.HexLemmas.{decode_of-ok}
 use Rattle.trace_text.specs.declared.request.Request.{Request}
-use Rattle.trace_text.specs.declared.request.Request.TheVariants.{Put, Get, Del}
+use Rattle.trace_text.specs.declared.request.Request.TheVariants.{Put, Get, Del, Move}
 use Rattle.trace_text.specs.Numbers.{IsNumber}
 use Rattle.trace_text.specs.Trace.{IsValue, IsPutLine, IsLine, IsOutside, longest_value}
 use Rattle.trace_text.proofs.NumberLemmas.{number_has_no}
@@ -28,6 +28,7 @@ put_has_space words free (Put key value) is =
     has_separator 32 is.key_word is.value_word (rw (put_parts words is.key_word is.value_word is.line_is) at free)
 put_has_space words free (Get key) is = absurd (heads_differ 112 103 _ _ is.line_is (λ same. absurd (omega arith)))
 put_has_space words free (Del key) is = absurd (heads_differ 112 100 _ _ is.line_is (λ same. absurd (omega arith)))
+put_has_space words free (Move key to) is = is
 
 -- and what is before the first space is the key, what is behind it the value
 pub put_words : (words first rest : List ℕ) (request : Request) → words ≡ first ++ 32 ∷ rest → All (λ b. b ≢ 32) first → IsLine (codes "put " ++ words) request
@@ -38,6 +39,7 @@ put_words words first rest (Put key value) cut free is =
     (key, value, rw same.0 is.key_is, rw same.1 is.value_is)
 put_words words first rest (Get key) cut free is = absurd (heads_differ 112 103 _ _ is.line_is (λ same. absurd (omega arith)))
 put_words words first rest (Del key) cut free is = absurd (heads_differ 112 100 _ _ is.line_is (λ same. absurd (omega arith)))
+put_words words first rest (Move key to) cut free is = absurd is
 
 -- the line of a key and a value
 pub put_line : (words first rest : List ℕ) (key : ℕ) (value : List ℕ) → words ≡ first ++ 32 ∷ rest → IsNumber first key → IsValue rest value

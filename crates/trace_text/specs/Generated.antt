@@ -3,7 +3,7 @@ use Rattle.std.specs.Prelude.{ℕ, ◌<◌, ◌≤◌, ◌+◌, ◌*◌, ◌^◌
 use Rattle.std.specs.List.{flat_map, range_with_len}
 use Rattle.hex.specs.Hex.{IsBytes}
 use Rattle.trace_text.specs.declared.request.Request.{Request}
-use Rattle.trace_text.specs.declared.request.Request.TheVariants.{Put, Get, Del}
+use Rattle.trace_text.specs.declared.request.Request.TheVariants.{Put, Get, Del, Move}
 use Rattle.trace_text.specs.Report.{line_feed}
 use Rattle.trace_text.specs.Trace.{longest_value}
 use Rattle.trace_text.specs.Values.{value_word}
@@ -13,12 +13,14 @@ abbrev pub request_line : Request → List ℕ
 request_line (Put key value) = codes "put " ++ decimal key ++ codes " " ++ value_word value ++ line_feed
 request_line (Get key) = codes "get " ++ decimal key ++ line_feed
 request_line (Del key) = codes "del " ++ decimal key ++ line_feed
+request_line (Move key to) = codes "move " ++ decimal key ++ codes " " ++ decimal to ++ line_feed
 
 -- a request that a trace can ask for
 abbrev pub IsWithinBounds : Request → Type 0
 IsWithinBounds (Put key value) = (key < 2 ^ 64) × IsBytes value × (length value ≤ longest_value)
 IsWithinBounds (Get key) = key < 2 ^ 64
 IsWithinBounds (Del key) = key < 2 ^ 64
+IsWithinBounds (Move key to) = ⊥
 
 -- the number that request i is made of
 abbrev pub number_of : ℕ → ℕ → ℕ

@@ -2,7 +2,7 @@
 use Rattle.std.specs.Prelude.{◌≡◌, ℕ, ◌^◌, ◌≤◌, ◌⊎◌, List, [], ◌++◌, length, codes, Ok}
 use Rattle.hex.specs.Hex.{decode_of}
 use Rattle.trace_text.specs.declared.request.Request.{Request}
-use Rattle.trace_text.specs.declared.request.Request.TheVariants.{Put, Get, Del}
+use Rattle.trace_text.specs.declared.request.Request.TheVariants.{Put, Get, Del, Move}
 use Rattle.trace_text.specs.declared.request.TraceError.{TraceError}
 use Rattle.trace_text.specs.declared.request.TraceError.TheVariants.{BadLine, Memory}
 use Rattle.trace_text.specs.Lines.{AreWritten, WritesNothing, IsFirstOutsideOf}
@@ -38,6 +38,7 @@ abbrev pub IsLine : List ℕ → Request → Type 0
 IsLine line (Put key value) = IsPutLine line key value
 IsLine line (Get key) = IsKeyLine (codes "get") line key
 IsLine line (Del key) = IsKeyLine (codes "del") line key
+IsLine line (Move key to) = ⊥
 
 -- the line asks for nothing
 abbrev pub IsOutside : List ℕ → Type 0

@@ -70,5 +70,6 @@ pub(crate) fn write_request(text: &mut String, request: &Request) -> Result<(), 
         }
         Request::Get(key) => writeln!(text, "get {key}"),
         Request::Del(key) => writeln!(text, "del {key}"),
+        Request::Move(key, to) => writeln!(text, "move {key} {to}"),
     }
 }

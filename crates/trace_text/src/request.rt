@@ -14,6 +14,8 @@ pub enum Request {
     Get(u64),
     /// Takes out a key with its value.
     Del(u64),
+    /// Takes out the first key, whose value goes to the second.
+    Move(u64, u64),
 }
 
 /// Why a trace or a schedule can't be read.
