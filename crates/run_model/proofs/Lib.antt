@@ -5,6 +5,8 @@ pub mod FullLemmas
 pub mod GoesOnLemmas
 pub mod LeavingExamples
 pub mod OneMapLemmas
+pub mod SendingLemmas
 pub mod StandsLemmas
 pub mod SumLemmas
+pub mod TogetherLemmas
 pub mod UnmovedLemmas

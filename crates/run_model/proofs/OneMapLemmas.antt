@@ -40,7 +40,7 @@ reply_alike part whole _ _ same (move_full key to value is) = move_full key to v
 reply_alike part whole _ _ same (move_none key to is) = move_none key to (sym same ∙ is)
 
 -- what a key has after a request follows from what it had
-one_alike : (part whole : Map) (q : Request) (a : Reply) (key : ℕ) → part key ≡ whole key → after_one part q a key ≡ after_one whole q a key
+pub one_alike : (part whole : Map) (q : Request) (a : Reply) (key : ℕ) → part key ≡ whole key → after_one part q a key ≡ after_one whole q a key
 one_alike part whole (put k value) done key same = ap (cond (nat_eq k key) (Some value)) same
 one_alike part whole (put k value) full key same = same
 one_alike part whole (put k value) none key same = same
@@ -56,7 +56,7 @@ one_alike part whole (move k to) none key same = same
 one_alike part whole (move k to) (found v) key same = same
 
 -- another key has what it had
-one_beside : (whole : Map) (q : Request) (a : Reply) (key : ℕ) → key_of q ≢ key → after_one whole q a key ≡ whole key
+pub one_beside : (whole : Map) (q : Request) (a : Reply) (key : ℕ) → key_of q ≢ key → after_one whole q a key ≡ whole key
 one_beside whole (put k value) done key other = cond-false (nat_eq k key) (Some value) (whole key) (ne_eqb k key other)
 one_beside whole (put k value) full key other = refl
 one_beside whole (put k value) none key other = refl
