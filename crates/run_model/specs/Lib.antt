@@ -6,6 +6,7 @@ pub mod Opened
 pub mod Progress
 pub mod Runs
 pub mod Sending
+pub mod SendingExamples
 pub mod Spending
 pub mod Stands
 pub mod Workers
