@@ -132,6 +132,11 @@ part_of image whole is shard part map_is = record {
       one_map_of image shard part at.0 map_is (subst (λ s. MapOf image s at.0) of at.1) key ∙ at.2;
 }
 
+-- after some requests each key has in the whole map what it has in that of its shard
+pub whole_after : (image : Image) (whole : Map) → IsWholeMap image whole → (shard : ℕ) (part : Map) → MapOf image shard part → (rs : List (Request × Reply)) (key : ℕ) → shard_of key ≡ shard
+    → after part (of_shard shard rs) key ≡ after whole rs key
+whole_after image whole is shard part map_is rs key of = (part_after shard part whole rs (part_of image whole is shard part map_is)).same key of
+
 -- what comes to a shard comes to its worker
 arrived_of : (workers shard : ℕ) (rs xs : List (Request × Reply))
     → of_shard shard (rs ++ filter (λ r. is_of_worker workers (worker_of workers shard) r.0) xs) ≡ of_shard shard (rs ++ xs)

@@ -1,5 +1,5 @@
 -- The reply to one request, from what the dictionary's call answers.
-use Rattle.std.proofs.Common.{◌≡◌, ℕ, ◌+◌, ◌≤◌, ◌⊎◌, inl, inr, List, length, Option, None, Some, true, false, refl, subst, sym, ap, ◌++◌, take, drop, ◌∙◌, arith}
+use Rattle.std.proofs.Common.{◌≡◌, ℕ, ◌+◌, ◌≤◌, ◌⊎◌, inl, inr, List, length, Option, None, Some, Result, Ok, Err, IfOk, true, false, refl, subst, sym, ap, ◌++◌, take, drop, ◌∙◌, arith}
 use Rattle.std.proofs.Math.Seq.{take-append_seam}
 use Rattle.std.proofs.lemmas.List.{take_all}
 use Rattle.heap_seat.specs.View.{View}
@@ -71,6 +71,21 @@ was_refused view keeps has_none key value looks s t refused down = record {
   once = refused_once (node_bytes (length value)) (shard_of key) looks (view s) (view t) refused;
   asked = asks_for key value looks (view s) (view t) refused;
   none = down;
+}
+
+-- what follows from a good answer
+pub ok_then : {T E : Type 0} (P Q : T → Type 0) (r : Result T E) → ((x : T) → P x → Q x) → IfOk r P → IfOk r Q
+ok_then P Q (Ok x) follows is = follows x is
+ok_then P Q (Err e) follows is = is
+
+-- what was refused was so over what goes on besides
+pub refused_over : {S : Type 0} (view : S → View) (keeps goes : S → S → Type 0) (has_none : S → S → ℕ → Looks → Type 0) (q : Request) (s t : S) → ((x y : S) → keeps x y → goes x y)
+    → WasRefused view keeps has_none q s t → WasRefused view goes has_none q s t
+refused_over view keeps goes has_none q s t over was = record {
+  once = was.once;
+  asked = was.asked;
+  none = let none = was.none in
+      record { before = none.before; after = none.after; kept_before = over s none.before none.kept_before; none = none.none; kept_after = over none.after t none.kept_after };
 }
 
 -- one that was refused may have made one too

@@ -9,6 +9,7 @@ pub mod ProgressLemmas
 pub mod RecoveredLemmas
 pub mod RoomLemmas
 pub mod SaidLemmas
+pub mod SentLemmas
 pub mod SpendLemmas
 pub mod TakenLemmas
 pub mod WorkLemmas

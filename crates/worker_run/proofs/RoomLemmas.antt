@@ -20,7 +20,7 @@ use Rattle.dict_model.specs.Shards.{Map, Leading, LeadsAlone, IsPath, but, IsMap
 use Rattle.dict_model.proofs.ShardLemmas.{find_first, find_behind, one_map_of}
 use Rattle.dictionary.specs.Reading.{AreMaps}
 use Rattle.dict_model.specs.Requests.{Request, put}
-use Rattle.trace_text.specs.declared.request.Request.TheVariants.{Put, Get, Del}
+use Rattle.trace_text.specs.declared.request.Request.TheVariants.{Put, Get, Del, Move}
 use Rattle.run_model.specs.Spending.{IsPut}
 use Rattle.run_model.specs.Workers.{is_of_worker, worker_requests}
 use Rattle.run_model.specs.Working.{IsLengthFor, of_none, of_image, of_trace, IsRoomFor, HasRoom, HaveRoom}
@@ -121,6 +121,7 @@ pub not_put : (line : Line) → ((key : ℕ) (value : List ℕ) → line ≡ Put
 not_put (Put key value) not is = not key value refl
 not_put (Get key) not is = is
 not_put (Del key) not is = is
+not_put (Move key to) not is = is
 
 -- a value that a shard's map has is one that a node holds
 value_short : (image : Image) (key : ℕ) (leads : Leading) (shard bucket at : ℕ) (bs : List Block) (value : List ℕ) → IsPath leads image shard bucket at bs → find image key bs ≡ Some value → length value ≤ largest_value

@@ -1,11 +1,10 @@
 -- The values of a trace that was read are short.
-use Rattle.std.proofs.Common.{◌≡◌, ℕ, ◌≤◌, false, inl, inr, List, [], ◌∷◌, length, Contains, refl, subst, ap, arith}
+use Rattle.std.proofs.Common.{◌≡◌, ℕ, ◌≤◌, inl, inr, List, [], ◌∷◌, length, Contains, refl, subst, ap, arith}
 use Rattle.heap_model.proofs.MemberLemmas.{in_none, head_or_rest}
 use Rattle.dict_model.specs.Nodes.{largest_value}
 use Rattle.dict_model.specs.Requests.{Request}
-use Rattle.run_model.specs.Needs.{has_move}
 use Rattle.trace_text.specs.Trace.{IsLine, AreLines}
-use Rattle.trace_text.specs.declared.request.Request.TheVariants.{Put, Get, Del}
+use Rattle.trace_text.specs.declared.request.Request.TheVariants.{Put, Get, Del, Move}
 use Rattle.worker_run.specs.Said.{Line, request_of, requests_of, IsShort, ValuesAreShort}
 
 line_short : (text : List ℕ) (line : Line) → IsLine text line → IsShort (request_of line)
@@ -15,6 +14,7 @@ line_short text (Put key value) is = elim is.value_is as (λ _. length value ≤
 ]
 line_short text (Get key) is = tt
 line_short text (Del key) is = tt
+line_short text (Move key to) is = tt
 
 each_short : (texts : List (List ℕ)) (lines : List Line) → AreLines texts lines → (request : Request) → Contains (requests_of lines) request → IsShort request
 each_short [] [] are request h = absurd (in_none request h)
@@ -27,10 +27,3 @@ each_short (text ∷ texts) (line ∷ lines) are request h = elim (head_or_rest 
 
 pub lines_short : (texts : List (List ℕ)) (lines : List Line) → AreLines texts lines → ValuesAreShort (requests_of lines)
 lines_short texts lines are = record { each = each_short texts lines are }
-
--- no line of a trace asks for a move
-pub lines_unmoved : (lines : List Line) → has_move (requests_of lines) ≡ false
-lines_unmoved [] = refl
-lines_unmoved (Put key value ∷ lines) = lines_unmoved lines
-lines_unmoved (Get key ∷ lines) = lines_unmoved lines
-lines_unmoved (Del key ∷ lines) = lines_unmoved lines

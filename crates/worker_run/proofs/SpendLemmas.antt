@@ -14,10 +14,10 @@ use Rattle.dict_model.specs.Shards.{Map, MapOf}
 use Rattle.heap_seat.specs.Looks.{KnowsNoLess}
 use Rattle.dict_seat.specs.Removal.{IsShard}
 use Rattle.dict_seat.specs.Walks.{ListsKeys}
-use Rattle.run_model.specs.Needs.{ListsKeysOf}
+use Rattle.run_model.specs.Needs.{ListsKeysOf, put_into}
 use Rattle.run_model.specs.Opened.{HasMaps}
 use Rattle.run_model.specs.Runs.{answered, unanswered, of_shard, span_taken}
-use Rattle.run_model.specs.Spending.{IsPut, HadNoRoom, IsFullBehind, AreFullRightly, MakeFew}
+use Rattle.run_model.specs.Spending.{IsPut, HadNoRoom, IsFullBehind, AreFullRightly, MakeFew, tables_missing}
 use Rattle.run_model.specs.Workers.{key_of, shard_asked, Replies}
 use Rattle.run_model.specs.Working.{Fits, HasWorked, MakesCalls, words_copied}
 use Rattle.worker_run.specs.Said.{IsShort, Told, reply_of, replies_of}
@@ -152,10 +152,11 @@ last_or_before (z ∷ xs) (b ∷ before) later y x e =
 
 -- a put that was told full, by what was taken then
 pub full_behind : (requests : List Request) (rs : List (Request × Reply)) (q : Request) (r : Reply) (v w : View) → HasTaken requests (rs ++ ((q, r) ∷ [])) v w → r ≡ full → HadNoRoom q w
-    → IsFullBehind requests rs q v w
+    → IsFullBehind (tables_missing (put_into requests) v) rs q v w
 full_behind requests rs q r v w taken is room = record {
   room = room;
-  taken = let few = tables_few requests w in
+  taken = let few = tables_few requests v w in
+      let before = taken.taken in
       let both = sum_by-append span_taken rs ((q, r) ∷ []) in
       let one = sum_by-cons span_taken (q, r) [] in
       let none : span_taken (q, r) ≡ 0 = ap (λ x. span_taken (q, x)) is in
@@ -163,8 +164,8 @@ full_behind requests rs q r v w taken is room = record {
 }
 
 -- and so it is over the whole run
-pub refused_none : {S : Type 0} (view : S → View) (keeps : S → S → Type 0) (requests : List Request) (s t : S) → AreFullRightly view keeps requests [] s t
-refused_none view keeps requests s t = record { each = λ before later key value is. absurd (no_end before later (put key value, full) is) }
+pub refused_none : {S : Type 0} (view : S → View) (keeps : S → S → Type 0) (tables : ℕ) (s t : S) → AreFullRightly view keeps tables [] s t
+refused_none view keeps tables s t = record { each = λ before later key value is. absurd (no_end before later (put key value, full) is) }
 
 -- what is known of the mark of taken superblocks doesn't fall over a request
 pub knows_then : (u v w : View) → KnowsNoLess u v → KnowsNoLess v w → KnowsNoLess u w
@@ -176,19 +177,19 @@ knows_call q v w shard calls =
     (calls.few shard.map shard.gives keys.0 keys.1).goes_on.used
 
 -- it stays so where the heap goes on
-pub refused_on : {S : Type 0} (view : S → View) (keeps : S → S → Type 0) (requests : List Request) (rs : List (Request × Reply)) (s t u : S)
-    → AreFullRightly view keeps requests rs s t → ((x : S) → keeps x t → keeps x u) → KnowsNoLess (view t) (view u) → AreFullRightly view keeps requests rs s u
-refused_on view keeps requests rs s t u was on knows = record {
+pub refused_on : {S : Type 0} (view : S → View) (keeps : S → S → Type 0) (tables : ℕ) (rs : List (Request × Reply)) (s t u : S)
+    → AreFullRightly view keeps tables rs s t → ((x : S) → keeps x t → keeps x u) → KnowsNoLess (view t) (view u) → AreFullRightly view keeps tables rs s u
+refused_on view keeps tables rs s t u was on knows = record {
   each = λ before later key value is. let at = was.each before later key value is in (at.0, at.1, on at.0 at.2, knows_then (view at.0) (view t) (view u) at.3 knows, at.4);
 }
 
 -- and at a request more
-pub refused_next : {S : Type 0} (view : S → View) (keeps : S → S → Type 0) (requests : List Request) (rs : List (Request × Reply)) (q : Request) (r : Reply) (s t : S)
-    → AreFullRightly view keeps requests rs s t → keeps s t → keeps t t → (IsPut q → r ≡ full → IsFullBehind requests rs q (view s) (view t)) → AreFullRightly view keeps requests (rs ++ ((q, r) ∷ [])) s t
-refused_next view keeps requests rs q r s t was kept same now = record {
+pub refused_next : {S : Type 0} (view : S → View) (keeps : S → S → Type 0) (tables : ℕ) (rs : List (Request × Reply)) (q : Request) (r : Reply) (s t : S)
+    → AreFullRightly view keeps tables rs s t → keeps s t → keeps t t → (IsPut q → r ≡ full → IsFullBehind tables rs q (view s) (view t)) → AreFullRightly view keeps tables (rs ++ ((q, r) ∷ [])) s t
+refused_next view keeps tables rs q r s t was kept same now = record {
   each = λ before later key value is.
       elim (last_or_before rs before later (q, r) (put key value, full) is)
-      as (λ _. (x : _) × keeps s x × keeps x t × KnowsNoLess (view x) (view t) × IsFullBehind requests before (put key value) (view s) (view x)) [
+      as (λ _. (x : _) × keeps s x × keeps x t × KnowsNoLess (view x) (view t) × IsFullBehind tables before (put key value) (view s) (view x)) [
         | inl last ↦
             let asked : q ≡ put key value = ap (λ (x : Request × Reply). x.0) last.1 in
             let told : r ≡ full = ap (λ (x : Request × Reply). x.1) last.1 in (
@@ -196,8 +197,8 @@ refused_next view keeps requests rs q r s t was kept same now = record {
               kept,
               same,
               let none : KnowsNoLess (view t) (view t) = omega arith in none,
-              subst (λ (xs : List (Request × Reply)). IsFullBehind requests xs (put key value) (view s) (view t)) last.0
-                  (subst (λ x. IsFullBehind requests rs x (view s) (view t)) asked (now (subst IsPut (sym asked) tt) told)),
+              subst (λ (xs : List (Request × Reply)). IsFullBehind tables xs (put key value) (view s) (view t)) last.0
+                  (subst (λ x. IsFullBehind tables rs x (view s) (view t)) asked (now (subst IsPut (sym asked) tt) told)),
             )
         | inr old ↦ was.each before old.0 key value old.1
       ];

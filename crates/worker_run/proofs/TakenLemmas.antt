@@ -1,7 +1,7 @@
 -- How many superblocks requests take, and how many tables they make: each shard that is put into gets one at most.
-use Rattle.std.proofs.Common.{◌≡◌, ◌≢◌, ℕ, ◌+◌, ◌*◌, ◌≤◌, inl, inr, List, [], ◌∷◌, ◌++◌, sum_by, Option, None, Some, Bool, true, Contains, refl, subst, sym, ap, ◌∙◌, arith}
+use Rattle.std.proofs.Common.{◌≡◌, ◌≢◌, ℕ, ◌+◌, ◌*◌, ◌≤◌, inl, inr, List, [], ◌∷◌, ◌++◌, sum_by, Option, None, Some, Bool, true, false, not, Contains, refl, subst, sym, ap, ◌∙◌, arith}
 use Rattle.std.specs.Prelude.{count_by, ◌&&◌}
-use Rattle.std.proofs.lemmas.Bool.{cases_eq, and_parts, and_from, and_right, eq-eqb, or_left, or_right}
+use Rattle.std.proofs.lemmas.Bool.{cases_eq, and_parts, and_from, and_left, and_right, eq-eqb, or_left, or_right}
 use Rattle.std.proofs.lemmas.List.Sums.{sum_by-cons, sum_by-append}
 use Rattle.heap_model.specs.Geometry.{root_word}
 use Rattle.heap_model.specs.Image.{words_from}
@@ -14,28 +14,37 @@ use Rattle.dict_model.specs.Requests.{Request, put, get, del, move, Reply}
 use Rattle.dict_model.specs.Shards.{Map, is_empty, has_table}
 use Rattle.dict_seat.specs.Maps.{IsMapIn, GivesMap}
 use Rattle.dict_seat.specs.Puts.{RootIsSet}
-use Rattle.run_model.specs.Needs.{is_to, put_into, shards_put_into}
+use Rattle.run_model.specs.Needs.{is_to, put_into}
 use Rattle.run_model.specs.Progress.{MayAnswer}
 use Rattle.run_model.specs.Runs.{span_taken}
 use Rattle.run_model.proofs.CountLemmas.{count_rises, count_gains, set_value, value_set, null_unset}
-use Rattle.run_model.specs.Spending.{sees_table, IsPut, TakesFew, for_node as answered_node, with_table as answered_table, HasTakenFew}
+use Rattle.run_model.specs.Spending.{sees_table, tables_made, tables_missing, IsPut, TakesFew, for_node as answered_node, with_table as answered_table, HasTakenFew}
 use Rattle.worker_run.specs.Taking.{MayTake, for_node, with_table}
 use Rattle.run_model.specs.Workers.{shard_asked}
 use Rattle.run_model.proofs.OneMapLemmas.{small_shard}
 use Rattle.heap_model.proofs.ListLemmas.{in_numbers}
 
--- how many of the shards that are put into have a table, as loads see it
-abbrev pub tables_in : List Request → View → ℕ
-tables_in requests v = count_by (λ shard. put_into requests shard && sees_table v shard) (words_from (λ i. i) 0 shards)
+-- no more superblocks were taken than those of the nodes, and one for each table that was made of the shards that are put into; and none of their tables went away
+pub record HasTaken (requests : List Request) (rs : List (Request × Reply)) (v w : View) : Type 0 where
+  pub taken : w.taken ≤ v.taken + sum_by span_taken rs + tables_made (put_into requests) v w
+  pub sees : (shard : ℕ) → put_into requests shard ≡ true → sees_table v shard ≡ true → sees_table w shard ≡ true
 
--- no more superblocks were taken than those of the nodes, and one for each such table
-abbrev pub HasTaken : List Request → List (Request × Reply) → View → View → Type 0
-HasTaken requests rs v w = w.taken ≤ v.taken + sum_by span_taken rs + tables_in requests w
+pub tables_few : (requests : List Request) (v w : View) → tables_made (put_into requests) v w ≤ tables_missing (put_into requests) v
+tables_few requests v w =
+    count_rises (λ shard. put_into requests shard && (sees_table w shard && not (sees_table v shard))) (λ shard. put_into requests shard && not (sees_table v shard)) (words_from (λ i. i) 0 shards)
+    (λ x h all.
+        let parts = and_parts (put_into requests x) (sees_table w x && not (sees_table v x)) all in
+        and_from (put_into requests x) (not (sees_table v x)) parts.0 (and_parts (sees_table w x) (not (sees_table v x)) parts.1).1)
 
-pub tables_few : (requests : List Request) (v : View) → tables_in requests v ≤ shards_put_into requests
-tables_few requests v =
-    count_rises (λ shard. put_into requests shard && sees_table v shard) (put_into requests) (words_from (λ i. i) 0 shards)
-    (λ x h both. (and_parts (put_into requests x) (sees_table v x) both).0)
+-- where none has gone away, a shard that has none had none
+none_before : (v u : View) (shard : ℕ) → (sees_table v shard ≡ true → sees_table u shard ≡ true) → sees_table u shard ≡ false → not (sees_table v shard) ≡ true
+none_before v u shard sees none = by_case (sees_table v shard) refl where
+  by_case : (b : Bool) → sees_table v shard ≡ b → not (sees_table v shard) ≡ true
+  by_case true is = let e : true ≡ false = sym (sees is) ∙ none in absurd (cc)
+  by_case false is = ap not is
+
+pub taken_none : (requests : List Request) (v : View) → HasTaken requests [] v v
+taken_none requests v = record { taken = omega arith; sees = λ shard is sees. sees }
 
 -- a shard keeps its table over a request
 pub table_kept : (v w : View) (request : Request) (shard : ℕ) → Contains v.roots shard → MayAnswer request v w
@@ -70,51 +79,64 @@ put_into_has (del key ∷ rest) request is h = elim (head_or_rest (del key) requ
   | inr later ↦ put_into_has rest request is later
 ]
 
+-- whether a shard that is put into got a table from the one view to the other
+abbrev made_from : List Request → View → View → ℕ → Bool
+made_from requests v x shard = put_into requests shard && (sees_table x shard && not (sees_table v shard))
+
 -- one request more
 pub taken_next : (requests : List Request) (rs : List (Request × Reply)) (request : Request) (reply : Reply) (v u w : View) → Contains requests request
     → ((shard : ℕ) → put_into requests shard ≡ true → Contains u.roots shard) → MayAnswer request u w → HasTaken requests rs v u → TakesFew request reply u w
     → HasTaken requests (rs ++ ((request, reply) ∷ [])) v w
-taken_next requests rs request reply v u w h owns may was takes = by_case takes where
-  shown : View → ℕ → Bool
-  shown x shard = put_into requests shard && sees_table x shard
+taken_next requests rs request reply v u w h owns may was takes = record { taken = by_case takes; sees = λ shard is sees. kept shard is (was.sees shard is sees) } where
+  kept : (shard : ℕ) → put_into requests shard ≡ true → sees_table u shard ≡ true → sees_table w shard ≡ true
+  kept shard is sees = table_kept u w request shard (owns shard is) may sees
 
-  stays : (shard : ℕ) → Contains (words_from (λ i. i) 0 shards) shard → (put_into requests shard && sees_table u shard) ≡ true → (put_into requests shard && sees_table w shard) ≡ true
-  stays shard among both =
-      let parts = and_parts (put_into requests shard) (sees_table u shard) both in
-      and_from (put_into requests shard) (sees_table w shard) parts.0 (table_kept u w request shard (owns shard parts.0) may parts.1)
+  stays : (shard : ℕ) → Contains (words_from (λ i. i) 0 shards) shard → made_from requests v u shard ≡ true → made_from requests v w shard ≡ true
+  stays shard among all =
+      let parts = and_parts (put_into requests shard) (sees_table u shard && not (sees_table v shard)) all in
+      let both = and_parts (sees_table u shard) (not (sees_table v shard)) parts.1 in
+      and_from (put_into requests shard) (sees_table w shard && not (sees_table v shard)) parts.0 (and_from (sees_table w shard) (not (sees_table v shard)) (kept shard parts.0 both.0) both.1)
 
   sums : sum_by span_taken (rs ++ ((request, reply) ∷ [])) ≡ sum_by span_taken rs + span_taken (request, reply)
   sums = let both = sum_by-append span_taken rs ((request, reply) ∷ []) in let one = sum_by-cons span_taken (request, reply) [] in omega arith
 
-  by_case : TakesFew request reply u w → HasTaken requests (rs ++ ((request, reply) ∷ [])) v w
+  by_case : TakesFew request reply u w → w.taken ≤ v.taken + sum_by span_taken (rs ++ ((request, reply) ∷ [])) + tables_made (put_into requests) v w
   by_case (answered_node few) =
-      let more = count_rises (λ shard. put_into requests shard && sees_table u shard) (λ shard. put_into requests shard && sees_table w shard) (words_from (λ i. i) 0 shards) stays in
-      let all_sums = sums in omega arith
+      let more = count_rises (made_from requests v u) (made_from requests v w) (words_from (λ i. i) 0 shards) stays in
+      let all_sums = sums in let before = was.taken in omega arith
   by_case (answered_table is null now few) =
       let shard = shard_asked request in
-      let more = count_gains (λ shard. put_into requests shard && sees_table u shard) (λ shard. put_into requests shard && sees_table w shard) (words_from (λ i. i) 0 shards) shard
+      let into = put_into_has requests request is h in
+      let none = null_unset (u.volatile (root_word shard)) null in
+      let more = count_gains (made_from requests v u) (made_from requests v w) (words_from (λ i. i) 0 shards) shard
       (in_numbers 0 shards shard (omega arith) (let small = small_shard request in omega arith))
-      (and_right (put_into requests shard) (sees_table u shard) (null_unset (u.volatile (root_word shard)) null))
-      (and_from (put_into requests shard) (sees_table w shard) (put_into_has requests request is h) (value_set (w.volatile (root_word shard)) now.value now.seen now.some)) stays in
-      let all_sums = sums in omega arith
+      (and_right (put_into requests shard) (sees_table u shard && not (sees_table v shard)) (and_left (sees_table u shard) (not (sees_table v shard)) none))
+      (and_from (put_into requests shard) (sees_table w shard && not (sees_table v shard)) into
+          (and_from (sees_table w shard) (not (sees_table v shard)) (value_set (w.volatile (root_word shard)) now.value now.seen now.some) (none_before v u shard (was.sees shard into) none))) stays in
+      let all_sums = sums in let before = was.taken in omega arith
 
 -- a request that may not have been answered
 pub taken_stopped : (requests : List Request) (rs : List (Request × Reply)) (request : Request) (others : List Request) (v u w : View) → Contains requests request → HasTaken requests rs v u → MayTake request u w
-    → HasTakenFew requests rs (request ∷ others) v w
-taken_stopped requests rs request others v u w h was (for_node few) = record { taken = let tables = tables_few requests u in omega arith }
+    → HasTakenFew (tables_missing (put_into requests) v) rs (request ∷ others) v w
+taken_stopped requests rs request others v u w h was (for_node few) = record { taken = let tables = tables_few requests v u in let before = was.taken in omega arith }
 taken_stopped requests rs request others v u w h was (with_table is null few) = record {
   taken = let shard = shard_asked request in
-      let tables = count_gains (λ shard. put_into requests shard && sees_table u shard) (put_into requests) (words_from (λ i. i) 0 shards) shard
+      let into = put_into_has requests request is h in
+      let none = null_unset (u.volatile (root_word shard)) null in
+      let tables = count_gains (λ x. put_into requests x && (sees_table u x && not (sees_table v x))) (λ x. put_into requests x && not (sees_table v x)) (words_from (λ i. i) 0 shards) shard
       (in_numbers 0 shards shard (omega arith) (let small = small_shard request in omega arith))
-      (and_right (put_into requests shard) (sees_table u shard) (null_unset (u.volatile (root_word shard)) null))
-      (put_into_has requests request is h)
-      (λ x among both. (and_parts (put_into requests x) (sees_table u x) both).0) in
+      (and_right (put_into requests shard) (sees_table u shard && not (sees_table v shard)) (and_left (sees_table u shard) (not (sees_table v shard)) none))
+      (and_from (put_into requests shard) (not (sees_table v shard)) into (none_before v u shard (was.sees shard into) none))
+      (λ x among all.
+          let parts = and_parts (put_into requests x) (sees_table u x && not (sees_table v x)) all in
+          and_from (put_into requests x) (not (sees_table v x)) parts.0 (and_parts (sees_table u x) (not (sees_table v x)) parts.1).1) in
+      let before = was.taken in
       omega arith;
 }
 
 -- where all were answered
-pub taken_ended : (requests : List Request) (rs : List (Request × Reply)) (v w : View) → HasTaken requests rs v w → HasTakenFew requests rs [] v w
-taken_ended requests rs v w was = record { taken = let tables = tables_few requests w in omega arith }
+pub taken_ended : (requests : List Request) (rs : List (Request × Reply)) (v w : View) → HasTaken requests rs v w → HasTakenFew (tables_missing (put_into requests) v) rs [] v w
+taken_ended requests rs v w was = record { taken = let tables = tables_few requests v w in let before = was.taken in omega arith }
 
 -- a shard that has a key in every mixture has a table, as loads see it
 seen_or_null : Option ℕ → ℕ

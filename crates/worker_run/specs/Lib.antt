@@ -2,4 +2,5 @@ pub mod Examples
 pub mod Left
 pub mod Rooms
 pub mod Said
+pub mod Sending
 pub mod Taking

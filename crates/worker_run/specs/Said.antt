@@ -3,7 +3,7 @@ use Rattle.std.specs.Prelude.{◌≤◌, List, length, map, Option, None, Some, 
 use Rattle.dict_model.specs.Nodes.{largest_value}
 use Rattle.dict_model.specs.Requests.{Request, put, get, del, move, Reply, done, full, none, found}
 pub use Rattle.trace_text.specs.declared.request.Request.{Request as Line}
-use Rattle.trace_text.specs.declared.request.Request.TheVariants.{Put, Get, Del}
+use Rattle.trace_text.specs.declared.request.Request.TheVariants.{Put, Get, Del, Move}
 pub use Rattle.trace_text.specs.declared.reply.Reply.{Reply as Told}
 use Rattle.trace_text.specs.declared.reply.Reply.TheVariants.{Ok, Full, None as NotThere, Value, Unanswered}
 use Rattle.run_model.specs.Workers.{Replies}
@@ -13,6 +13,7 @@ abbrev pub request_of : Line → Request
 request_of (Put key value) = put key value
 request_of (Get key) = get key
 request_of (Del key) = del key
+request_of (Move key to) = move key to
 
 -- the reply that is told, if there is one
 abbrev pub reply_of : Told → Option Reply

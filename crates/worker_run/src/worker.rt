@@ -15,7 +15,7 @@ pub struct Worker {
     pub workers: usize,
 }
 
-/// The key that the request is about.
+/// The key that the request is about; of a move the one that it takes out.
 fn key_of(request: &Request) -> u64
     ensures { result ≡ asked (request_of request.now) }
 {
@@ -23,6 +23,7 @@ fn key_of(request: &Request) -> u64
         Request::Put(key, _) => *key,
         Request::Get(key) => *key,
         Request::Del(key) => *key,
+        Request::Move(key, _) => *key,
     }
 }
 
