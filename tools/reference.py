@@ -1,6 +1,6 @@
 """A second reading of docs/IMAGE.md and of the allocator's rules, apart from the crates: what
-`heap_tool` has to say of an image, and of a run of a trace over it with one worker. `compare` holds
-the program against it."""
+`heap_tool` has to say of an image. reference_runs.py says what of a run of a trace. `compare` holds
+the program against both."""
 
 import struct
 
@@ -55,6 +55,12 @@ def migrated(words):
     if words[VERSION] == 2:
         return words
     return words[:VERSION] + [2] + words[VERSION + 1:] + FIRST_KINDS
+
+
+def empty_image(capacity):
+    words = [0] * kinds_begin(capacity) + FIRST_KINDS
+    words[0], words[VERSION], words[2], words[STATE] = MAGIC, 2, capacity, 1
+    return to_bytes(words)
 
 
 class Image:
@@ -435,68 +441,3 @@ def drain(data, c):
         offsets.append(8 * first)
     return ([f"class {c} size {SIZES[c]} blocks {len(offsets)}"]
             + [str(offset) for offset in sorted(offsets)])
-
-
-class Run:
-    """A run of a trace that isn't stopped. A request is (name, key) or ("put", key, value)."""
-
-    def __init__(self, data, trace):
-        self.image = Image(data)
-        held = self.image.held()
-        found = {key: it for shard in self.image.maps() for key, it in shard.items()}
-        self.values = {key: value for key, (value, _) in found.items()}
-        self.nodes = {key: node for key, (_, node) in found.items()}
-        self.tables = {shard for shard in range(8) if self.image.words[40 + shard]}
-        self.heap = Heap(self.image, held)
-        self.before, self.trace = dict(self.values), trace
-        self.replies = [self.reply(*request) for request in trace]
-
-    def reply(self, name, key, value=None):
-        if name == "put":
-            return self.put(key, value)
-        if key not in self.values:
-            return "none"
-        if name == "get":
-            return self.values[key].hex() or "-"
-        del self.values[key]
-        self.heap.free(self.nodes.pop(key))
-        return "ok"
-
-    def put(self, key, value):
-        if key % 8 not in self.tables:
-            if self.heap.alloc(1024) is None:
-                return "full"
-            self.tables.add(key % 8)
-        node = self.heap.alloc(24 + 8 * -(-len(value) // 8))
-        if node is None:
-            return "full"
-        if key in self.nodes:
-            self.heap.free(self.nodes[key])
-        self.nodes[key], self.values[key] = node, value
-        return "ok"
-
-    def values_after(self, count):
-        """The values after the first `count` requests."""
-        values = dict(self.before)
-        for request, reply in list(zip(self.trace, self.replies))[:count]:
-            if request[0] == "put" and reply == "ok":
-                values[request[1]] = request[2]
-            elif request[0] == "del":
-                values.pop(request[1], None)
-        return values
-
-    def text(self, is_sum, with_map):
-        """What the run prints."""
-        lines = list(self.replies)
-        if is_sum:
-            gets = [reply for request, reply in zip(self.trace, self.replies)
-                    if request[0] == "get" and reply != "none"]
-            lines = ["requests {} ok {} none {} value {} full {} unanswered 0".format(
-                len(self.trace), lines.count("ok"), lines.count("none"), len(gets),
-                lines.count("full"))]
-        held = sorted(self.heap.held.items())
-        lines += ["run closed", f"heap {self.image.capacity} clean"]
-        lines += key_lines(self.values, is_sum) + held_lines(held)
-        if with_map:
-            lines += map_lines(self.image, self.heap.used, self.heap.infos.__getitem__, held)
-        return lines

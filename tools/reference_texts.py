@@ -26,7 +26,8 @@ def is_request(line):
     name, *words = line.split(b" ")
     if name == b"put":
         return len(words) == 2 and is_number(words[0]) and is_value(words[1])
-    return name in (b"get", b"del") and len(words) == 1 and is_number(words[0])
+    count = {b"get": 1, b"del": 1, b"move": 2}.get(name)
+    return len(words) == count and all(map(is_number, words))
 
 
 def is_step(line, seats):
@@ -49,3 +50,16 @@ def bad_step(text):
         return 1
     seats = int(words[0])
     return next((at for at, line in enumerate(further, 2) if not is_step(line, seats)), None)
+
+
+def requests_of(text):
+    """The requests of a trace in the grammar, as random_traces.py has them."""
+    requests = []
+    for line in lines_of(text):
+        name, *words = line.decode().split(" ")
+        if name == "put":
+            value = bytes.fromhex("" if words[1] == "-" else words[1])
+            requests.append((name, int(words[0]), value))
+        else:
+            requests.append((name, *map(int, words)))
+    return requests
