@@ -6,10 +6,11 @@
 # make faults  refuses each request for memory of a small run in turn, and says how the runs ended
 # make schedules  runs the schedules of docs/ALGORITHM.md, and compares their answers
 # make compare  holds the program against a second reading of the format, over damaged images, random traces and schedules, for a minute
+# make readings  checks the second readings of traces and runs by small cases that were worked out by hand; make compare and make soak begin with it
 # make kills   kills the program at random moments of a run, and counts which images and temporaries that leaves
 # make soak    runs random traces with one to eight workers for ten minutes (MINUTES), and holds each answer against a second reading; then threads that allocate and free at random, and threads that hand blocks round, for one minute each
 # make clean   removes what these made
-.PHONY: all test demo check bench faults schedules compare kills soak clean
+.PHONY: all test demo check bench faults schedules readings compare kills soak clean
 
 all: bin/heap_tool
 
@@ -38,7 +39,10 @@ faults:
 schedules: bin/heap_tool
 	tools/schedules
 
-compare: bin/heap_tool
+readings:
+	tools/check_readings
+
+compare: bin/heap_tool readings
 	tools/compare
 
 kills: bin/heap_tool
@@ -46,7 +50,7 @@ kills: bin/heap_tool
 
 MINUTES = 10
 
-soak: bin/heap_tool
+soak: bin/heap_tool readings
 	tools/soak $(MINUTES)
 	tools/seats 1
 	tools/hands 1
