@@ -60,7 +60,7 @@ pub record AreFullRightly {S : Type 0} (view : S → View) (keeps : S → S → 
 pub record HasTakenFew (tables : ℕ) (rs : List (Request × Reply)) (left : List Request) (v w : View) : Type 0 where
   pub taken : w.taken ≤ v.taken + (sum_by span_taken rs + first_span left) + tables
 
--- so many requests make three large calls each at most, and so many small ones
-pub record MakeFew (requests small : ℕ) (v w : View) : Type 0 where
+-- so many requests make so many small calls each at most, and so many large ones together
+pub record MakeFew (requests small large : ℕ) (v w : View) : Type 0 where
   pub most : ℕ
-  pub row : IsRow (requests * small) (3 * requests) most v w
+  pub row : IsRow (requests * small) large most v w

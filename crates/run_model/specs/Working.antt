@@ -1,19 +1,20 @@
 -- How far a run has come in its trace, where it was stopped, the room that there is for the values that it reads, and what each request did.
-use Rattle.std.specs.Prelude.{◌≡◌, ℕ, ◌+◌, ◌<◌, ◌≤◌, ◌⊎◌, Bool, true, List, [], ◌∷◌, ◌++◌, length, map, Option, Some, Contains}
+use Rattle.std.specs.Prelude.{◌≡◌, ℕ, ◌+◌, ◌*◌, ◌<◌, ◌≤◌, ◌⊎◌, Bool, true, List, [], ◌∷◌, ◌++◌, length, map, Option, Some, Contains}
 use Rattle.heap_model.specs.Image.{Image}
 use Rattle.heap_seat.specs.declared.fault.Looks.{Looks}
 use Rattle.heap_seat.specs.View.{View}
 use Rattle.heap_seat.specs.Calls.{SameRefusals}
 use Rattle.heap_seat.specs.Sound.{IsSeat}
+use Rattle.heap_seat.specs.Rows.{IsRow}
 use Rattle.heap_seat.specs.Tickets.{Runs}
 use Rattle.dict_model.specs.Links.{shards}
 use Rattle.dict_model.specs.Nodes.{largest_value, shard_of, value_words, node_bytes, table_bytes}
 use Rattle.dict_model.specs.Requests.{Request, put, get, del, move, Reply, full}
 use Rattle.dict_model.specs.Shards.{Map, MapOf}
-use Rattle.dict_seat.specs.Answers.{MakesFew}
 use Rattle.dict_seat.specs.Gets.{words_of}
 use Rattle.dict_seat.specs.Maps.{GivesMap}
 use Rattle.dict_seat.specs.Puts.{WasTurnedDown}
+use Rattle.dict_seat.specs.Walks.{ListsKeys}
 use Rattle.run_model.specs.Workers.{Replies, shard_asked}
 use Rattle.run_model.specs.Progress.{Answers, MayAnswer, HasAnswered}
 use Rattle.run_model.specs.Spending.{TakesFew, HadNoRoom, IsPut}
@@ -88,10 +89,18 @@ words_copied (get key) map = words_of (map key)
 words_copied (del key) map = 0
 words_copied (move key to) map = 0
 
+-- the large calls that a request makes at most
+abbrev pub large_calls_of : Request → ℕ
+large_calls_of (put key value) = 3
+large_calls_of (get key) = 3
+large_calls_of (del key) = 3
+large_calls_of (move key to) = 0
+
 -- a request makes few calls, by the words that it copies and the keys of its shard
 pub record MakesCalls (request : Request) (v w : View) : Type 0 where
   pub most : ℕ
-  pub few : (map : Map) → GivesMap v (shard_asked request) map → MakesFew (words_copied request map) most (shard_asked request) v w
+  pub few : (map : Map) → GivesMap v (shard_asked request) map → (keys : List ℕ) → ListsKeys v (shard_asked request) keys
+      → IsRow (512 + 2 * words_copied request map + 4 * length keys) (large_calls_of request) most v w
 
 -- What was done behind the last reply: nothing where no request is left, and else a part of the first one, by no more calls than that may make.
 abbrev pub IsUnderWay : List Request → View → View → Type 0

@@ -1,5 +1,5 @@
 -- Tables that are made one after the other, and what of the earlier ones stands.
-use Rattle.std.proofs.Common.{◌≡◌, ◌≢◌, ℕ, zero, suc, ◌+◌, ◌-◌, ◌*◌, ◌<◌, ◌≤◌, ◌⊎◌, inl, inr, Bool, true, false, not, cond, List, [], ◌∷◌, Contains, length, set, refl, subst, sym, ap, ◌∙◌, arith}
+use Rattle.std.proofs.Common.{◌≡◌, ◌≢◌, ℕ, zero, suc, ◌+◌, ◌-◌, ◌*◌, ◌<◌, ◌≤◌, ◌⊎◌, inl, inr, Bool, true, false, not, cond, List, [], ◌∷◌, Some, Contains, length, set, refl, subst, sym, ap, ◌∙◌, arith}
 use Rattle.std.specs.Prelude.{count_by, ◌&&◌}
 use Rattle.std.proofs.lemmas.Bool.{cases_eq, and_parts, and_from, and_right}
 use Rattle.std.proofs.lemmas.List.Sums.{sum_by-cons}
@@ -79,7 +79,7 @@ sees_on v w at k after change is sees =
 tells_on : {S : Type 0} (view : S → View) (keeps : S → S → Type 0) (has_none : S → S → ℕ → Looks → Type 0) → ((x y z : S) → keeps x y → keeps y z → keeps x z) → (at k : ℕ) (b : Bool) (s t u : S)
     → IsShard (view t) k → HasTried view keeps at t u → TellsTable view keeps has_none k b s t → TellsTable view keeps has_none k b s u
 tells_on view keeps has_none row at k true s t u is tried set = set_changed (view t) (view u) at k (λ m. m) tried.change is.owned set
-tells_on view keeps has_none row at k false s t u is tried refused = record {
+tells_on view keeps has_none row at k false s t u is tried (null, refused) = (null, record {
   at = refused.at;
   before = refused.before;
   behind = row refused.at t u refused.behind tried.kept;
@@ -89,13 +89,29 @@ tells_on view keeps has_none row at k false s t u is tried refused = record {
   looks = refused.looks;
   none = let none = refused.none in
       record { before = none.before; after = none.after; kept_before = none.kept_before; none = none.none; kept_after = row none.after t u none.kept_after tried.kept };
-}
+})
+
+-- where a table doesn't go away, a root that is null was null
+null_before : (v w : View) (k : ℕ) → (sees_table v k ≡ true → sees_table w k ≡ true) → WasNull w k → WasNull v k
+null_before v w k sees null x is = elim (cases_eq x 0) as (λ _. x ≡ 0) [
+  | inl none ↦ none
+  | inr some ↦
+      let now = set_value (w.volatile (root_word k)) (sees (value_set (v.volatile (root_word k)) x is some)) in
+      absurd (now.2 (null now.0 now.1))
+]
+
+-- a root that a call found null was null before the call, which keeps a table
+pub null_at_first : (v w : View) (k : ℕ) (after : Map → Map) → MayChange k after v w → Contains v.roots k → w.volatile (root_word k) ≡ Some 0 → WasNull v k
+null_at_first v w k after change owned null x is = elim (cases_eq x 0) as (λ _. x ≡ 0) [
+  | inl none ↦ none
+  | inr some ↦ let e : Some x ≡ Some 0 = sym (change.table.root x owned is some) ∙ null in cc
+]
 
 -- and what one shard is told is so from an earlier state on
 tells_from : {S : Type 0} (view : S → View) (keeps : S → S → Type 0) (has_none : S → S → ℕ → Looks → Type 0) → ((x y z : S) → keeps x y → keeps y z → keeps x z) → (k : ℕ) (b : Bool) (s t u : S)
-    → keeps s t → TellsTable view keeps has_none k b t u → TellsTable view keeps has_none k b s u
-tells_from view keeps has_none row k true s t u kept set = set
-tells_from view keeps has_none row k false s t u kept refused = record {
+    → keeps s t → (sees_table (view s) k ≡ true → sees_table (view t) k ≡ true) → TellsTable view keeps has_none k b t u → TellsTable view keeps has_none k b s u
+tells_from view keeps has_none row k true s t u kept sees set = set
+tells_from view keeps has_none row k false s t u kept sees (null, refused) = (null_before (view s) (view t) k sees null, record {
   at = refused.at;
   before = row s t refused.at kept refused.before;
   behind = refused.behind;
@@ -105,7 +121,7 @@ tells_from view keeps has_none row k false s t u kept refused = record {
   looks = refused.looks;
   none = let none = refused.none in
       record { before = none.before; after = none.after; kept_before = row s t none.before kept none.kept_before; none = none.none; kept_after = none.kept_after };
-}
+})
 
 -- the first of the numbers that are left
 count_first : (f : ℕ → Bool) (n : ℕ) → n < shards → count_by f (words_from (λ i. i) n (shards - n)) ≡ cond (f n) 1 0 + count_by f (words_from (λ i. i) (n + 1) (shards - (n + 1)))
@@ -283,7 +299,7 @@ module _ {S : Type 0} (view : S → View) (keeps : S → S → Type 0) (has_none
         each = λ k small_k flagged_k. shard_on (view t) (view u) n (λ m. m) seat small tried.change (λ m. m) k (made.each k small_k flagged_k) tried.maps;
         told = λ k below small_k flagged_k. elim (cases_eq k n) as (λ _. TellsTable view keeps has_none k (is_flagged now k) s u) [
           | inl is ↦ subst (λ j. TellsTable view keeps has_none j (is_flagged now j) s u) (sym is)
-              (subst (λ b. TellsTable view keeps has_none n b s u) (sym is_has) (tells_from view keeps has_none row n has s t u made.kept tells))
+              (subst (λ b. TellsTable view keeps has_none n b s u) (sym is_has) (tells_from view keeps has_none row n has s t u made.kept (made.sees n small flagged) tells))
           | inr other ↦ subst (λ b. TellsTable view keeps has_none k b s u) (sym (same k other))
               (tells_on view keeps has_none row n k (is_flagged tables k) s t u (made.each k small_k flagged_k) tried (made.told k (omega arith) small_k flagged_k))
         ];

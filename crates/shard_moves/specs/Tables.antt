@@ -7,7 +7,7 @@ use Rattle.heap_seat.specs.Looks.{KnowsNoLess}
 use Rattle.heap_seat.specs.View.{View}
 use Rattle.dict_model.specs.Links.{shards}
 use Rattle.dict_model.specs.Nodes.{table_bytes}
-use Rattle.dict_seat.specs.Puts.{RootIsSet, WasTurnedDown}
+use Rattle.dict_seat.specs.Puts.{RootIsSet, WasNull, WasTurnedDown}
 
 -- whether the shard's flag is set
 abbrev pub is_flagged : List Bool → ℕ → Bool
@@ -34,7 +34,7 @@ pub record WasRefusedTable {S : Type 0} (view : S → View) (keeps : S → S →
   pub looks : Looks
   pub none : WasTurnedDown keeps has_none table_bytes looks s t
 
--- what is told of a shard: that it has a table, or that there was no room for one
+-- what is told of a shard: that it has a table; or that it had none and there was no room for one
 abbrev pub TellsTable : {S : Type 0} → (S → View) → (S → S → Type 0) → (S → S → ℕ → Looks → Type 0) → ℕ → Bool → S → S → Type 0
 TellsTable view keeps has_none shard true s t = RootIsSet (view t) shard
-TellsTable view keeps has_none shard false s t = WasRefusedTable view keeps has_none s t
+TellsTable view keeps has_none shard false s t = WasNull (view s) shard × WasRefusedTable view keeps has_none s t

@@ -1,5 +1,5 @@
 -- A run's requests add up: the calls that they make, the superblocks that they take, and why one was told that there is no room.
-use Rattle.std.proofs.Common.{◌≡◌, ◌≢◌, ℕ, ◌+◌, ◌*◌, ◌<◌, ◌≤◌, ◌⊎◌, inl, inr, List, [], ◌∷◌, ◌++◌, length, map, None, Some, Contains, refl, subst, sym, ap, ◌∙◌, arith}
+use Rattle.std.proofs.Common.{◌≡◌, ◌≢◌, ℕ, ◌+◌, ◌*◌, ◌<◌, ◌≤◌, ◌⊎◌, inl, inr, List, [], ◌∷◌, ◌++◌, length, map, sum_by, None, Some, Contains, refl, subst, sym, ap, ◌∙◌, arith}
 use Rattle.std.proofs.Math.Nat.{add-mul, mul-le-mul_right}
 use Rattle.std.proofs.lemmas.List.{length-map, length-append}
 use Rattle.std.proofs.lemmas.List.Elements.{Contains-append_left, Contains-append_right}
@@ -19,7 +19,7 @@ use Rattle.run_model.specs.Opened.{HasMaps}
 use Rattle.run_model.specs.Runs.{answered, unanswered, of_shard, span_taken}
 use Rattle.run_model.specs.Spending.{IsPut, HadNoRoom, IsFullBehind, AreFullRightly, MakeFew, tables_missing}
 use Rattle.run_model.specs.Workers.{key_of, shard_asked, Replies}
-use Rattle.run_model.specs.Working.{Fits, HasWorked, MakesCalls, words_copied}
+use Rattle.run_model.specs.Working.{Fits, HasWorked, MakesCalls, large_calls_of, words_copied}
 use Rattle.worker_run.specs.Said.{IsShort, Told, reply_of, replies_of}
 use Rattle.worker_run.proofs.AnsweringLemmas.{copies_few, there_or_not}
 use Rattle.worker_run.proofs.KeyLemmas.{seat_keys}
@@ -106,14 +106,37 @@ keys_listed image qs left q replies v keys maps owned worked lists = record { ma
     ]
   ]
 
--- no request makes no call, and one more makes as many as one does
-pub few_none : (small : ℕ) (v : View) → MakeFew 0 small v v
-few_none small v = record { most = 0; row = row_more 0 0 0 (0 * small) (3 * 0) 0 v v (omega arith) (omega arith) (omega arith) (row_none v) }
+-- the large calls of answered requests, and of some more
+abbrev pub larges_of : List (Request × Reply) → ℕ
+larges_of rs = sum_by (λ r. large_calls_of r.0) rs
 
-pub few_next : (requests small : ℕ) (image : Image) (qs left : List Request) (q : Request) (replies : Replies) (v u w : View) (room : ℕ) (keys : List ℕ) → small ≡ 33280 + 4 * (length keys + length qs)
-    → HasMaps image → Contains u.roots (shard_asked q) → HasWorked image qs (q ∷ left) replies u → ListsKeysOf image keys → IsShort q → Fits u q room → MakesCalls q u w → MakeFew requests small v u
-    → MakeFew (requests + 1) small v w
-few_next requests small image qs left q replies v u w room keys small_is maps owned worked lists short fits calls few =
+pub larges_push : (rs : List (Request × Reply)) (q : Request) (r : Reply) → larges_of (rs ++ ((q, r) ∷ [])) ≡ larges_of rs + large_calls_of q
+larges_push rs q r =
+    let both = sum_by-append (λ (x : Request × Reply). large_calls_of x.0) rs ((q, r) ∷ []) in
+    let one = sum_by-cons (λ (x : Request × Reply). large_calls_of x.0) (q, r) [] in
+    omega arith
+
+larges_asked : (rs : List (Request × Reply)) (left : List Request) → sum_by large_calls_of (map (λ r. r.0) rs ++ left) ≡ larges_of rs + sum_by large_calls_of left
+larges_asked [] left = omega arith
+larges_asked (r ∷ rs) left =
+    let a = sum_by-cons large_calls_of r.0 (map (λ x. x.0) rs ++ left) in
+    let b = sum_by-cons (λ (x : Request × Reply). large_calls_of x.0) r rs in
+    let rest = larges_asked rs left in
+    omega arith
+
+pub larges_worked : (image : Image) (qs left : List Request) (replies : Replies) (v : View) → HasWorked image qs left replies v → larges_of (answered qs replies) + sum_by large_calls_of left ≡ sum_by large_calls_of qs
+larges_worked image qs left replies v worked =
+    subst (λ rs. larges_of rs + sum_by large_calls_of left ≡ sum_by large_calls_of qs) (sym (answered_now image qs left replies v worked))
+    (subst (λ xs. larges_of worked.rs + sum_by large_calls_of left ≡ sum_by large_calls_of xs) (sym worked.requests_are) (sym (larges_asked worked.rs left)))
+
+-- no request makes no call, and one more makes as many as one does
+pub few_none : (small : ℕ) (v : View) → MakeFew 0 small 0 v v
+few_none small v = record { most = 0; row = row_more 0 0 0 (0 * small) 0 0 v v (omega arith) (omega arith) (omega arith) (row_none v) }
+
+pub few_next : (requests small large : ℕ) (image : Image) (qs left : List Request) (q : Request) (replies : Replies) (v u w : View) (room : ℕ) (keys : List ℕ) → small ≡ 33280 + 4 * (length keys + length qs)
+    → HasMaps image → Contains u.roots (shard_asked q) → HasWorked image qs (q ∷ left) replies u → ListsKeysOf image keys → IsShort q → Fits u q room → MakesCalls q u w → MakeFew requests small large v u
+    → MakeFew (requests + 1) small (large + large_calls_of q) v w
+few_next requests small large image qs left q replies v u w room keys small_is maps owned worked lists short fits calls few =
     let listed = keys_listed image qs left q replies u keys maps owned worked lists in
     let moves : words_copied q listed.map ≤ 16384 = copies_few q u room short fits listed.map listed.gives in
     let row = calls.few listed.map listed.gives (keys ++ map key_of qs) listed in
@@ -122,15 +145,15 @@ few_next requests small image qs left q replies v u w room keys small_is maps ow
     let product = add-mul requests 1 small in
     record {
       most = few.most + calls.most;
-      row = row_more (requests * small + (512 + 2 * words_copied q listed.map + 4 * length (keys ++ map key_of qs))) (3 * requests + 3) (few.most + calls.most) ((requests + 1) * small) (3 * (requests + 1)) (few.most + calls.most) v w
+      row = row_more (requests * small + (512 + 2 * words_copied q listed.map + 4 * length (keys ++ map key_of qs))) (large + large_calls_of q) (few.most + calls.most) ((requests + 1) * small) (large + large_calls_of q) (few.most + calls.most) v w
           (omega arith) (omega arith) (omega arith)
-          (row_then (requests * small) (3 * requests) few.most (512 + 2 * words_copied q listed.map + 4 * length (keys ++ map key_of qs)) 3 calls.most v u w few.row row);
+          (row_then (requests * small) large few.most (512 + 2 * words_copied q listed.map + 4 * length (keys ++ map key_of qs)) (large_calls_of q) calls.most v u w few.row row);
     }
 
-pub few_more : (requests more small : ℕ) (v w : View) → requests ≤ more → MakeFew requests small v w → MakeFew more small v w
-few_more requests more small v w most few = record {
+pub few_more : (requests more small large larger : ℕ) (v w : View) → requests ≤ more → large ≤ larger → MakeFew requests small large v w → MakeFew more small larger v w
+few_more requests more small large larger v w most most_large few = record {
   most = few.most;
-  row = row_more (requests * small) (3 * requests) few.most (more * small) (3 * more) few.most v w (mul-le-mul_right small most) (omega arith) (omega arith) few.row;
+  row = row_more (requests * small) large few.most (more * small) larger few.most v w (mul-le-mul_right small most) most_large (omega arith) few.row;
 }
 
 -- a place in a list that got one more: the last one, or one from before

@@ -1,5 +1,5 @@
 //! The requests of one worker, worked off one after the other.
-ghost use Rattle.std.specs.Prelude.{◌≡◌, ℕ, ◌+◌, ◌*◌, ◌≤◌, ◌<◌, List, [], ◌++◌, length, None, Some, IsTrue, IsFalse, Contains};
+ghost use Rattle.std.specs.Prelude.{◌≡◌, ℕ, ◌+◌, ◌*◌, ◌≤◌, ◌<◌, List, [], ◌++◌, length, sum_by, None, Some, IsTrue, IsFalse, Contains};
 ghost use Rattle.std.specs.List.Sorted.{IsPermutation};
 ghost use Rattle.std.specs.Vec.{vec_capacity};
 ghost use Rattle.heap_model.specs.Image.{Image};
@@ -16,7 +16,7 @@ ghost use Rattle.run_model.specs.Runs.{answered, unanswered};
 ghost use Rattle.run_model.specs.Sending.{all_sent, worker_numbered};
 ghost use Rattle.run_model.specs.Spending.{AreFullRightly, HasTakenFew, MakeFew, tables_missing};
 ghost use Rattle.run_model.specs.Workers.{worker_of, worker_requests};
-ghost use Rattle.run_model.specs.Working.{HasWorked, HasStopped, HaveRoom, IsUnderWay, TakesRequests};
+ghost use Rattle.run_model.specs.Working.{HasWorked, HasStopped, HaveRoom, IsUnderWay, TakesRequests, large_calls_of};
 ghost use Rattle.shard_moves.specs.Tables.{is_flagged};
 ghost use Rattle.worker_run.specs.Said.{requests_of, replies_of, ValuesAreShort};
 ghost use Rattle.worker_run.specs.Sending.{GoesByTables, rooms_needed};
@@ -93,7 +93,9 @@ pub fn work_off<H: HeapSeat, G: Gate, O: Outbox<H>>(
     ensures calls { (keys : List ℕ) → ListsKeysOf image keys → MakeFew
         (length (worker_requests worker.workers worker.number (requests_of requests.now)))
         (33280 + 4 * (length keys + length (worker_requests worker.workers worker.number
-        (requests_of requests.now)))) (H.view seat.old) (H.view seat.new) }
+        (requests_of requests.now))))
+        (sum_by large_calls_of (worker_requests worker.workers worker.number
+        (requests_of requests.now))) (H.view seat.old) (H.view seat.new) }
     ensures steps { (u : H) × TakesRequests H.view O.goes H.has_none
         (answered (worker_requests worker.workers worker.number (requests_of requests.now))
         (replies_of replies.new.items)) seat.old u

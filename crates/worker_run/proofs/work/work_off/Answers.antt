@@ -1,4 +1,4 @@
-use Rattle.std.proofs.Common.{◌≡◌, ◌+◌, ◌-◌, ◌*◌, List, [], ◌∷◌, ◌++◌, length, None, Some, Contains, refl, subst, sym, ap, ◌∙◌, arith}
+use Rattle.std.proofs.Common.{◌≡◌, ◌+◌, ◌-◌, ◌*◌, List, [], ◌∷◌, ◌++◌, length, sum_by, None, Some, Contains, refl, subst, sym, ap, ◌∙◌, arith}
 use Rattle.std.proofs.lemmas.List.{nil_from_length, length-append}
 use Rattle.std.proofs.lemmas.List.Sums.{sum_by-cons}
 use Rattle.run_model.specs.Runs.{answered}
@@ -7,7 +7,7 @@ use Rattle.run_model.specs.Needs.{put_into}
 use Rattle.run_model.specs.Sending.{all_sent, worker_numbered}
 use Rattle.run_model.specs.Spending.{AreFullRightly, HasTakenFew, MakeFew, tables_missing}
 use Rattle.run_model.specs.Workers.{worker_requests}
-use Rattle.run_model.specs.Working.{HasWorked, Fits, IsUnderWay, TakesRequests}
+use Rattle.run_model.specs.Working.{HasWorked, Fits, IsUnderWay, TakesRequests, large_calls_of}
 use Rattle.dict_model.specs.Requests.{Request, Reply}
 use Rattle.heap_model.proofs.MemberLemmas.{in_none}
 use Rattle.shard_moves.specs.Tables.{is_flagged}
@@ -16,7 +16,7 @@ use Rattle.worker_run.specs.Sending.{GoesByTables, HasSent, needs_room, rooms_ne
 use Rattle.worker_run.proofs.SentLemmas.{HasSentSo, goes_on, sent_begins, sent_next, sent_past, sent_all}
 use Rattle.worker_run.proofs.MineLemmas.{is_next, mine_among, mine_next, owns_still, puts_owned, rooms_next, no_room_left}
 use Rattle.run_model.proofs.GoesOnLemmas.{takes_push}
-use Rattle.worker_run.proofs.SpendLemmas.{answered_none, answered_now, answered_next, unanswered_now, worked_count, few_none, few_next, few_more, full_behind, knows_call, refused_none, refused_on, refused_next}
+use Rattle.worker_run.proofs.SpendLemmas.{answered_none, answered_now, answered_next, unanswered_now, worked_count, few_none, few_next, few_more, full_behind, knows_call, larges_of, larges_push, larges_worked, refused_none, refused_on, refused_next}
 use Rattle.worker_run.proofs.TakenLemmas.{HasTaken, taken_none, taken_next, taken_stopped, taken_ended}
 use Rattle.worker_run.proofs.WorkLemmas.{map_push, work_begins, room_fits, work_replied}
 use Rattle.worker_run.proofs.work.work_off.Goals as goal
@@ -36,7 +36,8 @@ loop-request-init g c =
       taken = subst (λ rs. HasTaken qs (answered qs (replies_of rs)) v v) (sym empty) (subst (λ rs. HasTaken qs rs v v) (sym (answered_none qs)) (taken_none qs v));
       full = subst (λ rs. AreFullRightly g.H.HeapSeat.view g.O.Outbox.goes (tables_missing (put_into qs) v) (answered qs (replies_of rs)) c.args.seat.now c.args.seat.now) (sym empty)
           (subst (λ rs. AreFullRightly g.H.HeapSeat.view g.O.Outbox.goes (tables_missing (put_into qs) v) rs c.args.seat.now c.args.seat.now) (sym (answered_none qs)) (refused_none g.H.HeapSeat.view g.O.Outbox.goes (tables_missing (put_into qs) v) c.args.seat.now c.args.seat.now));
-      calls = λ keys lists. subst (λ rs. MakeFew (length rs) (33280 + 4 * (length keys + length qs)) v v) (sym empty) (few_none (33280 + 4 * (length keys + length qs)) v);
+      calls = λ keys lists. subst (λ rs. MakeFew (length rs) (33280 + 4 * (length keys + length qs)) (larges_of (answered qs (replies_of rs))) v v) (sym empty)
+          (subst (λ rs. MakeFew 0 (33280 + 4 * (length keys + length qs)) (larges_of rs) v v) (sym (answered_none qs)) (few_none (33280 + 4 * (length keys + length qs)) v));
       steps = subst (λ rs. TakesRequests g.H.HeapSeat.view g.O.Outbox.goes g.H.HeapSeat.has_none (answered qs (replies_of rs)) c.args.seat.now c.args.seat.now) (sym empty)
           (subst (λ rs. TakesRequests g.H.HeapSeat.view g.O.Outbox.goes g.H.HeapSeat.has_none rs c.args.seat.now c.args.seat.now) (sym (answered_none qs)) refl);
       roots = refl;
@@ -187,8 +188,10 @@ returns-in_default-answered-clause-calls g c = λ keys lists.
     let room = length c.in-Some-pop_front.room in
     let fits = room_fits image (requests_of lines) mine c.requires.1.1.1.1.1.1.0 among q (q ∷ rest) (replies_of told) v room (g.met.H.HeapSeat.seat c.loop-request.seat) next.owned next.worked rooms.0 in
     let small = 33280 + 4 * (length keys + length mine) in
-    few_more (length told + 1) (length mine) small start w (let count = worked_count image mine (q ∷ rest) told v next.worked in omega arith)
-    (few_next (length told) small image mine rest q (replies_of told) start v w room keys refl c.requires.1.1.1.1.1.1.0 next.owned next.worked lists short fits c.answer-answered.ensures.calls (c.loop-request.invariant.calls keys lists))
+    let larges = larges_of (answered mine (replies_of told)) in
+    few_more (length told + 1) (length mine) small (larges + large_calls_of q) (sum_by large_calls_of mine) start w (let count = worked_count image mine (q ∷ rest) told v next.worked in omega arith)
+    (let all = larges_worked image mine (q ∷ rest) (replies_of told) v next.worked in let one = sum_by-cons large_calls_of q rest in omega arith)
+    (few_next (length told) small larges image mine rest q (replies_of told) start v w room keys refl c.requires.1.1.1.1.1.1.0 next.owned next.worked lists short fits c.answer-answered.ensures.calls (c.loop-request.invariant.calls keys lists))
 
 pub returns-in_default-answered-clause-steps : goal.returns-in_default-answered-clause-steps
 returns-in_default-answered-clause-steps g c =
@@ -261,9 +264,11 @@ loop-request-preserved-in-Ok g c =
           (λ x keeps. g.met.O.Outbox.goes_then x c.loop-request.seat c.answer-answered.new.seat keeps c.answer-answered.ensures.goes_on) knows)
           kept (g.met.O.Outbox.goes_none c.answer-answered.new.seat)
           (λ is_put full. full_behind mine (answered mine (replies_of told)) q replied.reply start w taken full (replied.room is_put full)));
-      calls = λ keys lists. subst (λ n. MakeFew n (33280 + 4 * (length keys + length mine)) start w) one_more
-          (few_next (length told) (33280 + 4 * (length keys + length mine)) image mine rest q (replies_of told) start v w room keys refl
-          c.requires.1.1.1.1.1.1.0 next.owned next.worked lists short fits c.answer-answered.ensures.calls (c.loop-request.invariant.calls keys lists));
+      calls = λ keys lists. subst (λ rs. MakeFew (length c.push_reserved.new.self.items) (33280 + 4 * (length keys + length mine)) (larges_of rs) start w) (sym now)
+          (subst (λ n. MakeFew (length c.push_reserved.new.self.items) (33280 + 4 * (length keys + length mine)) n start w) (sym (larges_push (answered mine (replies_of told)) q replied.reply))
+          (subst (λ n. MakeFew n (33280 + 4 * (length keys + length mine)) (larges_of (answered mine (replies_of told)) + large_calls_of q) start w) one_more
+          (few_next (length told) (33280 + 4 * (length keys + length mine)) (larges_of (answered mine (replies_of told))) image mine rest q (replies_of told) start v w room keys refl
+          c.requires.1.1.1.1.1.1.0 next.owned next.worked lists short fits c.answer-answered.ensures.calls (c.loop-request.invariant.calls keys lists))));
       steps = subst (λ rs. TakesRequests g.H.HeapSeat.view g.O.Outbox.goes g.H.HeapSeat.has_none rs c.args.seat.now c.answer-answered.new.seat) (sym now)
           (takes_push g.H.HeapSeat.view g.O.Outbox.goes g.H.HeapSeat.has_none (answered mine (replies_of told)) q replied.reply c.args.seat.now c.loop-request.seat c.answer-answered.new.seat c.loop-request.invariant.steps
           (record {
@@ -294,6 +299,27 @@ loop-request-preserved-in-Ok g c =
       tables = subst (λ rs. (request : Request) (answer : Reply) → Contains rs (request, answer) → GoesByTables (is_flagged c.args.tables.now) request (Some answer)) (sym now)
           (goes_on (is_flagged c.args.tables.now) (answered mine (replies_of told)) q replied.reply (subst (GoesByTables (is_flagged c.args.tables.now) q) replied.told_is c.in-Ok.ensures.tables) c.loop-request.invariant.tables);
     }
+
+pub returns-clause-calls : goal.returns-clause-calls
+returns-clause-calls g c = λ keys lists.
+    let image = g.image in
+    let v = g.H.HeapSeat.view c.loop-request.seat in
+    let start = g.H.HeapSeat.view c.args.seat.now in
+    let lines = c.args.requests.now in
+    let workers = c.args.worker.workers in
+    let worker = c.args.worker.number in
+    let mine = worker_requests workers worker (requests_of lines) in
+    let told = replies_of c.loop-request.replies.items in
+    let worked : HasWorked image mine [] told v = elim c.match-split_first.branch as (λ _. HasWorked image mine [] told v) [
+      | in-Some+then-has+in_default-pop_front w ↦
+          absurd (no_room_left workers worker c.loop-request.left.now w.in-Some.rest.now w.in-Some.request.now w.has.result w.in-Some.ensures.cases.0 w.has.ensures w.if-has.true image (requests_of lines) c.loop-request.rooms.items
+          (w.in_default-pop_front.ensures.items ∙ nil_from_length w.pop_front.new.self.items (let ok = w.pop_front.new.self.ok in let none = w.in_default-pop_front.ensures.cases.1 in omega arith)) c.loop-request.invariant.rooms)
+      | in_default w ↦ subst (λ (ls : List Line). HasWorked image mine (worker_requests workers worker (requests_of ls)) told v) (nil_from_length c.loop-request.left.now w.in_default.ensures.cases) c.loop-request.invariant.worked
+    ] in
+    let items = c.loop-request.replies.items in
+    let small = 33280 + 4 * (length keys + length mine) in
+    few_more (length items) (length mine) small (larges_of (answered mine told)) (sum_by large_calls_of mine) start v (let count = worked_count image mine [] items v worked in omega arith)
+    (let all = larges_worked image mine [] told v worked in omega arith) (c.loop-request.invariant.calls keys lists)
 
 pub returns-clause-taken : goal.returns-clause-taken
 returns-clause-taken g c =

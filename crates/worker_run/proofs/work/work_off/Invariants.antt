@@ -11,6 +11,7 @@ use Rattle.shard_moves.specs.Tables.{is_flagged}
 use Rattle.worker_run.specs.Said.{requests_of, replies_of}
 use Rattle.worker_run.specs.Sending.{GoesByTables, rooms_needed}
 use Rattle.worker_run.proofs.SentLemmas.{HasSentSo}
+use Rattle.worker_run.proofs.SpendLemmas.{larges_of}
 use Rattle.worker_run.proofs.TakenLemmas.{HasTaken}
 use Rattle.worker_run.proofs.work.work_off.Given as goal
 
@@ -28,6 +29,7 @@ invariant-loop-request g l = record {
       (answered (worker_requests l.fn.worker.workers l.fn.worker.number (requests_of l.fn.requests)) (replies_of l.replies.items)) l.initial.seat l.seat;
   calls : (keys : List ℕ) → ListsKeysOf g.image keys
       → MakeFew (length l.replies.items) (33280 + 4 * (length keys + length (worker_requests l.fn.worker.workers l.fn.worker.number (requests_of l.fn.requests))))
+      (larges_of (answered (worker_requests l.fn.worker.workers l.fn.worker.number (requests_of l.fn.requests)) (replies_of l.replies.items)))
       (g.H.HeapSeat.view l.initial.seat) (g.H.HeapSeat.view l.seat);
   steps : TakesRequests g.H.HeapSeat.view g.O.Outbox.goes g.H.HeapSeat.has_none (answered (worker_requests l.fn.worker.workers l.fn.worker.number (requests_of l.fn.requests)) (replies_of l.replies.items)) l.initial.seat l.seat;
   roots : (g.H.HeapSeat.view l.seat).roots ≡ (g.H.HeapSeat.view l.initial.seat).roots;
