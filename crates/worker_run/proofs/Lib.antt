@@ -12,4 +12,5 @@ pub mod SaidLemmas
 pub mod SentLemmas
 pub mod SpendLemmas
 pub mod TakenLemmas
+pub mod UnmovedLemmas
 pub mod WorkLemmas

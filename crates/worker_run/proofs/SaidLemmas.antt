@@ -1,5 +1,5 @@
 -- The values of a trace that was read are short.
-use Rattle.std.proofs.Common.{◌≡◌, ℕ, ◌≤◌, inl, inr, List, [], ◌∷◌, length, Contains, refl, subst, ap, arith}
+use Rattle.std.proofs.Common.{◌≡◌, ℕ, ◌≤◌, inl, inr, List, [], ◌∷◌, length, Contains, subst, ap, arith}
 use Rattle.heap_model.proofs.MemberLemmas.{in_none, head_or_rest}
 use Rattle.dict_model.specs.Nodes.{largest_value}
 use Rattle.dict_model.specs.Requests.{Request}

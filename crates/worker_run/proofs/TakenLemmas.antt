@@ -1,6 +1,6 @@
 -- How many superblocks requests take, and how many tables they make: each shard that is put into gets one at most.
 use Rattle.std.proofs.Common.{◌≡◌, ◌≢◌, ℕ, ◌+◌, ◌*◌, ◌≤◌, inl, inr, List, [], ◌∷◌, ◌++◌, sum_by, Option, None, Some, Bool, true, false, not, Contains, refl, subst, sym, ap, ◌∙◌, arith}
-use Rattle.std.specs.Prelude.{count_by, ◌&&◌}
+use Rattle.std.specs.Prelude.{◌&&◌}
 use Rattle.std.proofs.lemmas.Bool.{cases_eq, and_parts, and_from, and_left, and_right, eq-eqb, or_left, or_right}
 use Rattle.std.proofs.lemmas.List.Sums.{sum_by-cons, sum_by-append}
 use Rattle.heap_model.specs.Geometry.{root_word}
@@ -33,8 +33,8 @@ pub tables_few : (requests : List Request) (v w : View) → tables_made (put_int
 tables_few requests v w =
     count_rises (λ shard. put_into requests shard && (sees_table w shard && not (sees_table v shard))) (λ shard. put_into requests shard && not (sees_table v shard)) (words_from (λ i. i) 0 shards)
     (λ x h all.
-        let parts = and_parts (put_into requests x) (sees_table w x && not (sees_table v x)) all in
-        and_from (put_into requests x) (not (sees_table v x)) parts.0 (and_parts (sees_table w x) (not (sees_table v x)) parts.1).1)
+    let parts = and_parts (put_into requests x) (sees_table w x && not (sees_table v x)) all in
+    and_from (put_into requests x) (not (sees_table v x)) parts.0 (and_parts (sees_table w x) (not (sees_table v x)) parts.1).1)
 
 -- where none has gone away, a shard that has none had none
 none_before : (v u : View) (shard : ℕ) → (sees_table v shard ≡ true → sees_table u shard ≡ true) → sees_table u shard ≡ false → not (sees_table v shard) ≡ true
@@ -112,7 +112,7 @@ taken_next requests rs request reply v u w h owns may was takes = record { taken
       (in_numbers 0 shards shard (omega arith) (let small = small_shard request in omega arith))
       (and_right (put_into requests shard) (sees_table u shard && not (sees_table v shard)) (and_left (sees_table u shard) (not (sees_table v shard)) none))
       (and_from (put_into requests shard) (sees_table w shard && not (sees_table v shard)) into
-          (and_from (sees_table w shard) (not (sees_table v shard)) (value_set (w.volatile (root_word shard)) now.value now.seen now.some) (none_before v u shard (was.sees shard into) none))) stays in
+      (and_from (sees_table w shard) (not (sees_table v shard)) (value_set (w.volatile (root_word shard)) now.value now.seen now.some) (none_before v u shard (was.sees shard into) none))) stays in
       let all_sums = sums in let before = was.taken in omega arith
 
 -- a request that may not have been answered
@@ -128,8 +128,8 @@ taken_stopped requests rs request others v u w h was (with_table is null few) = 
       (and_right (put_into requests shard) (sees_table u shard && not (sees_table v shard)) (and_left (sees_table u shard) (not (sees_table v shard)) none))
       (and_from (put_into requests shard) (not (sees_table v shard)) into (none_before v u shard (was.sees shard into) none))
       (λ x among all.
-          let parts = and_parts (put_into requests x) (sees_table u x && not (sees_table v x)) all in
-          and_from (put_into requests x) (not (sees_table v x)) parts.0 (and_parts (sees_table u x) (not (sees_table v x)) parts.1).1) in
+      let parts = and_parts (put_into requests x) (sees_table u x && not (sees_table v x)) all in
+      and_from (put_into requests x) (not (sees_table v x)) parts.0 (and_parts (sees_table u x) (not (sees_table v x)) parts.1).1) in
       let before = was.taken in
       omega arith;
 }

@@ -1,5 +1,5 @@
-use Rattle.std.proofs.Common.{Option, Some, subst, sym, ap}
-use Rattle.dict_model.specs.Requests.{move, Reply}
+use Rattle.std.proofs.Common.{Some, subst, sym}
+use Rattle.dict_model.specs.Requests.{move}
 use Rattle.shard_moves.specs.declared.away.MoveAnswer.{MoveAnswer}
 use Rattle.shard_moves.specs.Moves.{reply_of as reply_to}
 use Rattle.worker_run.specs.Said.{Told, reply_of}

@@ -1,4 +1,4 @@
-use Rattle.std.proofs.Common.{◌≡◌, ◌+◌, ◌-◌, ◌*◌, List, [], ◌∷◌, ◌++◌, length, sum_by, None, Some, Contains, refl, subst, sym, ap, ◌∙◌, arith}
+use Rattle.std.proofs.Common.{◌≡◌, ◌+◌, ◌-◌, ◌*◌, List, [], ◌∷◌, ◌++◌, length, sum_by, Some, Contains, refl, subst, sym, ap, ◌∙◌, arith}
 use Rattle.std.proofs.lemmas.List.{nil_from_length, length-append}
 use Rattle.std.proofs.lemmas.List.Sums.{sum_by-cons}
 use Rattle.run_model.specs.Runs.{answered}
@@ -13,7 +13,7 @@ use Rattle.heap_model.proofs.MemberLemmas.{in_none}
 use Rattle.shard_moves.specs.Tables.{is_flagged}
 use Rattle.worker_run.specs.Said.{Line, request_of, requests_of, reply_of, replies_of}
 use Rattle.worker_run.specs.Sending.{GoesByTables, HasSent, needs_room, rooms_needed}
-use Rattle.worker_run.proofs.SentLemmas.{HasSentSo, goes_on, sent_begins, sent_next, sent_past, sent_all}
+use Rattle.worker_run.proofs.SentLemmas.{HasSentSo, goes_on, sent_begins, sent_next, sent_all}
 use Rattle.worker_run.proofs.MineLemmas.{is_next, mine_among, mine_next, owns_still, puts_owned, rooms_next, no_room_left}
 use Rattle.run_model.proofs.GoesOnLemmas.{takes_push}
 use Rattle.worker_run.proofs.SpendLemmas.{answered_none, answered_now, answered_next, unanswered_now, worked_count, few_none, few_next, few_more, full_behind, knows_call, larges_of, larges_push, larges_worked, refused_none, refused_on, refused_next}
