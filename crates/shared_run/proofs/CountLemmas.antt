@@ -1,14 +1,19 @@
--- What of a trace is each worker's adds up to the trace: its requests, the shards that are put into, and what is unanswered.
-use Rattle.std.proofs.Common.{◌≡◌, ℕ, zero, suc, ◌+◌, ◌<◌, ◌≤◌, inl, inr, Bool, true, false, cond, List, [], ◌∷◌, ◌++◌, length, replicate, sum_by, None, Some, refl, ap, subst, sym, ◌∙◌, arith}
-use Rattle.std.specs.Prelude.{count_by}
-use Rattle.std.proofs.lemmas.Bool.{cases_lt, eq-eqb, ne_eqb, eqb-true, false_from_ne_true, or_cases, or_left, or_right}
+-- What of a trace is each worker's adds up to the trace: its requests, the tables that it needs, and what is unanswered.
+use Rattle.std.proofs.Common.{◌≡◌, ℕ, zero, suc, ◌+◌, ◌*◌, ◌<◌, ◌≤◌, inl, inr, Bool, true, false, not, nat_eq, cond, List, [], ◌∷◌, ◌++◌, length, replicate, sum_by, None, Some, refl, ap, subst, sym, ◌∙◌, arith}
+use Rattle.std.specs.Prelude.{count_by, ◌&&◌}
+use Rattle.std.proofs.lemmas.Bool.{cases_lt, eq-eqb, ne_eqb, eqb-true, and_parts, and_from, false_from_ne_true, or_cases, or_left, or_right}
 use Rattle.std.proofs.lemmas.List.Sums.{sum_by-cons, length-filter, count_by-le-length}
 use Rattle.heap_model.specs.Image.{words_from}
+use Rattle.heap_seat.specs.View.{View}
 use Rattle.dict_model.specs.Links.{shards}
 use Rattle.dict_model.specs.Requests.{Request, put, get, del, move}
-use Rattle.run_model.specs.Needs.{is_to, put_into, shards_put_into}
+use Rattle.run_model.specs.Needs.{is_to, put_into, is_brought_to, tables_needed, worker_tables}
 use Rattle.run_model.specs.Runs.{answered, unanswered, worker_unanswered}
 use Rattle.run_model.specs.Workers.{Replies, shard_asked, worker_of, is_of_worker, worker_requests, worker_replies, worker_numbers}
+use Rattle.run_model.specs.Spending.{sees_table, tables_missing}
+use Rattle.run_model.specs.Working.{large_calls_of}
+use Rattle.run_model.proofs.CountLemmas.{count_rises}
+use Rattle.run_model.proofs.UnmovedLemmas.{put_is_brought}
 use Rattle.run_model.proofs.SumLemmas.{sum_over, sum_within, sum_both, sum_one, sum_none}
 use Rattle.worker_run.proofs.SpendLemmas.{answered_none}
 
@@ -107,12 +112,32 @@ put_of_worker workers worker (del key ∷ requests) shard is =
     either_way (is_of_worker workers worker (del key)) (del key) (worker_requests workers worker requests) shard ((put_into requests shard ≡ true) × (worker_of workers shard ≡ worker)) is
     (λ mine later. put_of_worker workers worker requests shard later) (λ later. put_of_worker workers worker requests shard later)
 
--- each shard that is put into is one worker's
-pub shards_all : (workers : ℕ) (requests : List Request)
-    → sum_by (λ worker. shards_put_into (worker_requests workers worker requests)) (worker_numbers workers) ≤ shards_put_into requests
-shards_all workers requests =
-    count_parts (λ w. put_into (worker_requests workers w requests)) (put_into requests) (worker_of workers) workers (words_from (λ i. i) 0 shards)
-    (λ w shard is. put_of_worker workers w requests shard is)
+-- each shard that needs a table is one worker's
+pub tables_all : (workers : ℕ) (requests : List Request)
+    → sum_by (λ worker. worker_tables workers worker requests) (worker_numbers workers) ≤ tables_needed requests
+tables_all workers requests =
+    count_parts (λ w shard. nat_eq (worker_of workers shard) w && is_brought_to requests shard) (is_brought_to requests) (worker_of workers) workers (words_from (λ i. i) 0 shards)
+    (λ w shard is. let both = and_parts (nat_eq (worker_of workers shard) w) (is_brought_to requests shard) is in (both.1, eqb-true (worker_of workers shard) w both.0))
+
+-- a table that a worker's puts miss is one of these
+pub tables_few : (workers worker : ℕ) (requests : List Request) (v : View) → tables_missing (put_into (worker_requests workers worker requests)) v ≤ worker_tables workers worker requests
+tables_few workers worker requests v =
+    let mine = worker_requests workers worker requests in
+    count_rises (λ shard. put_into mine shard && not (sees_table v shard)) (λ shard. nat_eq (worker_of workers shard) worker && is_brought_to requests shard) (words_from (λ i. i) 0 shards)
+    (λ shard inside is.
+    let own = put_of_worker workers worker requests shard (and_parts (put_into mine shard) (not (sees_table v shard)) is).0 in
+    and_from (nat_eq (worker_of workers shard) worker) (is_brought_to requests shard) (eq-eqb (worker_of workers shard) worker own.1) (put_is_brought requests shard own.0))
+
+-- a request makes three large calls at most
+large_one : (request : Request) → large_calls_of request ≤ 3
+large_one (put key value) = let all : 3 ≤ 3 = omega arith in all
+large_one (get key) = let all : 3 ≤ 3 = omega arith in all
+large_one (del key) = let all : 3 ≤ 3 = omega arith in all
+large_one (move key to) = let all : 0 ≤ 3 = omega arith in all
+
+pub large_few : (requests : List Request) → sum_by large_calls_of requests ≤ 3 * length requests
+large_few [] = let none : 0 ≤ 3 * 0 = omega arith in none
+large_few (request ∷ requests) = let one = large_one request in let all = sum_by-cons large_calls_of request requests in let rest = large_few requests in omega arith
 
 -- a worker has no more requests than the trace
 pub requests_few : (workers worker : ℕ) (requests : List Request) → length (worker_requests workers worker requests) ≤ length requests

@@ -9,13 +9,13 @@ use Rattle.dict_model.specs.Requests.{Request, put, move, Reply, full}
 use Rattle.core_model.specs.View.{Setup}
 use Rattle.heap_rule.proofs.ClosedLemmas.{looked_at_most}
 use Rattle.core_model.specs.Opening.{setup_of}
-use Rattle.run_model.specs.Needs.{node_span, has_move, shards_put_into}
+use Rattle.run_model.specs.Needs.{node_span, has_move, tables_needed}
 use Rattle.run_model.specs.Runs.{answered, IsFullRightly, span_taken, spans_beside, worker_answered, worker_span}
 use Rattle.run_model.specs.Workers.{Replies, is_of_worker, worker_requests, worker_replies}
 use Rattle.shared_run.specs.Together.{HaveWorked}
-use Rattle.shared_run.proofs.CountLemmas.{shards_all}
+use Rattle.shared_run.proofs.CountLemmas.{tables_all}
 use Rattle.run_model.proofs.FullLemmas.{moves_in}
-use Rattle.run_model.proofs.UnmovedLemmas.{none_of_part, puts_need_tables}
+use Rattle.run_model.proofs.UnmovedLemmas.{none_of_part}
 use Rattle.run_model.proofs.SumLemmas.{sum_over, sum_within, sum_both, sum_beside}
 use Rattle.shared_run.proofs.WorkerLemmas.{of_each, answered_told, opened_setup, unused, taken_of, tables_of, taken_few, used_now}
 
@@ -33,20 +33,20 @@ module _ (words : List ℕ) (held : List Block) (workers budget : ℕ) (requests
   with_beside worker f below = sum_beside f (λ other. nat_eq other worker) worker 0 workers (omega arith) (omega arith) (eq-eqb worker worker refl) (λ i other. ne_eqb i worker other)
 
   -- what the others took, with the tables of all
-  taken_beside : (worker : ℕ) → worker < workers → beside worker (taken_of h) + tables_of h worker ≤ spans_beside workers worker requests replies + shards_put_into requests
+  taken_beside : (worker : ℕ) → worker < workers → beside worker (taken_of h) + tables_of h worker ≤ spans_beside workers worker requests replies + tables_needed requests
   taken_beside worker below =
       let few = sum_within (λ other. cond (nat_eq other worker) 0 (taken_of h other))
       (λ other. cond (nat_eq other worker) 0 (worker_span workers other requests replies) + cond (nat_eq other worker) 0 (tables_of h other)) 0 workers
       (λ i low high. cond_within (nat_eq i worker) (taken_of h i) (worker_span workers i requests replies) (tables_of h i) (taken_few h i (omega arith))) in
       let parts = sum_both (λ other. cond (nat_eq other worker) 0 (worker_span workers other requests replies)) (λ other. cond (nat_eq other worker) 0 (tables_of h other)) 0 workers in
       let tables = with_beside worker (tables_of h) below in
-      let most = shards_all workers requests in
+      let most = tables_all workers requests in
       omega arith
 
   cause : (worker : ℕ) → worker < workers → (before later : List (Request × Reply)) (key : ℕ) (value : List ℕ)
       → worker_answered workers worker requests replies ≡ before ++ (put key value, full) ∷ later
       → capacity_of (slice_index words) < used_of (slice_index words) + node_span (put key value) + sum_by span_taken before + spans_beside workers worker requests replies
-      + shards_put_into requests
+      + tables_needed requests
   cause worker below before later key value is =
       let at = (h.parts worker below).full.each before later key value (sym (answered_told h worker below) ∙ is) in
       let past = at.4.room.past in
@@ -64,8 +64,7 @@ module _ (words : List ℕ) (held : List Block) (workers budget : ℕ) (requests
   -- nor is a move told so in a trace without moves
   pub full_rightly : has_move requests ≡ false → IsFullRightly (slice_index words) workers requests replies
   full_rightly unmoved = record {
-    cause = λ worker below before later key value is.
-        let past = cause worker below before later key value is in let tables = puts_need_tables requests in omega (arith, past, tables);
+    cause = cause;
     move_cause = λ worker below before later key to is.
         let mine = worker_requests workers worker requests in
         let there = subst (λ rs. Contains rs (move key to, full)) (sym is) (Contains-append_right before ((move key to, full) ∷ later) (move key to, full) (in_head (move key to, full) later)) in

@@ -1,5 +1,5 @@
 -- What a job's seat is at first, and the part of the run that it did.
-use Rattle.std.proofs.Common.{◌≡◌, ◌<◌, ◌+◌, ◌*◌, ◌↔◌, ℕ, Bool, true, false, List, [], length, slice_index, Some, Contains, subst, sym, ap, ◌∙◌, arith}
+use Rattle.std.proofs.Common.{◌≡◌, ◌<◌, ◌+◌, ◌*◌, ◌↔◌, ℕ, Bool, true, false, List, [], length, sum_by, slice_index, Some, Contains, subst, sym, ap, ◌∙◌, arith}
 use Rattle.std.specs.Prelude.{nat_lt}
 use Rattle.std.proofs.lemmas.Bool.{cond-true, lt-ltb}
 use Rattle.heap_model.specs.Geometry.{roots}
@@ -12,13 +12,13 @@ use Rattle.dict_model.specs.Requests.{Request, Reply}
 use Rattle.heap_table.specs.AtTable.{SharedView}
 use Rattle.heap_table.specs.Rule.{Opening, setup_for}
 use Rattle.heap_rule.specs.Seated.{IsSeatOf, SeatView}
-use Rattle.run_model.specs.Needs.{ListsKeysOf}
+use Rattle.run_model.specs.Needs.{ListsKeysOf, put_into, worker_tables}
 use Rattle.run_model.specs.Opened.{IsOpenedOver}
 use Rattle.run_model.specs.Progress.{HasAnswered}
 use Rattle.run_model.specs.Runs.{answered, unanswered}
-use Rattle.run_model.specs.Spending.{AreFullRightly, HasTakenFew, MakeFew}
+use Rattle.run_model.specs.Spending.{AreFullRightly, HasTakenFew, MakeFew, tables_missing}
 use Rattle.run_model.specs.Workers.{Replies, root_owner, worker_of, worker_requests}
-use Rattle.run_model.specs.Working.{HasStopped, HasWorked, IsUnderWay, TakesRequests}
+use Rattle.run_model.specs.Working.{HasStopped, HasWorked, IsUnderWay, TakesRequests, large_calls_of}
 use Rattle.seat_view.specs.CacheState.{CacheState, heap_view, opened_kinds}
 use Rattle.seat_view.proofs.HeldLemmas.{seat_law}
 use Rattle.thread_cache.specs.Keeps.{IsNew, KeepsHeap}
@@ -27,6 +27,7 @@ use Rattle.worker_run.proofs.ProgressLemmas.{begins, still}
 use Rattle.shared_run.specs.Jobs.{IsOpenedFor, IsPartOf}
 use Rattle.shared_run.specs.Parts.{IsUnused, TurnsAway}
 use Rattle.shared_run.specs.Settling.{HasSettled, WasQuieted}
+use Rattle.shared_run.proofs.CountLemmas.{tables_few}
 use Rattle.shared_run.proofs.PartLemmas.{part_emptied, part_ended, part_exact, part_few, part_full, part_kept, part_steps, part_stops, part_taken, settled_costs}
 
 -- a seat that was just made of one that was opened for a worker
@@ -73,6 +74,10 @@ module _ (shared : SharedView) (requests : List Request) (workers worker : ℕ) 
   same : slice_index s.view.setup.opened ≡ opened_image
   same = ap (λ (v : View). slice_index v.setup.opened) new.view ∙ ap (λ k. slice_index k.opened) of.setup
 
+  -- the tables that its puts missed at first
+  abbrev missing : ℕ
+  missing = tables_missing (put_into (worker_requests workers worker requests)) (heap_view s)
+
   stays : (rs : List (Request × Reply)) → WasQuieted u t → HasAnswered opened_image rs (heap_view u) → HasAnswered opened_image rs (heap_view t)
   stays rs quieted has = still opened_image rs (heap_view u) (heap_view t) (seat_law u) (seat_law t) quieted.own (ap opened_kinds quieted.kept.1.setup) has
 
@@ -80,10 +85,10 @@ module _ (shared : SharedView) (requests : List Request) (workers worker : ℕ) 
       → (before ≡ false → HasWorked (slice_index s.view.setup.opened) (worker_requests workers worker requests) [] replies (heap_view u))
       → (before ≡ true → HasStopped (slice_index s.view.setup.opened) (worker_requests workers worker requests) replies (heap_view u))
       → (before ≡ true → (ticket : ℕ) × (u.view.stopped ≡ Some ticket))
-      → AreFullRightly heap_view KeepsHeap (worker_requests workers worker requests) (answered (worker_requests workers worker requests) replies) s u
-      → HasTakenFew (worker_requests workers worker requests) (answered (worker_requests workers worker requests) replies) (unanswered (worker_requests workers worker requests) replies) (heap_view s) (heap_view u)
+      → AreFullRightly heap_view KeepsHeap missing (answered (worker_requests workers worker requests) replies) s u
+      → HasTakenFew missing (answered (worker_requests workers worker requests) replies) (unanswered (worker_requests workers worker requests) replies) (heap_view s) (heap_view u)
       → ((keys : List ℕ) → ListsKeysOf (slice_index s.view.setup.opened) keys
-      → MakeFew (length (worker_requests workers worker requests)) (33280 + 4 * (length keys + length (worker_requests workers worker requests))) (heap_view s) (heap_view u))
+      → MakeFew (length (worker_requests workers worker requests)) (33280 + 4 * (length keys + length (worker_requests workers worker requests))) (sum_by large_calls_of (worker_requests workers worker requests)) (heap_view s) (heap_view u))
       → ((x : CacheState) × TakesRequests heap_view KeepsHeap TurnsAway (answered (worker_requests workers worker requests) replies) s x
       × IsUnderWay (unanswered (worker_requests workers worker requests) replies) (heap_view x) (heap_view u) × KeepsHeap x u)
       → (before ≡ false → ReachesAllHeld (heap_view s) → ReachesAllHeld (heap_view u))
@@ -103,8 +108,8 @@ module _ (shared : SharedView) (requests : List Request) (workers worker : ℕ) 
           (λ e. subst (λ (i : Image). HasStopped i (worker_requests workers worker requests) replies (heap_view u)) same (stopped e)) stays;
       few = λ keys lists. part_few opened_image (worker_requests workers worker requests) replies before after s u t settled (length keys) (job_unused shared.opening workers worker seat fresh s new) kept
           (calls keys (subst (λ (i : Image). ListsKeysOf i keys) (sym same) lists));
-      full = part_full opened_image (worker_requests workers worker requests) replies before after s u t settled full;
-      taken = part_taken opened_image (worker_requests workers worker requests) replies before after s u t settled taken;
+      full = part_full opened_image (worker_requests workers worker requests) replies before after s u t settled missing (worker_tables workers worker requests) (tables_few workers worker requests (heap_view s)) full;
+      taken = part_taken opened_image (worker_requests workers worker requests) replies before after s u t settled missing (worker_tables workers worker requests) (tables_few workers worker requests (heap_view s)) taken;
       steps = part_steps opened_image (worker_requests workers worker requests) replies before after s u t settled
           (λ e. subst (λ (i : Image). HasWorked i (worker_requests workers worker requests) [] replies (heap_view u)) same (worked e)) steps;
       stops = part_stops opened_image (worker_requests workers worker requests) replies before after s u t settled cause;

@@ -1,5 +1,5 @@
 -- A worker's part of a run: its requests worked off, and its caches emptied.
-use Rattle.std.proofs.Common.{◌≡◌, ◌≢◌, ℕ, ◌+◌, ◌*◌, ◌≤◌, ◌↔◌, Bool, true, false, List, [], length, Option, None, Some, Result, Ok, Err, OnOk, IfErr, refl, subst, sym, ap, ◌∙◌, arith}
+use Rattle.std.proofs.Common.{◌≡◌, ◌≢◌, ℕ, ◌+◌, ◌*◌, ◌≤◌, ◌↔◌, Bool, true, false, List, [], length, sum_by, Option, None, Some, Result, Ok, Err, OnOk, IfErr, refl, subst, sym, ap, ◌∙◌, arith}
 use Rattle.std.specs.Bool.{⊤}
 use Rattle.std.specs.Result.{is_err}
 use Rattle.heap_model.specs.Image.{Image}
@@ -19,8 +19,9 @@ use Rattle.run_model.specs.Workers.{Replies}
 use Rattle.run_model.specs.Runs.{answered, unanswered}
 use Rattle.run_model.specs.Progress.{HasAnswered}
 use Rattle.run_model.specs.Spending.{AreFullRightly, HasTakenFew, MakeFew}
-use Rattle.run_model.specs.Working.{HasEnded, HasStopped, HasWorked, IsUnderWay, TakesRequests, at_end, in_one}
+use Rattle.run_model.specs.Working.{HasEnded, HasStopped, HasWorked, IsUnderWay, TakesRequests, large_calls_of, at_end, in_one}
 use Rattle.worker_run.proofs.SpendLemmas.{unanswered_now}
+use Rattle.shared_run.proofs.CountLemmas.{large_few}
 use Rattle.shared_run.specs.Parts.{IsUnused, SpendsFew, TurnsAway}
 use Rattle.shared_run.specs.Settling.{EndsWith, HasSettled, WasQuieted, had_stopped, is_empty, stops_now}
 
@@ -80,25 +81,26 @@ module _ (image : Image) (mine : List Request) (replies : Replies) (before after
     by_case (is_empty was is empty going quieted) = later (worked was) quieted
     by_case (stops_now was is ticket at quieted) = later (worked was) quieted
 
-  pub part_few : (keys : ℕ) → IsUnused s → KeepsHeap s u → MakeFew (length mine) (33280 + 4 * (keys + length mine)) (heap_view s) (heap_view u) → SpendsFew (length mine) keys s t
+  pub part_few : (keys : ℕ) → IsUnused s → KeepsHeap s u → MakeFew (length mine) (33280 + 4 * (keys + length mine)) (sum_by large_calls_of mine) (heap_view s) (heap_view u) → SpendsFew (length mine) keys s t
   part_few keys unused kept few = record {
     unused = unused;
     kept = part_kept kept;
     small = let a = few.row.small_few in let b = costs.small in let none = unused.small in omega (arith, a, b, none);
-    large = let a = few.row.large_few in let b = costs.large in let none = unused.large in omega (arith, a, b, none);
+    large = let a = few.row.large_few in let b = costs.large in let none = unused.large in let c = large_few mine in omega (arith, a, b, none, c);
   }
 
-  pub part_full : AreFullRightly heap_view KeepsHeap mine (answered mine replies) s u → AreFullRightly heap_view KeepsHeap mine (answered mine replies) s t
-  part_full full = record {
+  pub part_full : (few tables : ℕ) → few ≤ tables → AreFullRightly heap_view KeepsHeap few (answered mine replies) s u → AreFullRightly heap_view KeepsHeap tables (answered mine replies) s t
+  part_full few tables more full = record {
     each = λ first later key value is.
         let at = full.each first later key value is in
         let knows = at.3 in
         let on = costs.knows in
-        (at.0, at.1, keeps_row_law at.0 u t at.2 costs.kept, omega (arith, knows, on), at.4);
+        (at.0, at.1, keeps_row_law at.0 u t at.2 costs.kept, omega (arith, knows, on), record { room = at.4.room; taken = let a = at.4.taken in omega (arith, a, more) });
   }
 
-  pub part_taken : HasTakenFew mine (answered mine replies) (unanswered mine replies) (heap_view s) (heap_view u) → HasTakenFew mine (answered mine replies) (unanswered mine replies) (heap_view s) (heap_view t)
-  part_taken few = record { taken = let a = few.taken in let b = costs.taken in omega (arith, a, b) }
+  pub part_taken : (few tables : ℕ) → few ≤ tables → HasTakenFew few (answered mine replies) (unanswered mine replies) (heap_view s) (heap_view u)
+      → HasTakenFew tables (answered mine replies) (unanswered mine replies) (heap_view s) (heap_view t)
+  part_taken few tables more taken = record { taken = let a = taken.taken in let b = costs.taken in omega (arith, a, b, more) }
 
   pub part_steps : (before ≡ false → HasWorked image mine [] replies (heap_view u))
       → (x : CacheState) × TakesRequests heap_view KeepsHeap TurnsAway (answered mine replies) s x × IsUnderWay (unanswered mine replies) (heap_view x) (heap_view u) × KeepsHeap x u

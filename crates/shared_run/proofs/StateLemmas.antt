@@ -42,8 +42,8 @@ module _ {C : Type 0} (gives : C → ℕ → C → Type 0) where
   takes_all [] s t same = ap (λ (x : CacheValue C). x.state) same
   takes_all (r ∷ rs) s t all = (all.0.state, takes_one r.0 r.1 s all.0 all.1, takes_all rs all.0 t all.2)
 
-  pub full_rightly : (requests : List Request) (rs : List (Request × Reply)) (s t : CacheValue C) → AreFullRightly view_of (KeepsSeat gives) requests rs s t
-      → AreFullRightly heap_view KeepsHeap requests rs s.state t.state
-  full_rightly requests rs s t full = record {
+  pub full_rightly : (tables : ℕ) (rs : List (Request × Reply)) (s t : CacheValue C) → AreFullRightly view_of (KeepsSeat gives) tables rs s t
+      → AreFullRightly heap_view KeepsHeap tables rs s.state t.state
+  full_rightly tables rs s t full = record {
     each = λ before later key value is. let at = full.each before later key value is in (at.0.state, at.1.heap, at.2.heap, at.3, at.4);
   }

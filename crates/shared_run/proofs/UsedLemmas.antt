@@ -14,8 +14,7 @@ use Rattle.run_model.specs.Needs.{tables_needed}
 use Rattle.run_model.specs.Runs.{LeavesUsed, worker_span}
 use Rattle.run_model.specs.Workers.{Replies}
 use Rattle.shared_run.specs.Together.{HaveWorked, IsLeftOf}
-use Rattle.shared_run.proofs.CountLemmas.{shards_all}
-use Rattle.run_model.proofs.UnmovedLemmas.{puts_need_tables}
+use Rattle.shared_run.proofs.CountLemmas.{tables_all}
 use Rattle.run_model.proofs.SumLemmas.{sum_over, sum_within, sum_both}
 use Rattle.shared_run.proofs.WorkerLemmas.{last_view, kept_all, opened_setup, unused, taken_of, tables_of, taken_few, used_now}
 
@@ -32,8 +31,7 @@ module _ (words : List ℕ) (held : List Block) (workers budget : ℕ) (requests
       let all = used_now h in
       let few = sum_within (taken_of h) (λ worker. worker_span workers worker requests replies + tables_of h worker) 0 workers (λ i low high. taken_few h i (omega arith)) in
       let parts = sum_both (λ worker. worker_span workers worker requests replies) (tables_of h) 0 workers in
-      let tables = shards_all workers requests in
-      let needed = puts_need_tables requests in
+      let tables = tables_all workers requests in
       omega arith
 
   -- the durable mark has not fallen below what a seat knows, which knew the opened mark

@@ -10,7 +10,7 @@ use Rattle.core_model.specs.Sound.{Each}
 use Rattle.core_model.specs.View.{Role, View, role}
 use Rattle.thread_cache.specs.Keeps.{KeepsHeap}
 use Rattle.run_model.specs.Runs.{answered, unanswered, worker_answered, worker_unanswered, worker_span, span_taken, first_span}
-use Rattle.run_model.specs.Needs.{shards_put_into}
+use Rattle.run_model.specs.Needs.{worker_tables}
 use Rattle.run_model.specs.Workers.{Replies, worker_requests}
 use Rattle.shared_run.specs.Parts.{IsUnused}
 use Rattle.shared_run.specs.Together.{HaveWorked}
@@ -63,7 +63,7 @@ module _ {words : List ℕ} {held : List Block} {workers budget : ℕ} {requests
   taken_of worker = (last_view worker).taken
 
   abbrev pub tables_of : ℕ → ℕ
-  tables_of worker = shards_put_into (worker_requests workers worker requests)
+  tables_of worker = worker_tables workers worker requests
 
   pub taken_few : (worker : ℕ) → worker < workers → taken_of worker ≤ worker_span workers worker requests replies + tables_of worker
   taken_few worker below =

@@ -11,7 +11,7 @@ use Rattle.thread_cache.specs.Keeps.{KeepsHeap}
 use Rattle.thread_cache.specs.Quiet.{HasEmptyCaches}
 use Rattle.thread_cache.specs.Serving.{IsTurnedAway}
 use Rattle.run_model.specs.Workers.{Replies, root_owner, worker_requests}
-use Rattle.run_model.specs.Needs.{ListsKeysOf}
+use Rattle.run_model.specs.Needs.{worker_tables, ListsKeysOf}
 use Rattle.run_model.specs.Runs.{answered, unanswered}
 use Rattle.run_model.specs.Spending.{AreFullRightly, HasTakenFew}
 use Rattle.run_model.specs.Working.{HasEnded, TakesRequests}
@@ -40,9 +40,9 @@ pub record IsPart (image : Image) (workers : ℕ) (requests : List Request) (wor
   pub unused : IsUnused s
   pub ended : HasEnded image (worker_requests workers worker requests) replies stopped (heap_view t)
   pub few : (keys : List ℕ) → ListsKeysOf image keys → SpendsFew (length (worker_requests workers worker requests)) (length keys) s t
-  pub full : AreFullRightly heap_view KeepsHeap (worker_requests workers worker requests)
+  pub full : AreFullRightly heap_view KeepsHeap (worker_tables workers worker requests)
       (answered (worker_requests workers worker requests) replies) s t
-  pub taken : HasTakenFew (worker_requests workers worker requests) (answered (worker_requests workers worker requests) replies)
+  pub taken : HasTakenFew (worker_tables workers worker requests) (answered (worker_requests workers worker requests) replies)
       (unanswered (worker_requests workers worker requests) replies) (heap_view s) (heap_view t)
   pub steps : (u : CacheState) × TakesRequests heap_view KeepsHeap TurnsAway (answered (worker_requests workers worker requests) replies) s u
       × EndsWith (unanswered (worker_requests workers worker requests) replies) stopped u t

@@ -52,7 +52,7 @@ fn follow_one(
             let value = Bytes::from_vec(Vec::from_slice(alloc, value.as_slice())?);
             maps[(*key % SHARDS) as usize].insert(*key, value)?;
         }
-        Request::Del(key) => {
+        Request::Del(key) | Request::Move(key, _) => {
             maps[(*key % SHARDS) as usize].remove(key);
         }
         Request::Get(_) => {}

@@ -1,6 +1,7 @@
 //! One worker's part of a run.
 
-ghost use Rattle.std.specs.Prelude.{◌≡◌};
+ghost use Rattle.std.specs.Prelude.{◌≡◌, false};
+ghost use Rattle.run_model.specs.Needs.{has_move};
 ghost use Rattle.worker_run.specs.Said.{requests_of, ValuesAreShort};
 ghost use Rattle.shared_run.specs.Jobs.{IsJobOf, IsWorkedOf};
 ghost use Rattle.shared_run.specs.Settling.{HasSettled};
@@ -12,7 +13,7 @@ use std::collections::VecDeque;
 use thread_cache::CacheSeat;
 use tool_ports::Gate;
 use trace_text::{Reply, Request};
-use worker_run::{Worker, work_off};
+use worker_run::{NoOutbox, Worker, work_off};
 
 /// What a worker begins with: its seat and chance, room for each of its requests' values, and room
 /// for its replies.
@@ -51,6 +52,7 @@ pub(crate) fn work<C: Chance, G: Gate>(
 ) -> Worked
     requires job { IsJobOf shared.now (requests_of requests.now) job }
     requires short { ValuesAreShort (requests_of requests.now) }
+    requires unmoved { has_move (requests_of requests.now) ≡ false }
     ensures worker { result.worker ≡ job.worker }
     ensures worked { IsWorkedOf shared.now (requests_of requests.now) result }
 {
@@ -62,7 +64,18 @@ pub(crate) fn work<C: Chance, G: Gate>(
         mut replies,
     } = job;
     let mut seat = CacheSeat::new(shared, seat, chance);
-    let stopped = work_off(&mut seat, worker, requests, rooms, &mut replies, gate);
+    let tables = &[false; 8];
+    let outbox = &mut NoOutbox;
+    let stopped = work_off(
+        &mut seat,
+        worker,
+        requests,
+        tables,
+        rooms,
+        outbox,
+        &mut replies,
+        gate,
+    );
     let stopped = empty_caches(&mut seat, stopped);
     Worked {
         worker,

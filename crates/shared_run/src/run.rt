@@ -7,6 +7,7 @@ ghost use Rattle.heap_model.specs.Rest.{IsReady};
 ghost use Rattle.dict_model.specs.Links.{shards};
 ghost use Rattle.seat_notes.specs.OwnerLists.{OwnerLists};
 ghost use Rattle.dictionary.specs.Reading.{AreMaps};
+ghost use Rattle.run_model.specs.Needs.{has_move};
 ghost use Rattle.run_model.specs.Opened.{IsDictionary};
 ghost use Rattle.run_model.specs.Runs.{AnswerInOrder, IsFullRightly, answered, LeavesHeader, LeavesMaps, LeavesOthers, LeavesState, LeavesUsed, RepliesRightly, StopsRightly};
 ghost use Rattle.worker_run.specs.Left.{AreWholeImage};
@@ -166,6 +167,7 @@ fn work_together<R: Threads + Sync, G: Gate + Sync, C: Chance + Send>(
     requires jobs { All (IsJobOf shared.now (requests_of requests.now)) jobs.items }
     requires turns { AreInTurn (λ job. job.worker) (length jobs.items) jobs.items }
     requires short { ValuesAreShort (requests_of requests.now) }
+    requires unmoved { has_move (requests_of requests.now) ≡ false }
     ensures worked { IfOk result (λ worked. All (IsWorkedOf shared.now (requests_of requests.now))
         worked.items) }
     ensures turns { IfOk result (λ worked. AreInTurn (λ one. one.worker) (length jobs.items)
@@ -178,6 +180,7 @@ fn work_together<R: Threads + Sync, G: Gate + Sync, C: Chance + Send>(
         &|job: Job<C>| -> Worked
             requires job { IsJobOf shared.now (requests_of requests.now) job }
             requires short { ValuesAreShort (requests_of requests.now) }
+            requires unmoved { has_move (requests_of requests.now) ≡ false }
             ensures worker { result.worker ≡ job.worker }
             ensures worked { IsWorkedOf shared.entry.now (requests_of requests.entry.now) result }
         { work(job, shared, requests, gate) },
@@ -202,6 +205,7 @@ fn run_workers<R: Threads + Sync, G: Gate + Sync, C: Chances>(
     requires dictionary { IsDictionary (slice_index mapped.words)
         (Contains mapped.held) }
     requires short { ValuesAreShort (requests_of requests.now) }
+    requires unmoved { has_move (requests_of requests.now) ≡ false }
     ensures worked { IfOk result (λ o. (now kept : List ℕ) × HaveWorked mapped.words
         mapped.held workers budget (requests_of requests.now) (replies_of o.replies.items)
         o.stopped now kept o.image.items) }
@@ -258,6 +262,7 @@ pub fn run_trace<R: Threads + Sync, G: Gate + Sync, C: Chances>(
     requires budget { budget < 2 ^ 40 }
     requires dictionary { IsDictionary (slice_index mapped.words) (Contains mapped.held) }
     requires short { ValuesAreShort (requests_of requests.now) }
+    requires unmoved { has_move (requests_of requests.now) ≡ false }
 
     // The states that the workers' seats went through, and the heap that they left.
     ensures worked { IfOk result (λ o. (now kept : List ℕ) × HaveWorked mapped.words mapped.held workers

@@ -5,6 +5,7 @@ use Rattle.run_model.specs.Workers.{worker_requests}
 use Rattle.run_model.specs.Working.{HaveRoom}
 use Rattle.worker_run.specs.Said.{requests_of, replies_of}
 use Rattle.core_model.specs.View.{View}
+use Rattle.worker_run.proofs.UnmovedLemmas.{no_room_needed}
 use Rattle.shared_run.proofs.JobLemmas.{job_begins, job_image, job_shards, kept_setup, kept_table, whole_part}
 use Rattle.shared_run.proofs.StateLemmas.{full_rightly, takes_all}
 use Rattle.shared_run.proofs.job.work.Goals as goal
@@ -19,21 +20,28 @@ work_off-stopped-requires g c κs within =
     let qs = requests_of c.args.requests.now in
     let shared = c.args.shared.now in
     -- the seat lives as long as the heap and its chance
-    let none = ⊑_static κs.1.1.1.1.0 in
-    let chance = ⊑_meet κs.1.1.1.1.0 g.row.C.lives [] within.1.0 none in
-    let heap = ⊑_meet κs.1.1.1.1.0 _ [] within.0.0 none in (
-      ⊑_meet κs.1.1.1.1.0 _ _ chance (⊑_meet κs.1.1.1.1.0 _ _ heap chance),
+    let none = ⊑_static κs.1.1.1.1.1.1.0 in
+    let chance = ⊑_meet κs.1.1.1.1.1.1.0 g.row.C.lives [] within.1.0 none in
+    let heap = ⊑_meet κs.1.1.1.1.1.1.0 _ [] within.0.0 none in (
+      ⊑_meet κs.1.1.1.1.1.1.0 _ _ chance (⊑_meet κs.1.1.1.1.1.1.0 _ _ heap chance),
       (
         within.1.1.0,
         (
-          (let below = is.below in omega arith),
+          -- the outbox has nothing that ends
+          ⊑_static κs.1.1.1.1.1.1.1.1.0,
           (
-            job_begins shared.opening w.workers w.number job.seat is.fresh s new,
+            (let below = is.below in omega arith),
             (
-              job_shards shared.opening w.workers w.number job.seat is.fresh s new,
+              job_begins shared.opening w.workers w.number job.seat is.fresh s new,
               (
-                job_image shared.opening w.workers w.number job.seat is.fresh s new HasMaps (is.fresh.opened s new.view).maps,
-                (job_image shared.opening w.workers w.number job.seat is.fresh s new (λ image. HaveRoom image qs (worker_requests w.workers w.number qs) job.rooms.items) is.rooms, (c.requires.short, (is.empty, is.reserved))),
+                job_shards shared.opening w.workers w.number job.seat is.fresh s new,
+                (
+                  job_image shared.opening w.workers w.number job.seat is.fresh s new HasMaps (is.fresh.opened s new.view).maps,
+                  (
+                    job_image shared.opening w.workers w.number job.seat is.fresh s new (λ image. HaveRoom image qs (worker_requests w.workers w.number qs) job.rooms.items) is.rooms,
+                    (c.requires.short, (is.empty, (is.reserved, (tt, no_room_needed w.workers w.number qs c.requires.unmoved)))),
+                  ),
+                ),
               ),
             ),
           ),
@@ -57,10 +65,10 @@ returns-clause-worked g c =
     record {
       part = whole_part shared (requests_of c.args.requests.now) w.workers w.number job.seat last is.seat
           (record {
-            table = back.table ∙ kept_table s u t job.seat shared new is.seat e.kept.heap c.empty_caches-stopped.ensures;
-            setup = ap (λ (v : View). v.setup) back.view ∙ kept_setup s u t job.seat shared new is.seat e.kept.heap c.empty_caches-stopped.ensures;
+            table = back.table ∙ kept_table s u t job.seat shared new is.seat e.goes_on.heap c.empty_caches-stopped.ensures;
+            setup = ap (λ (v : View). v.setup) back.view ∙ kept_setup s u t job.seat shared new is.seat e.goes_on.heap c.empty_caches-stopped.ensures;
           }) is.fresh s u t new
           (replies_of c.work_off-stopped.new.replies.items) c.work_off-stopped.result c.empty_caches-stopped.result c.empty_caches-stopped.ensures (sym back.view)
-          e.kept.heap e.answered e.stopped e.cause (full_rightly g.C.Chance.draw_gives _ _ c.new-seat.result c.work_off-stopped.new.seat e.full) e.taken e.calls
+          e.goes_on.heap e.answered e.stopped e.cause (full_rightly g.C.Chance.draw_gives _ _ c.new-seat.result c.work_off-stopped.new.seat e.full) e.taken e.calls
           (e.steps.0.state, takes_all g.C.Chance.draw_gives _ c.new-seat.result e.steps.0 e.steps.1, e.steps.2, e.steps.3.heap) e.exact;
     }

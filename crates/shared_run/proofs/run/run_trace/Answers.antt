@@ -5,7 +5,6 @@ use Rattle.run_model.specs.Runs.{answered}
 use Rattle.shared_run.specs.Following.{FollowMapsOf}
 use Rattle.shared_run.proofs.FollowLemmas.{maps_left, there_only}
 use Rattle.shared_run.proofs.FullLemmas.{full_rightly}
-use Rattle.worker_run.proofs.SaidLemmas.{lines_unmoved}
 use Rattle.shared_run.proofs.HeaderLemmas.{leaves_header, leaves_state}
 use Rattle.shared_run.proofs.LeftLemmas.{leaves_others}
 use Rattle.shared_run.proofs.MapLeftLemmas.{leaves_maps, maps_kept}
@@ -39,14 +38,14 @@ returns-clause-full g c =
     let o = c.in_ok-outcome.outcome in
     let is = c.in_ok-outcome.ensures.worked in
     full_rightly c.args.mapped.words c.args.mapped.held c.args.workers c.args.budget (requests_of c.args.requests.now) (replies_of o.replies.items) o.stopped is.0 is.1 o.image.items is.2
-    (lines_unmoved c.args.requests.now)
+    c.requires.unmoved
 
 pub returns-clause-maps : goal.returns-clause-maps
 returns-clause-maps g c =
     let o = c.in_ok-outcome.outcome in
     let is = c.in_ok-outcome.ensures.worked in
     leaves_maps c.args.mapped.words c.args.mapped.held c.args.workers c.args.budget (requests_of c.args.requests.now) (replies_of o.replies.items) o.stopped is.0 is.1 o.image.items is.2
-    (lines_unmoved c.args.requests.now)
+    c.requires.unmoved
 
 pub returns-clause-header : goal.returns-clause-header
 returns-clause-header g c =
