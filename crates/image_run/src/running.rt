@@ -1,7 +1,8 @@
 //! Runs a trace over a recovered heap, and makes what is put and printed.
-ghost use Rattle.std.specs.Prelude.{◌≡◌, length, IfOk, IfSome, IsSomeAnd, Contains, slice_index};
+ghost use Rattle.std.specs.Prelude.{◌≡◌, false, length, IfOk, IfSome, IsSomeAnd, Contains, slice_index};
 ghost use Rattle.dict_model.specs.Links.{shards};
 ghost use Rattle.dictionary.specs.Reading.{AreMaps};
+ghost use Rattle.run_model.specs.Needs.{has_move};
 ghost use Rattle.run_model.specs.Opened.{IsDictionary, CanBeRun};
 ghost use Rattle.worker_run.specs.Said.{requests_of, ValuesAreShort};
 ghost use Rattle.tool_ports.specs.Chances.{ComesFromSeed};
@@ -36,6 +37,7 @@ pub fn run_image<R: Threads + Sync, G: Gate + Sync, C: Chances>(
     requires dictionary { IsDictionary (slice_index mapped.words)
         (Contains mapped.held) }
     requires short { ValuesAreShort (requests_of requests.now) }
+    requires unmoved { has_move (requests_of requests.now) ≡ false }
     ensures ok { IfOk result (λ product. IsSomeAnd product.image (λ image. RunsRequests
         (slice_index mapped.words) (requests_of requests.now) (options_of options) image
         product.text)) }
