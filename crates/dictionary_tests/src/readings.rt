@@ -51,6 +51,7 @@ fn write_request(text: &mut String, request: &Request) -> Result<(), AllocError>
         }
         Request::Get(key) => writeln!(text, "get {key}"),
         Request::Del(key) => writeln!(text, "del {key}"),
+        Request::Move(key, to) => writeln!(text, "move {key} {to}"),
     }
 }
 

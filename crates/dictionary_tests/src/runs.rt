@@ -1,7 +1,8 @@
 //! Whole runs of a trace, from its text: by one worker, over a heap for one thread.
-ghost use Rattle.std.specs.Prelude.{◌≡◌, ◌<◌, ◌^◌, Contains, slice_index};
+ghost use Rattle.std.specs.Prelude.{◌≡◌, ◌<◌, ◌^◌, false, Contains, slice_index};
 ghost use Rattle.heap_model.specs.Header.{capacity_of};
 ghost use Rattle.line_memory.specs.ClosedWords.{volatile_words, durable_words};
+ghost use Rattle.run_model.specs.Needs.{has_move};
 ghost use Rattle.run_model.specs.Opened.{IsDictionary};
 ghost use Rattle.worker_run.specs.Left.{AreWholeImage};
 ghost use Rattle.worker_run.specs.Said.{requests_of, ValuesAreShort};
@@ -15,7 +16,7 @@ use std::test::Fail;
 use super_block::{Geometry, Ready};
 use tool_ports::{Chances, Gate, SeededChances};
 use trace_text::{Reply, Request, parse_trace};
-use worker_run::{Worker, closed_image, left_by_crash, longest_puts, make_rooms, work_off};
+use worker_run::{NoOutbox, Worker, closed_image, left_by_crash, longest_puts, make_rooms, work_off};
 
 /// What a run of a trace gives.
 #[derive(Drop)]
@@ -68,6 +69,7 @@ fn run_requests<G: Gate, C: Chances>(
     requires budget { budget < 2 ^ 40 }
     requires dictionary { IsDictionary (slice_index heap.words) (Contains heap.held) }
     requires short { ValuesAreShort (requests_of requests.now) }
+    requires unmoved { has_move (requests_of requests.now) ≡ false }
 {
     let geometry = heap.geometry();
     let alone = Worker {
@@ -79,7 +81,11 @@ fn run_requests<G: Gate, C: Chances>(
     let rooms = make_rooms(alloc, &maps, &longest, alone, requests)?;
     let mut replies = Vec::with_capacity(alloc, requests.len())?;
     let mut seat = SeqHeap::new(alloc, heap, budget, chances.chance(0))?;
-    let stopped = work_off(&mut seat, alone, requests, rooms, &mut replies, gate);
+    let tables = &[false; 8];
+    let outbox = &mut NoOutbox;
+    let stopped = work_off(
+        &mut seat, alone, requests, tables, rooms, outbox, &mut replies, gate,
+    );
     tell_unanswered(&mut replies, requests.len())?;
     let image = image_left(seat.finish(), stopped, geometry, chances);
     Ok(Outcome {
