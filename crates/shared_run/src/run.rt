@@ -17,7 +17,7 @@ ghost use Rattle.crash_image.specs.Crash.{GivesAll, transient_words};
 ghost use Rattle.shared_run.specs.Closed.{LeavesOrderly};
 ghost use Rattle.shared_run.specs.Dealing.{AreInTurn};
 ghost use Rattle.shared_run.specs.Dealt.{AreGiven, HaveAsked};
-ghost use Rattle.shared_run.specs.Following.{AreAfter, FollowMapsOf};
+ghost use Rattle.shared_run.specs.Following.{AreAfterRun, FollowMapsOf};
 ghost use Rattle.shared_run.specs.Jobs.{IsJobOf, IsWorkedOf};
 ghost use Rattle.shared_run.specs.Scrambled.{IsScrambled};
 ghost use Rattle.seat_owners.specs.Owning.{AreOwnersByRoot};
@@ -145,7 +145,7 @@ fn maps_after(
 ) -> Result<Option<Vec<BTreeMap<u64, Bytes>>>, AllocError>
     requires shards { length maps.items ≡ shards }
     requires long { length replies.now ≡ length requests.now }
-    ensures after { IfOk result (λ found. IfSome found (λ new. AreAfter
+    ensures after { IfOk result (λ found. IfSome found (λ new. AreAfterRun
         (answered (requests_of requests.now) (replies_of replies.now)) maps.items new.items)) }
     ensures known { IfOk result (λ found. IsSome found ↔ (stopped ≡ false)) }
 {

@@ -1,13 +1,13 @@
-use Rattle.std.proofs.Common.{◌≡◌, false, slice_index}
+use Rattle.std.proofs.Common.{◌≡◌, false, slice_index, subst}
 use Rattle.dict_model.specs.Links.{shards}
 use Rattle.dictionary.specs.Reading.{AreMaps}
-use Rattle.run_model.specs.Runs.{answered}
+use Rattle.run_model.specs.Runs.{answered, LeavesMaps}
 use Rattle.shared_run.specs.Following.{FollowMapsOf}
 use Rattle.shared_run.proofs.FollowLemmas.{maps_left, there_only}
 use Rattle.shared_run.proofs.FullLemmas.{full_rightly}
 use Rattle.shared_run.proofs.HeaderLemmas.{leaves_header, leaves_state}
 use Rattle.shared_run.proofs.LeftLemmas.{leaves_others}
-use Rattle.shared_run.proofs.MapLeftLemmas.{leaves_maps, maps_kept}
+use Rattle.shared_run.proofs.MapLeftLemmas.{leaves_maps}
 use Rattle.shared_run.proofs.OrderlyLemmas.{leaves_orderly}
 use Rattle.shared_run.proofs.ReplyLemmas.{answer_in_order, replies_rightly}
 use Rattle.shared_run.proofs.TurnLemmas.{stops_rightly}
@@ -85,7 +85,8 @@ returns-clause-shards g c =
     let left = slice_index o.image.items in
     let lines = requests_of c.args.requests.now in
     let told = replies_of o.replies.items in
-    let leaves = maps_kept c.args.mapped.words c.args.mapped.held c.args.workers c.args.budget lines told o.stopped is.0 is.1 o.image.items is.2 in
+    let leaves = leaves_maps c.args.mapped.words c.args.mapped.held c.args.workers c.args.budget lines told o.stopped is.0 is.1 o.image.items is.2 c.requires.unmoved in
     there_only o.maps (λ new. FollowMapsOf image (answered lines told) new.items) (λ new. AreMaps left shards new.items) (o.stopped ≡ false)
     c.in_ok-outcome.ensures.known c.in_ok-outcome.ensures.after
-    (λ going new after. maps_left image left c.args.workers lines told o.stopped after.old new.items going leaves after.were after.after)
+    (λ going new after. maps_left image left c.args.workers lines told after.old new.items c.requires.dictionary.maps
+    (subst (λ stopped. LeavesMaps image c.args.workers lines told stopped left) going leaves) after.were after.after)

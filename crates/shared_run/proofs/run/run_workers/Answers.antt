@@ -12,7 +12,7 @@ use Rattle.run_model.specs.Runs.{answered}
 use Rattle.tool_ports.specs.Chances.{unasked}
 use Rattle.tool_ports.proofs.ChanceLemmas.{comes_then}
 use Rattle.shared_run.specs.Dealing.{AreParts}
-use Rattle.shared_run.specs.Following.{AreAfter}
+use Rattle.shared_run.specs.Following.{AreAfterRun}
 use Rattle.shared_run.proofs.ClosedLemmas.{both_long, first_of, kept_capacity, kept_whole, now_capacity, now_long, now_whole}
 use Rattle.shared_run.proofs.DealtLemmas.{dealt_in_turn}
 use Rattle.shared_run.proofs.ScrambledLemmas.{at_capacity}
@@ -82,7 +82,7 @@ pub returns-clause-after : goal.returns-clause-after
 returns-clause-after g c = IfSome_then c.in_ok-maps.maps c.in_ok-maps.ensures.after (λ new after. record {
   old = c.in_ok-shared.field-0.maps.items;
   were = c.in_ok-shared.ensures.maps;
-  after = subst (λ (rs : List Told). AreAfter (answered (requests_of c.args.requests.now) (replies_of rs)) c.in_ok-shared.field-0.maps.items new.items) c.deref.ensures.value after;
+  after = subst (λ (rs : List Told). AreAfterRun (answered (requests_of c.args.requests.now) (replies_of rs)) c.in_ok-shared.field-0.maps.items new.items) c.deref.ensures.value after;
 })
 
 pub returns-in_err-replies-clause-chances : goal.returns-in_err-replies-clause-chances
