@@ -3,6 +3,7 @@ pub mod Dealing
 pub mod Dealt
 pub mod DealtExamples
 pub mod Following
+pub mod FollowingExamples
 pub mod Jobs
 pub mod Parts
 pub mod Scrambled
