@@ -1,6 +1,6 @@
 -- Maps that follow requests and their replies one by one are those after all of them, and what moves took out on the way is what arrives by them. Where these are the answered requests of a run that wasn't stopped, they are the maps of the image that is left.
 use Rattle.std.proofs.Common.{◌≡◌, ℕ, zero, suc, ◌+◌, ◌<◌, take, inl, inr, Bool, true, false, List, [], ◌∷◌, ◌++◌, length, filter, get_or, cond, Option, None, Some, append_assoc, refl, subst, sym, ap, ◌∙◌, arith}
-use Rattle.std.specs.Prelude.{◌↔◌, nat_eq, IfSome, IsSome}
+use Rattle.std.specs.Prelude.{◌↔◌, IfSome, IsSome}
 use Rattle.std.specs.BTreeMap.{BTreeMap, get, IsOrdered}
 use Rattle.std.specs.Ordering.{nat_cmp}
 use Rattle.std.proofs.Math.Nat.{mod-lt}
@@ -97,9 +97,6 @@ pub record HaveFollowed (rs : List (Request × Reply)) (first now : List (BTreeM
   pub maps : AreAfter rs first now
   pub moved_are : (whole : Map) → AreMapsOf whole first → puts_under moved ≡ arrivals whole rs
 
-pub followed_none : (maps : List (BTreeMap ℕ (List ℕ))) (moved : List (ℕ × List ℕ)) → moved ≡ [] → HaveFollowed [] maps maps moved
-followed_none maps moved is = record { maps = after_none maps; moved_are = λ whole are. ap puts_under is }
-
 followed_more : (xs ys : List (Request × Reply)) (first now next : List (BTreeMap ℕ (List ℕ))) (moved more : List (ℕ × List ℕ)) → length first ≡ shards
     → HaveFollowed xs first now moved → AreAfter ys now next → ((whole : Map) → AreMapsOf whole now → puts_under more ≡ puts_under moved ++ arrivals whole ys)
     → HaveFollowed (xs ++ ys) first next more
@@ -110,26 +107,20 @@ followed_more xs ys first now next moved more long was then taken = record {
       ∙ ap (λ zs. zs ++ arrivals (after whole xs) ys) (was.moved_are whole are) ∙ sym (arrivals_both whole xs ys);
 }
 
--- maps in which all of the values have arrived but these
-pub record HaveArrived (all left : List (ℕ × List ℕ)) (first now : List (BTreeMap ℕ (List ℕ))) : Type 0 where
+-- maps in which all of the values have arrived but those that are left
+pub record HaveArrivedBut (all left : List (ℕ × List ℕ)) (first now : List (BTreeMap ℕ (List ℕ))) : Type 0 where
   pub long : length now ≡ length first
   pub rest : (last : List (BTreeMap ℕ (List ℕ))) → AreAfter (puts_under left) now last → AreAfter (puts_under all) first last
 
-pub arrived_none : (all : List (ℕ × List ℕ)) (maps : List (BTreeMap ℕ (List ℕ))) → HaveArrived all all maps maps
-arrived_none all maps = record { long = refl; rest = λ last then. then }
-
 pub arrived_next : (all left rest : List (ℕ × List ℕ)) (key : ℕ) (value : List ℕ) (first now next : List (BTreeMap ℕ (List ℕ))) → left ≡ (key, value) ∷ rest
-    → HaveArrived all left first now → AreAfter ((put key value, done) ∷ []) now next → HaveArrived all rest first next
+    → HaveArrivedBut all left first now → AreAfter ((put key value, done) ∷ []) now next → HaveArrivedBut all rest first next
 arrived_next all left rest key value first now next is was one = record {
   long = one.long ∙ was.long;
   rest = λ last then. was.rest last
       (subst (λ moved. AreAfter (puts_under moved) now last) (sym is) (after_more ((put key value, done) ∷ []) (puts_under rest) now next last one then));
 }
 
-pub arrived_all : (all left : List (ℕ × List ℕ)) (first now : List (BTreeMap ℕ (List ℕ))) → left ≡ [] → HaveArrived all left first now → AreAfter (puts_under all) first now
-arrived_all all left first now is was = was.rest now (subst (λ moved. AreAfter (puts_under moved) now now) (sym is) (after_none now))
-
--- once these have arrived, the maps are those after the run
+-- once the values have arrived, the maps are those after the run
 pub followed_all : (rs : List (Request × Reply)) (first now last : List (BTreeMap ℕ (List ℕ))) (moved : List (ℕ × List ℕ)) → HaveFollowed rs first now moved
     → AreAfter (puts_under moved) now last → AreAfterRun rs first last
 followed_all rs first now last moved was then whole are =
@@ -146,11 +137,11 @@ maps_of_whole image whole maps is are = record {
       ∙ one_map_of image (shard_of key) (get nat_cmp here.0) of.0 here.2 of.1 key ∙ of.2;
 }
 
--- what passes the narrower of two tests is all there behind the wider one
 not_so : (test : Bool) → (test ≡ true → false ≡ true) → test ≡ false
 not_so true so = sym (so refl)
 not_so false so = refl
 
+-- what passes the narrower of two tests is all there behind the wider one
 filter_within : {X : Type 0} (narrow wide : X → Bool) → ((x : X) → narrow x ≡ true → wide x ≡ true) → (xs : List X) → filter narrow (filter wide xs) ≡ filter narrow xs
 filter_within narrow wide so [] = refl
 filter_within narrow wide so (x ∷ xs) = by_case (wide x) (so x) (filter_within narrow wide so xs) where
