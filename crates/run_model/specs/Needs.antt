@@ -48,6 +48,36 @@ abbrev pub worker_tables : ℕ → ℕ → List Request → ℕ
 worker_tables workers worker requests =
     count_by (λ shard. nat_eq (worker_of workers shard) worker && is_brought_to requests shard) (words_from (λ i. i) 0 shards)
 
+-- whether one of the requests is a move to a key of the shard
+abbrev pub is_moved_to : List Request → ℕ → Bool
+is_moved_to [] shard = false
+is_moved_to (put key value ∷ requests) shard = is_moved_to requests shard
+is_moved_to (get key ∷ requests) shard = is_moved_to requests shard
+is_moved_to (del key ∷ requests) shard = is_moved_to requests shard
+is_moved_to (move key to ∷ requests) shard = nat_eq (shard_of to) shard || is_moved_to requests shard
+
+-- whether that is so of a shard of the worker: it is to have a table before the first request; and how many such shards there are
+abbrev pub is_target_of : ℕ → ℕ → List Request → ℕ → Bool
+is_target_of workers worker requests shard = nat_eq (worker_of workers shard) worker && is_moved_to requests shard
+
+abbrev pub targets_of : ℕ → ℕ → List Request → ℕ
+targets_of workers worker requests = count_by (is_target_of workers worker requests) (words_from (λ i. i) 0 shards)
+
+-- how many of the requests are puts, and how many are moves
+abbrev pub puts_among : List Request → ℕ
+puts_among [] = 0
+puts_among (put key value ∷ requests) = 1 + puts_among requests
+puts_among (get key ∷ requests) = puts_among requests
+puts_among (del key ∷ requests) = puts_among requests
+puts_among (move key to ∷ requests) = puts_among requests
+
+abbrev pub moves_among : List Request → ℕ
+moves_among [] = 0
+moves_among (put key value ∷ requests) = moves_among requests
+moves_among (get key ∷ requests) = moves_among requests
+moves_among (del key ∷ requests) = moves_among requests
+moves_among (move key to ∷ requests) = 1 + moves_among requests
+
 -- whether one of the requests is a move
 abbrev pub has_move : List Request → Bool
 has_move [] = false
