@@ -32,6 +32,10 @@ pub on_err_all : {T E P : Type 0} (r : Result T E) → P → OnErr r P
 on_err_all (Ok value) is = tt
 on_err_all (Err error) is = is
 
+-- where the first came something was left
+pub is_left : {key : ℕ} {node : Block} {old new : List Sent} {v w : View} → TakesFirst key node old new v w → IsLeft old
+is_left {key} {node} {old} {new} takes = record { first = takes.first; others = new; left_are = takes.left_are }
+
 -- the seat was stopped before the first came
 pub stops_before : (old new : List Sent) (v w : View) → IsSeat w → IsLeft old → new ≡ old → HaveTables old v → KeepsOwn v w → IsSmallCall v w → StopsAtFirst old new v w
 stops_before old new v w seat left same tables keeps call = record {

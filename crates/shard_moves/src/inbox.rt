@@ -35,8 +35,8 @@ pub trait Inbox<H: HeapSeat> {
         ensures some { OnErr result (IsLeft (left self.old)) }
         ensures back { OnErr result (left self.new ≡ left self.old) }
 
-        // At every exit.
-        ensures counted { IsSmallCall (H.view seat.old) (H.view seat.new) }
+        // At every exit. Where nothing is left no call is made.
+        ensures counted { IsLeft (left self.old) → IsSmallCall (H.view seat.old) (H.view seat.new) }
         ensures goes_on { goes seat.old seat.new }
         ensures ready_on { ready self.new seat.new };
 
