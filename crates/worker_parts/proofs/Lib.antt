@@ -1,0 +1,12 @@
+pub mod ArrivalLemmas
+pub mod AskLemmas
+pub mod BeginLemmas
+pub mod BroughtLemmas
+pub mod EndLemmas
+pub mod KeyLemmas
+pub mod PartLemmas
+pub mod RequestLemmas
+pub mod SettleLemmas
+pub mod StateLemmas
+pub mod TargetLemmas
+pub mod WholeLemmas

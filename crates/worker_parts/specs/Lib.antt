@@ -1,0 +1,6 @@
+pub mod Asking
+pub mod Begun
+pub mod Ending
+pub mod Going
+pub mod Jobs
+pub mod Parts
