@@ -1,0 +1,17 @@
+pub mod AnsweredLemmas
+pub mod BoundLemmas
+pub mod CameLemmas
+pub mod CostLemmas
+pub mod CountLemmas
+pub mod FullLemmas
+pub mod HeaderLemmas
+pub mod LeftLemmas
+pub mod MapLeftLemmas
+pub mod MoveLemmas
+pub mod OrderlyLemmas
+pub mod ReplyLemmas
+pub mod ShardLemmas
+pub mod ShareLemmas
+pub mod TurnLemmas
+pub mod UsedLemmas
+pub mod WorkerLemmas

@@ -1,0 +1,11 @@
+//! What the parts of all workers of a run come to: which requests are answered, with which replies,
+//! and what image is left.
+#![tactic(auto)]
+
+mod answers;
+mod left;
+mod spent;
+
+pub use answers::what_the_workers_answered;
+pub use left::what_the_workers_left;
+pub use spent::what_the_workers_spent;
