@@ -16,7 +16,9 @@ use std::test::Fail;
 use super_block::{Geometry, Ready};
 use tool_ports::{Chances, Gate, SeededChances};
 use trace_text::{Reply, Request, parse_trace};
-use worker_run::{NoOutbox, Worker, closed_image, left_by_crash, longest_puts, make_rooms, work_off};
+use worker_run::{
+    NoOutbox, Worker, closed_image, left_by_crash, longest_puts, make_rooms, work_off,
+};
 
 /// What a run of a trace gives.
 #[derive(Drop)]
@@ -84,7 +86,14 @@ fn run_requests<G: Gate, C: Chances>(
     let tables = &[false; 8];
     let outbox = &mut NoOutbox;
     let stopped = work_off(
-        &mut seat, alone, requests, tables, rooms, outbox, &mut replies, gate,
+        &mut seat,
+        alone,
+        requests,
+        tables,
+        rooms,
+        outbox,
+        &mut replies,
+        gate,
     );
     tell_unanswered(&mut replies, requests.len())?;
     let image = image_left(seat.finish(), stopped, geometry, chances);

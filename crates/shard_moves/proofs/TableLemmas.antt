@@ -79,17 +79,20 @@ sees_on v w at k after change is sees =
 tells_on : {S : Type 0} (view : S → View) (keeps : S → S → Type 0) (has_none : S → S → ℕ → Looks → Type 0) → ((x y z : S) → keeps x y → keeps y z → keeps x z) → (at k : ℕ) (b : Bool) (s t u : S)
     → IsShard (view t) k → HasTried view keeps at t u → TellsTable view keeps has_none k b s t → TellsTable view keeps has_none k b s u
 tells_on view keeps has_none row at k true s t u is tried set = set_changed (view t) (view u) at k (λ m. m) tried.change is.owned set
-tells_on view keeps has_none row at k false s t u is tried (null, refused) = (null, record {
-  at = refused.at;
-  before = refused.before;
-  behind = row refused.at t u refused.behind tried.kept;
-  knows = let a = refused.knows in let b = tried.calls.goes_on.used in omega arith;
-  until = let a = refused.until in let b = tried.calls.taken in omega arith;
-  room = refused.room;
-  looks = refused.looks;
-  none = let none = refused.none in
-      record { before = none.before; after = none.after; kept_before = none.kept_before; none = none.none; kept_after = row none.after t u none.kept_after tried.kept };
-})
+tells_on view keeps has_none row at k false s t u is tried (null, refused) = (
+  null,
+  record {
+    at = refused.at;
+    before = refused.before;
+    behind = row refused.at t u refused.behind tried.kept;
+    knows = let a = refused.knows in let b = tried.calls.goes_on.used in omega arith;
+    until = let a = refused.until in let b = tried.calls.taken in omega arith;
+    room = refused.room;
+    looks = refused.looks;
+    none = let none = refused.none in
+        record { before = none.before; after = none.after; kept_before = none.kept_before; none = none.none; kept_after = row none.after t u none.kept_after tried.kept };
+  },
+)
 
 -- where a table doesn't go away, a root that is null was null
 null_before : (v w : View) (k : ℕ) → (sees_table v k ≡ true → sees_table w k ≡ true) → WasNull w k → WasNull v k
@@ -111,17 +114,20 @@ null_at_first v w k after change owned null x is = elim (cases_eq x 0) as (λ _.
 tells_from : {S : Type 0} (view : S → View) (keeps : S → S → Type 0) (has_none : S → S → ℕ → Looks → Type 0) → ((x y z : S) → keeps x y → keeps y z → keeps x z) → (k : ℕ) (b : Bool) (s t u : S)
     → keeps s t → (sees_table (view s) k ≡ true → sees_table (view t) k ≡ true) → TellsTable view keeps has_none k b t u → TellsTable view keeps has_none k b s u
 tells_from view keeps has_none row k true s t u kept sees set = set
-tells_from view keeps has_none row k false s t u kept sees (null, refused) = (null_before (view s) (view t) k sees null, record {
-  at = refused.at;
-  before = row s t refused.at kept refused.before;
-  behind = refused.behind;
-  knows = refused.knows;
-  until = refused.until;
-  room = refused.room;
-  looks = refused.looks;
-  none = let none = refused.none in
-      record { before = none.before; after = none.after; kept_before = row s t none.before kept none.kept_before; none = none.none; kept_after = none.kept_after };
-})
+tells_from view keeps has_none row k false s t u kept sees (null, refused) = (
+  null_before (view s) (view t) k sees null,
+  record {
+    at = refused.at;
+    before = row s t refused.at kept refused.before;
+    behind = refused.behind;
+    knows = refused.knows;
+    until = refused.until;
+    room = refused.room;
+    looks = refused.looks;
+    none = let none = refused.none in
+        record { before = none.before; after = none.after; kept_before = row s t none.before kept none.kept_before; none = none.none; kept_after = none.kept_after };
+  },
+)
 
 -- the first of the numbers that are left
 count_first : (f : ℕ → Bool) (n : ℕ) → n < shards → count_by f (words_from (λ i. i) n (shards - n)) ≡ cond (f n) 1 0 + count_by f (words_from (λ i. i) (n + 1) (shards - (n + 1)))
