@@ -1,6 +1,6 @@
 //! Where a worker's nodes go: into the queues of the workers that they are for.
 
-ghost use Rattle.std.specs.Prelude.{◌≡◌, ◌∷◌, ◌+◌, ◌-◌, ◌≤◌, All, length};
+ghost use Rattle.std.specs.Prelude.{◌≡◌, true, false, ◌∷◌, ◌+◌, ◌-◌, ◌≤◌, All, length};
 ghost use Rattle.std.specs.Vec.{vec_capacity, vec_len};
 ghost use Rattle.std.specs.List.Sorted.{IsPermutation};
 ghost use Rattle.parcel_queue.specs.Row.{ArePassesOf};
@@ -77,6 +77,14 @@ impl<'a, J: HeapOf, Q: QueuesOf> PostBox<'a, J, Q> {
             workers,
             to: PhantomData,
         }
+    }
+
+    /// Whether there is room for one more parcel to be kept.
+    pub(crate) fn has_room(&self) -> bool
+        ensures no { result ≡ false → self.now.spare ≡ 0 }
+        ensures yes { result ≡ true → 1 ≤ self.now.spare }
+    {
+        self.kept.len() < self.kept.capacity()
     }
 
     /// Puts the parcel into the queue of its worker, if that can be done at once, and else keeps it.

@@ -32,6 +32,9 @@ impl<'a, 'b, J: HeapOf, Q: QueuesOf, C: Chance> Outbox<CacheSeat<'b, C>> for Pos
         node: Block,
     ) -> Result<(), Stopped> {
         a_node_goes_with_its_value();
+        if !self.has_room() {
+            return Ok(());
+        }
         let carrier = seat.offer(node)?;
         self.put(Parcel {
             number,

@@ -29,23 +29,24 @@ pub trait Outbox<H: HeapSeat> {
     // That the seat may send by it.
     ghost ready: { Self → H → Type 0 };
 
-    /// Offers a node that no root meets any more: the seat holds it no longer.
+    /// Offers a node that no root meets any more: the seat holds it no longer. Where there is no
+    /// room the clauses promise nothing of the node.
     ///
     /// After `Stopped` it is held still, and nothing was sent.
     fn send(&mut self, seat: &mut H, number: usize, key: u64, node: Block) -> Result<(), Stopped>
         requires ready { ready self.old seat.old }
-        requires room { 1 ≤ room self.old }
         requires loose { IsLoose node (H.view seat.old) }
         requires node { (value : List ℕ) × IsNodeOf (H.view seat.old) node value }
-        ensures ok { OnOk result (Offers node (H.view seat.old) (H.view seat.new)) }
-        ensures added { OnOk result (AddsNode number key node (H.view seat.old)
-            (sent self.old) (sent self.new)) }
+        ensures ok { OnOk result (1 ≤ room self.old
+            → Offers node (H.view seat.old) (H.view seat.new)) }
+        ensures added { OnOk result (1 ≤ room self.old → AddsNode number key node
+            (H.view seat.old) (sent self.old) (sent self.new)) }
         ensures cause { IfErr result (λ e. Stops e.step (H.view seat.old) (H.view seat.new)) }
         ensures unchanged { OnErr result (KeepsOwn (H.view seat.old) (H.view seat.new)) }
         ensures unsent { OnErr result (sent self.new ≡ sent self.old) }
 
         // At every exit.
-        ensures counted { IsSmallCall (H.view seat.old) (H.view seat.new) }
+        ensures counted { 1 ≤ room self.old → IsSmallCall (H.view seat.old) (H.view seat.new) }
         ensures room_left { room self.old ≤ room self.new + 1 }
         ensures goes_on { goes seat.old seat.new }
         ensures ready_on { ready self.new seat.new };

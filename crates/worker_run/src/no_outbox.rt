@@ -5,7 +5,7 @@ use heap_seat::HeapSeat;
 use line_memory::Stopped;
 use shard_moves::Outbox;
 
-/// An outbox that has no room: for requests of which none is a move.
+/// An outbox that has no room, and sends nothing: for requests of which none is a move.
 #[derive(Drop)]
 pub struct NoOutbox;
 
@@ -27,7 +27,7 @@ impl<H: HeapSeat> Outbox<H> for NoOutbox {
         _key: u64,
         _node: Block,
     ) -> Result<(), Stopped> {
-        unreachable!();
+        Ok(())
     }
 
     ghost goes_none = { H.keeps_none };

@@ -20,7 +20,7 @@ put-requires-clause-fact g c =
     (c.a_node_goes_with_its_value.ensures.goes (heap_view c.args.seat.now.state) c.args.node (contents_of carrier) has.0 sent.contents has.1)
 
 pub returns-clause-added : goal.returns-clause-added
-returns-clause-added g c =
+returns-clause-added g c = λ room.
     let carrier = c.in_ok-carrier.carrier in
     let sent = c.in_ok-carrier.ensures.sent in
     let old = c.args.self.now in
