@@ -1,13 +1,18 @@
--- Worked examples of lines that are outside the grammar of schedules.
+-- Worked examples of lines that are outside the grammars of schedules and traces.
 use Rattle.std.proofs.Common.{◌≡◌, [], ◌∷◌, codes, Some, refl, ap, sym, ◌∙◌, arith}
+use Rattle.std.proofs.lemmas.Fmt.{decimal_is_IsNumeral}
 use Rattle.std.specs.Fmt.{digits}
+use Rattle.std.specs.Str.Parse.{digits_value}
 use Rattle.trace_text.specs.Lines.{WritesNothing}
 use Rattle.trace_text.specs.Numbers.{IsNumber}
 use Rattle.trace_text.specs.Schedule.{parts_of, IsEventWords, IsStepLine, IsSeatsLine}
+use Rattle.trace_text.specs.Trace.{IsOutside}
 use Rattle.trace_text.proofs.EventLemmas.{is_word, word_passes, alone, one_number_behind}
-use Rattle.trace_text.proofs.NumberLemmas.{number_begins, one_number}
+use Rattle.trace_text.proofs.NumberLemmas.{number_begins, number_has_no, one_number}
+use Rattle.trace_text.proofs.PieceLemmas.{has_separator}
 use Rattle.trace_text.proofs.ScheduleLemmas.{event_by, find, of_none, of_one, found}
 use Rattle.trace_text.proofs.StepLemmas.{step_parts, seats_number}
+use Rattle.trace_text.proofs.WordLemmas.{move_has_space, move_words}
 
 -- more than 8 seats
 nine : IsNumber (codes "9") 9
@@ -59,3 +64,70 @@ other_verb event is =
     let parts = alone (parts_of event).0 (parts_of event).1 (codes "jump") is.words_are (word_passes (codes "jump") refl) in
     let by : event_by (codes "jump") [] ≡ Some event = ap (λ v. event_by v []) parts.0 ∙ ap (λ n. event_by (parts_of event).0 n) (sym parts.1) ∙ found event in
     cc
+
+-- 2 ^ 64 is no number of 64 bits
+too_large : WritesNothing IsNumber (codes "18446744073709551616")
+too_large number is =
+    let same : digits_value 10 (codes "18446744073709551616") ≡ number = ap (digits_value 10) is.1 ∙ (decimal_is_IsNumeral number is.0).1 in
+    omega (arith, same, is.0)
+
+-- a move to no key
+one_key : IsOutside (codes "move 5")
+unfolding is_word
+one_key = move_has_space (codes "5") (word_passes (codes "5") refl)
+
+-- a word too many, and a blank at the end
+third_word : IsOutside (codes "move 5 6 7")
+unfolding is_word
+third_word request is =
+    let parts = move_words (codes "5 6 7") (codes "5") (codes "6 7") request refl (word_passes (codes "5") refl) is in
+    has_separator 32 (codes "6") (codes "7") (number_has_no 32 (codes "6 7") parts.1 (omega arith) parts.3)
+
+blank_at_the_end : IsOutside (codes "move 5 6 ")
+unfolding is_word
+blank_at_the_end request is =
+    let parts = move_words (codes "5 6 ") (codes "5") (codes "6 ") request refl (word_passes (codes "5") refl) is in
+    has_separator 32 (codes "6") [] (number_has_no 32 (codes "6 ") parts.1 (omega arith) parts.3)
+
+-- two blanks, behind the verb and between the keys
+blank_before_the_keys : IsOutside (codes "move  5 6")
+unfolding is_word
+blank_before_the_keys request is =
+    let parts = move_words (codes " 5 6") [] (codes "5 6") request refl (word_passes [] refl) is in
+    let begins = number_begins [] parts.0 parts.2 (λ same. cc) in
+    omega (arith, begins.0)
+
+blank_between_the_keys : IsOutside (codes "move 5  6")
+unfolding is_word
+blank_between_the_keys request is =
+    let parts = move_words (codes "5  6") (codes "5") (codes " 6") request refl (word_passes (codes "5") refl) is in
+    let begins = number_begins (codes " 6") parts.1 parts.3 (λ same. cc) in
+    omega (arith, begins.0)
+
+-- a leading zero of either key
+key_with_zero : IsOutside (codes "move 05 6")
+unfolding is_word
+key_with_zero request is =
+    let parts = move_words (codes "05 6") (codes "05") (codes "6") request refl (word_passes (codes "05") refl) is in
+    let begins = number_begins (codes "05") parts.0 parts.2 (λ same. cc) in
+    omega (arith, begins.0)
+
+second_key_with_zero : IsOutside (codes "move 5 06")
+unfolding is_word
+second_key_with_zero request is =
+    let parts = move_words (codes "5 06") (codes "5") (codes "06") request refl (word_passes (codes "5") refl) is in
+    let begins = number_begins (codes "06") parts.1 parts.3 (λ same. cc) in
+    omega (arith, begins.0)
+
+-- a key of more than 64 bits
+first_key_too_large : IsOutside (codes "move 18446744073709551616 5")
+unfolding is_word
+first_key_too_large request is =
+    let parts = move_words (codes "18446744073709551616 5") (codes "18446744073709551616") (codes "5") request refl (word_passes (codes "18446744073709551616") refl) is in
+    too_large parts.0 parts.2
+
+second_key_too_large : IsOutside (codes "move 5 18446744073709551616")
+unfolding is_word
+second_key_too_large request is =
+    let parts = move_words (codes "5 18446744073709551616") (codes "5") (codes "18446744073709551616") request refl (word_passes (codes "5") refl) is in
+    too_large parts.1 parts.3

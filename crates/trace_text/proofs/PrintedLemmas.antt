@@ -14,7 +14,7 @@ use Rattle.trace_text.specs.Trace.{lines_of, longest_value, IsValue, IsLine, Are
 use Rattle.trace_text.specs.Values.{value_word}
 use Rattle.trace_text.proofs.LineLemmas.{lines_of-ended}
 use Rattle.trace_text.proofs.NumberLemmas.{number_has_no}
-use Rattle.trace_text.proofs.WordLemmas.{put_line}
+use Rattle.trace_text.proofs.WordLemmas.{put_line, move_line}
 
 -- a text in one line
 abbrev IsPlain : List ℕ → Type 0
@@ -69,7 +69,14 @@ body_plain (Del key) fits =
     All-append (λ n. n ≢ 10) (codes "del ") (decimal key)
     (verb_plain 100 101 108 32 (λ s. absurd (omega arith)) (λ s. absurd (omega arith)) (λ s. absurd (omega arith)) (λ s. absurd (omega arith)))
     (number_has_no 10 (decimal key) key (omega arith) (fits, refl))
-body_plain (Move key to) fits = absurd fits
+body_plain (Move key to) fits =
+    All-append (λ n. n ≢ 10) (codes "move ") (decimal key ++ codes " " ++ decimal to)
+    (All-cons (λ n. n ≢ 10) 109 (codes "ove ") (λ s. absurd (omega arith))
+    (verb_plain 111 118 101 32 (λ s. absurd (omega arith)) (λ s. absurd (omega arith)) (λ s. absurd (omega arith)) (λ s. absurd (omega arith))))
+    (All-append (λ n. n ≢ 10) (decimal key ++ codes " ") (decimal to)
+    (All-append (λ n. n ≢ 10) (decimal key) (codes " ") (number_has_no 10 (decimal key) key (omega arith) (fits.0, refl))
+    (All-cons (λ n. n ≢ 10) 32 [] (λ s. absurd (omega arith)) (All-nil (λ n. n ≢ 10))))
+    (number_has_no 10 (decimal to) to (omega arith) (fits.1, refl)))
 
 body_read : (request : Request) → IsWithinBounds request → IsLine (body request) request
 body_read (Put key value) fits =
@@ -77,7 +84,9 @@ body_read (Put key value) fits =
     (fits.0, refl) (value_read value fits.1 fits.2)
 body_read (Get key) fits = record { word = decimal key; line_is = refl; key_is = (fits, refl) }
 body_read (Del key) fits = record { word = decimal key; line_is = refl; key_is = (fits, refl) }
-body_read (Move key to) fits = absurd fits
+body_read (Move key to) fits =
+    move_line (decimal key ++ codes " " ++ decimal to) (decimal key) (decimal to) key to (append_assoc (decimal key) (32 ∷ []) (decimal to))
+    (fits.0, refl) (fits.1, refl)
 
 -- so requests are read as they are printed
 pub read_again : (requests : List Request) → All IsWithinBounds requests → AreLines (lines_of (flat_map request_line requests)) requests

@@ -20,7 +20,7 @@ abbrev pub IsWithinBounds : Request → Type 0
 IsWithinBounds (Put key value) = (key < 2 ^ 64) × IsBytes value × (length value ≤ longest_value)
 IsWithinBounds (Get key) = key < 2 ^ 64
 IsWithinBounds (Del key) = key < 2 ^ 64
-IsWithinBounds (Move key to) = ⊥
+IsWithinBounds (Move key to) = (key < 2 ^ 64) × (to < 2 ^ 64)
 
 -- the number that request i is made of
 abbrev pub number_of : ℕ → ℕ → ℕ

@@ -33,12 +33,20 @@ pub record IsPutLine (line : List ℕ) (key : ℕ) (value : List ℕ) : Type 0 w
   pub key_is : IsNumber key_word key
   pub value_is : IsValue value_word value
 
+-- the line is `move` and two keys, with one space between words
+pub record IsMoveLine (line : List ℕ) (key to : ℕ) : Type 0 where
+  pub key_word : List ℕ
+  pub to_word : List ℕ
+  pub line_is : line ≡ codes "move " ++ key_word ++ codes " " ++ to_word
+  pub key_is : IsNumber key_word key
+  pub to_is : IsNumber to_word to
+
 -- the line asks for the request
 abbrev pub IsLine : List ℕ → Request → Type 0
 IsLine line (Put key value) = IsPutLine line key value
 IsLine line (Get key) = IsKeyLine (codes "get") line key
 IsLine line (Del key) = IsKeyLine (codes "del") line key
-IsLine line (Move key to) = ⊥
+IsLine line (Move key to) = IsMoveLine line key to
 
 -- the line asks for nothing
 abbrev pub IsOutside : List ℕ → Type 0

@@ -4,8 +4,8 @@ use Rattle.std.proofs.Common.{inl, inr, arith}
 use Rattle.std.specs.Fmt.{digits}
 use Rattle.hex.specs.Hex.{decode_pairs, encode_with}
 use Rattle.trace_text.specs.declared.reply.Reply.TheVariants.{Ok, Full, Value, Unanswered}
-use Rattle.trace_text.specs.declared.request.Request.TheVariants.{Put, Get}
-use Rattle.trace_text.specs.Generated.{made_trace}
+use Rattle.trace_text.specs.declared.request.Request.TheVariants.{Put, Get, Move}
+use Rattle.trace_text.specs.Generated.{made_trace, request_line}
 use Rattle.trace_text.specs.Replies.{replies_text}
 use Rattle.trace_text.specs.Report.{line_feed}
 use Rattle.trace_text.specs.Trace.{lines_of, IsLine}
@@ -45,6 +45,21 @@ an_empty_put = record {
 a_get : IsLine (codes "get 10") (Get 10)
 unfolding digits
 a_get = record { word = codes "10"; line_is = refl; key_is = (omega arith, refl) }
+
+a_move : IsLine (codes "move 0 18446744073709551615") (Move 0 18446744073709551615)
+unfolding digits
+a_move = record {
+  key_word = codes "0";
+  to_word = codes "18446744073709551615";
+  line_is = refl;
+  key_is = (omega arith, refl);
+  to_is = (omega arith, refl);
+}
+
+-- a move as it is printed
+a_printed_move : request_line (Move 7 10) ≡ codes "move 7 10" ++ line_feed
+unfolding digits
+a_printed_move = refl
 
 -- replies, and how many there are of each kind: a value of no bytes is a value
 four_replies : replies_text (Ok ∷ Value [] ∷ Full ∷ Unanswered ∷ []) true false

@@ -24,6 +24,9 @@ pub(crate) fn parse_line(alloc: Global, line: &[u8]) -> Result<Option<Request>, 
     if let Some(word) = behind(line, b"del ") {
         return Ok(parse_number(word).map(Request::Del));
     }
+    if let Some(words) = behind(line, b"move ") {
+        return Ok(parse_move(words));
+    }
     Ok(None)
 }
 
@@ -41,6 +44,16 @@ fn parse_put(alloc: Global, words: &[u8]) -> Result<Option<Request>, AllocError>
         return Ok(None);
     };
     Ok(Some(Request::Put(key, value)))
+}
+
+/// The request of the words of a line behind its `move `.
+fn parse_move(words: &[u8]) -> Option<Request>
+    ensures { IsReadAs IsLine (codes "move " ++ words.now) result }
+{
+    let (key, to) = split_once(words, b' ')?;
+    let key = parse_number(key)?;
+    let to = parse_number(to)?;
+    Some(Request::Move(key, to))
 }
 
 /// The value that a word writes.

@@ -10,10 +10,10 @@ use std::alloc::Global;
 
 /// The requests of a trace, one for each line.
 ///
-/// A line is `put K V`, `get K` or `del K`, with one space between words. `K` is a decimal number
-/// of 64 bits without leading zeros. `V` is `-` for the empty value, or two hexadecimal digits of
-/// either case for each byte, of which there are at most 131,072. The last line may lack its line
-/// feed, and an empty trace has no line.
+/// A line is `put K V`, `get K`, `del K` or `move K K`, with one space between words. `K` is a
+/// decimal number of 64 bits without leading zeros. `V` is `-` for the empty value, or two
+/// hexadecimal digits of either case for each byte, of which there are at most 131,072. The last
+/// line may lack its line feed, and an empty trace has no line.
 ///
 /// Memory is asked for once for all requests, and once for each value.
 pub fn parse_trace(alloc: Global, text: &[u8]) -> Result<Vec<Request>, TraceError>
