@@ -1,23 +1,11 @@
--- No line of a trace asks for a move, and requests without a move need no room to send.
-use Rattle.std.proofs.Common.{◌≡◌, ℕ, ◌≤◌, false, List, [], ◌∷◌, refl, arith}
+-- Requests without a move need no room to send.
+use Rattle.std.proofs.Common.{◌≡◌, ℕ, ◌≤◌, false, List, [], ◌∷◌, arith}
 use Rattle.std.proofs.lemmas.List.Sums.{sum_by-cons}
 use Rattle.dict_model.specs.Requests.{Request, put, get, del, move}
 use Rattle.run_model.specs.Needs.{has_move}
 use Rattle.run_model.specs.Workers.{is_of_worker, worker_requests}
 use Rattle.run_model.proofs.UnmovedLemmas.{none_of_part}
-use Rattle.trace_text.specs.Trace.{AreLines}
-use Rattle.trace_text.specs.declared.request.Request.TheVariants.{Put, Get, Del, Move}
-use Rattle.worker_run.specs.Said.{Line, requests_of}
 use Rattle.worker_run.specs.Sending.{needs_room, rooms_needed}
-
-pub lines_unmoved : (texts : List (List ℕ)) (lines : List Line) → AreLines texts lines → has_move (requests_of lines) ≡ false
-lines_unmoved [] [] are = refl
-lines_unmoved [] (line ∷ lines) are = absurd are
-lines_unmoved (text ∷ texts) [] are = absurd are
-lines_unmoved (text ∷ texts) (Put key value ∷ lines) are = lines_unmoved texts lines are.1
-lines_unmoved (text ∷ texts) (Get key ∷ lines) are = lines_unmoved texts lines are.1
-lines_unmoved (text ∷ texts) (Del key ∷ lines) are = lines_unmoved texts lines are.1
-lines_unmoved (text ∷ texts) (Move key to ∷ lines) are = absurd are.0
 
 none_needed : (requests : List Request) → has_move requests ≡ false → rooms_needed requests ≤ 0
 none_needed [] unmoved = let none : 0 ≤ 0 = omega arith in none

@@ -16,7 +16,7 @@ ghost use Rattle.dict_model.specs.Links.{shards, kind_count, dict_links};
 ghost use Rattle.dict_model.specs.Requests.{Request, Reply, after};
 ghost use Rattle.dict_model.specs.Shards.{Map, MapOf};
 ghost use Rattle.dict_seat.specs.Removal.{IsShard};
-ghost use Rattle.run_model.specs.Needs.{has_move, ListsKeysOf};
+ghost use Rattle.run_model.specs.Needs.{ListsKeysOf};
 ghost use Rattle.run_model.specs.Runs.{of_shard, IsMapLeft, LeavesMaps, LeavesHeader, LeavesOthers};
 ghost use Rattle.run_model.specs.Opened.{HasMaps, IsDictionary, IsOpenedOver, HasAllRoots, CanBeRun};
 ghost use Rattle.run_model.specs.Progress.{Answers, MayAnswer, HasAnswered};
@@ -36,12 +36,6 @@ pub fn a_dictionary_lists_its_keys()
 pub fn a_read_trace_is_short()
     ensures { (texts : List (List ℕ)) (lines : List Line) → AreLines texts lines
         → ValuesAreShort (requests_of lines) }
-{}
-
-/// A trace that was read has no move: no line asks for one.
-pub fn a_read_trace_has_no_move()
-    ensures { (texts : List (List ℕ)) (lines : List Line) → AreLines texts lines
-        → has_move (requests_of lines) ≡ false }
 {}
 
 /// What recovery leaves is a dictionary where each shard is a map.

@@ -10,11 +10,10 @@ mod work;
 mod worker;
 
 pub use laws::{
-    a_dictionary_lists_its_keys, a_read_trace_has_no_move, a_read_trace_is_short,
-    a_recovered_dictionary_is_a_dictionary, a_run_goes_on_request_by_request,
-    any_heap_leaves_a_dictionary, each_shard_of_a_seat_may_be_asked,
-    what_a_run_leaves_can_be_run_again, what_a_run_leaves_is_a_dictionary,
-    what_a_seat_kept_is_as_it_was,
+    a_dictionary_lists_its_keys, a_read_trace_is_short, a_recovered_dictionary_is_a_dictionary,
+    a_run_goes_on_request_by_request, any_heap_leaves_a_dictionary,
+    each_shard_of_a_seat_may_be_asked, what_a_run_leaves_can_be_run_again,
+    what_a_run_leaves_is_a_dictionary, what_a_seat_kept_is_as_it_was,
 };
 pub use left::{CrashWords, closed_image, left_by_crash};
 pub use no_outbox::NoOutbox;
