@@ -65,7 +65,7 @@ pub asked_state : {C : Type 0} (goes : CacheValue C → CacheValue C → Type 0)
     → HasAskedOf view_of goes none_of image mine tables replies stopped s t → HasAsked image mine tables replies stopped s.state t.state
 asked_state goes on image mine tables replies stopped s t asked = record {
   worked = asked.worked;
-  halted = asked.halted;
+  in_one = asked.in_one;
   full = full_rightly goes on _ _ s t asked.full;
   taken = asked.taken;
   few = asked.few;

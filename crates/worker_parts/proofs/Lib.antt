@@ -8,5 +8,6 @@ pub mod PartLemmas
 pub mod RequestLemmas
 pub mod SettleLemmas
 pub mod StateLemmas
+pub mod TableLemmas
 pub mod TargetLemmas
 pub mod WholeLemmas

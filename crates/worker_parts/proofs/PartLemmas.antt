@@ -1,11 +1,12 @@
 -- A worker's part of a run: its tables are made, its requests worked off, and what comes behind costs little.
-use Rattle.std.proofs.Common.{◌≡◌, ◌≢◌, ℕ, ◌+◌, ◌*◌, ◌<◌, ◌≤◌, ◌↔◌, Bool, true, false, List, length, slice_index, None, Some, Contains, refl, subst, sym, ap, ◌∙◌, arith}
+use Rattle.std.proofs.Common.{◌≡◌, ◌≢◌, ℕ, ◌+◌, ◌*◌, ◌<◌, ◌≤◌, ◌↔◌, Bool, true, false, List, [], length, slice_index, None, Some, Contains, refl, subst, sym, ap, ◌∙◌, arith}
 use Rattle.std.specs.Prelude.{nat_lt}
 use Rattle.std.proofs.lemmas.Bool.{cond-true, lt-ltb}
 use Rattle.heap_model.specs.Geometry.{roots, root_word}
 use Rattle.heap_model.specs.Image.{Image}
 use Rattle.core_model.specs.View.{View}
 use Rattle.heap_seat.specs.Looks.{KnowsNoLess}
+use Rattle.heap_seat.specs.View.{View as HeapView}
 use Rattle.heap_seat.specs.Words.{in_root}
 use Rattle.heap_rule.specs.Seated.{IsSeatOf, SeatView}
 use Rattle.heap_table.specs.AtTable.{SharedView}
@@ -29,6 +30,7 @@ use Rattle.worker_parts.specs.Ending.{HasEnded, HasStepped}
 use Rattle.worker_parts.specs.Going.{GoesOn, TurnsAway}
 use Rattle.worker_parts.specs.Jobs.{IsFirst, IsPartOf, image_of}
 use Rattle.worker_parts.specs.Parts.{IsPart, LacksTable, SpendsFew}
+use Rattle.worker_parts.proofs.AskLemmas.{begun_going}
 use Rattle.worker_parts.proofs.BroughtLemmas.{tables_both, target_is_own}
 use Rattle.worker_parts.proofs.StateLemmas.{goes_then}
 
@@ -132,24 +134,35 @@ module _ (shared : SharedView) (requests : List Request) (workers worker : ℕ) 
         large = let a = tables.large_few in let b = few.large_few in let none = is_first.unused.large in omega (arith, a, b, none, large);
       }
 
-  -- all of it, by how it ended
+  -- all of it, by how it ended, behind the same first requests
   pub part_of : (came brought : List Sent) (after : Bool) (ended : HasEnded image mine replies came brought false after (heap_view t))
-      → HasStepped (answered mine replies) brought (unanswered mine replies) ended.later false after first t
+      (steps : HasStepped (answered mine replies) brought (unanswered mine replies) ended.later false after first t) → steps.begun ≡ begun
+      → (unanswered mine replies ≡ [] → heap_view asked ≡ heap_view steps.asked)
       → ((keys : List ℕ) → ListsKeysOf image keys → t.small_calls ≤ asked.small_calls + length came * (512 + 4 * (length keys + puts_among mine + length came)))
       → t.large_calls ≤ asked.large_calls + length came + 1
       → (after ≡ true) ↔ (t.view.stopped ≢ None) → (after ≡ false → HasEmptyCaches t) → (after ≡ false → ReachesAllHeld (heap_view t))
       → IsPart image workers requests worker tables replies came brought false after first t
-  part_of came brought after ended steps small large stops emptied exact = record {
+  part_of came brought after ended steps same alike small large stops emptied exact = record {
     roots_own = roots_on shared workers worker first is_first t from_first;
     unused = is_first.unused;
     goes_on = from_first;
     ended = ended;
+    steps = steps;
     few = λ keys lists. part_few (length came) keys lists (small keys lists) large;
+    arrivals_few = λ none keys lists.
+        let seen = alike none in
+        record {
+          small = let few = small keys lists in let same = ap (λ (v : HeapView). v.small_calls) seen in omega (arith, few, same);
+          large = let same = ap (λ (v : HeapView). v.large_calls) seen in omega (arith, large, same);
+        };
     full = part_full;
     lacks = λ going. part_lacks;
+    told = λ going shard small target.
+        subst (λ (x : CacheState). TellsTable heap_view GoesOn TurnsAway shard (tables shard) first x) (sym same) (made.told refl shard small target);
+    going = λ going. subst (λ (x : CacheState). x.view.stopped ≡ None) (sym same)
+        (begun_going shared workers worker (is_target_of workers worker requests) tables false refl first begun is_first made);
     by_tables = part.by_tables;
     taken = part_taken;
-    steps = steps;
     stops = stops;
     emptied = λ going. emptied;
     exact = exact;

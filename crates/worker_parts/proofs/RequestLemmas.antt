@@ -1,5 +1,5 @@
 -- What requests do from one state, they do from another that is seen alike and that goes on to it.
-use Rattle.std.proofs.Common.{◌≡◌, ◌+◌, List, [], ◌∷◌, refl, subst, sym}
+use Rattle.std.proofs.Common.{◌≡◌, ◌+◌, List, [], ◌∷◌, refl, subst, sym, ap, ◌∙◌}
 use Rattle.heap_seat.specs.View.{View as HeapView}
 use Rattle.heap_seat.specs.Calls.{SameRefusals}
 use Rattle.heap_seat.specs.Tickets.{Runs}
@@ -30,8 +30,8 @@ module _ (u s : CacheState) (same : heap_view s ≡ heap_view u) (goes : GoesOn 
     granted = λ not_full. subst (λ (v : HeapView). SameRefusals v (heap_view t)) same (takes.granted not_full);
   }
 
-  -- the requests that follow may be told from it
+  -- the requests that follow may be told from it, to a state that is seen as theirs
   pub all_before : (rs : List (Request × Reply)) (t : CacheState) → TakesRequests heap_view GoesOn TurnsAway rs s t
-      → (x : CacheState) × TakesRequests heap_view GoesOn TurnsAway rs u x × GoesOn x t
-  all_before [] t none = (u, refl, subst (GoesOn u) (sym none) goes)
-  all_before (r ∷ rs) t all = (t, (all.0, takes_before r.0 r.1 all.0 all.1, all.2), goes_none t)
+      → (x : CacheState) × TakesRequests heap_view GoesOn TurnsAway rs u x × GoesOn x t × (heap_view t ≡ heap_view x)
+  all_before [] t none = (u, refl, subst (GoesOn u) (sym none) goes, ap heap_view none ∙ same)
+  all_before (r ∷ rs) t all = (t, (all.0, takes_before r.0 r.1 all.0 all.1, all.2), goes_none t, refl)

@@ -1,5 +1,5 @@
 -- The part of a worker that was stopped in a request, of one that was halted, and of one that brings in what came.
-use Rattle.std.proofs.Common.{◌≡◌, ℕ, ◌+◌, ◌*◌, ◌≤◌, Bool, true, false, List, [], length, Some, Contains, refl, subst, sym, arith}
+use Rattle.std.proofs.Common.{◌≡◌, ℕ, ◌+◌, ◌*◌, ◌≤◌, Bool, true, false, List, [], length, Some, Contains, refl, subst, sym, ap, arith}
 use Rattle.heap_model.proofs.MemberLemmas.{in_none}
 use Rattle.heap_seat.specs.Looks.{KnowsNoLess}
 use Rattle.heap_seat.specs.Rows.{IsRow}
@@ -35,9 +35,9 @@ pub left_part : (shared : SharedView) (requests : List Request) (workers worker 
 left_part shared requests workers worker tables replies first begun t is_first made part seat came table view =
     let same : KnowsNoLess (heap_view t) (heap_view t) = omega arith in
     let all : t.view.taken ≤ t.view.taken = omega arith in
-    let ends = stop_ends (image_of shared) (worker_requests workers worker requests) replies came first begun t made.goes_on (part.halted refl) part.steps in
+    let ends = stop_ends (image_of shared) (worker_requests workers worker requests) replies came first begun t made.goes_on (part.in_one refl) part.steps in
     part_of_seat shared requests workers worker tables replies true first begun t t is_first made part (goes_none t) same all seat came [] true table view
-    (part_of shared requests workers worker tables replies true first begun t t is_first made part (goes_none t) same all came [] true ends.0 ends.1 (λ keys lists. omega arith) (omega arith) part.stops
+    (part_of shared requests workers worker tables replies true first begun t t is_first made part (goes_none t) same all came [] true ends.0 ends.1 ends.2 ends.3 (λ keys lists. omega arith) (omega arith) part.stops
     (λ going. let both : true ≡ false = going in absurd (cc)) (λ going. let both : true ≡ false = going in absurd (cc)))
 
 -- a worker that was halted before its first request, and ends so
@@ -58,15 +58,21 @@ halted_part shared requests workers worker made tables stopped first t is_first 
         unused = is_first.unused;
         goes_on = begun.goes_on;
         ended = ends.0;
+        steps = ends.1;
         few = λ keys lists. record {
           small = let a = begun.calls.small_few in let none = is_first.unused.small in omega (arith, a, none);
           large = let a = begun.calls.large_few in let none = is_first.unused.large in omega (arith, a, none);
         };
+        arrivals_few = λ none keys lists. record {
+          small = let same = ap (λ (x : CacheState). x.small_calls) ends.2 in omega (arith, same);
+          large = let same = ap (λ (x : CacheState). x.large_calls) ends.2 in omega (arith, same);
+        };
         full = subst (λ rs. AreFullRightly heap_view GoesOn (worker_tables workers worker requests) rs first t) (sym (answered_none mine)) (refused_none heap_view GoesOn (worker_tables workers worker requests) first t);
         lacks = λ halted. let both : true ≡ false = halted in absurd (cc);
+        told = λ halted. let both : true ≡ false = halted in absurd (cc);
+        going = λ halted. let both : true ≡ false = halted in absurd (cc);
         by_tables = λ request reply among. absurd (in_none (request, reply) (subst (λ rs. Contains rs (request, reply)) (answered_none mine) among));
         taken = record { taken = let a = begun.most in let wanted = tables_wanted workers worker requests (heap_view first) in omega (arith, a, wanted) };
-        steps = ends.1;
         stops = begun.stops;
         emptied = λ halted. let both : true ≡ false = halted in absurd (cc);
         exact = begun.exact;
@@ -78,7 +84,7 @@ module _ (shared : SharedView) (requests : List Request) (workers worker : ℕ) 
     (is_first : IsFirst shared workers worker first)
     (made : IsBegun (image_of shared) (is_target_of workers worker requests) tables false first begun)
     (part : HasAsked (image_of shared) (worker_requests workers worker requests) tables replies false begun asked)
-    (came : List Sent) (before after : Bool) (brings : BringsIn came before asked arrived)
+    (came left : List Sent) (before after : Bool) (brings : BringsIn came left before asked arrived)
     (cause : before ≡ true → (ticket : ℕ) × (arrived.view.stopped ≡ Some ticket)) (settled : HasSettled before after arrived t) (goes : GoesOn asked arrived)
     (have : HaveTables came (heap_view asked))
     (calls : (keys : List ℕ) → ListAllKeys came (heap_view asked) keys → IsRow (length came * (512 + 4 * length keys)) (length came) 0 (heap_view asked) (heap_view arrived))
@@ -115,7 +121,7 @@ module _ (shared : SharedView) (requests : List Request) (workers worker : ℕ) 
   arrived_part seat table view =
       let mine = worker_requests workers worker requests in
       let on = goes_then asked arrived t goes costs.goes_on in
-      let ends = arrival_ends (image_of shared) mine replies came first begun asked arrived t before after made.goes_on (part.worked refl) part.steps brings settled in
+      let ends = arrival_ends (image_of shared) mine replies came first begun asked arrived t before after made.goes_on (part.worked refl) part.steps left brings settled in
       part_of_seat shared requests workers worker tables replies false first begun asked t is_first made part on knows few_taken seat came brings.brought after table view
-      (part_of shared requests workers worker tables replies false first begun asked t is_first made part on knows few_taken came brings.brought after ends.0 ends.1 small large
+      (part_of shared requests workers worker tables replies false first begun asked t is_first made part on knows few_taken came brings.brought after ends.0 ends.1 ends.2 (λ none. ends.3) small large
       (ends_stopped before after arrived t settled cause) (ends_emptied before after arrived t settled) (ends_exact before after arrived t settled (λ ran. exact ran (part.exact refl))))

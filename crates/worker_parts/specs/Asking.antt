@@ -19,7 +19,7 @@ use Rattle.worker_parts.specs.Going.{GoesOn, TurnsAway}
 pub record HasAskedOf {S : Type 0} (view : S → View) (goes : S → S → Type 0) (has_none : S → S → ℕ → Looks → Type 0) (image : Image) (mine : List Request)
     (tables : ℕ → Bool) (replies : Replies) (stopped : Bool) (s t : S) : Type 0 where
   pub worked : stopped ≡ false → HasWorked image mine [] replies (view t)
-  pub halted : stopped ≡ true → HasStopped image mine replies (view t)
+  pub in_one : stopped ≡ true → HasStopped image mine replies (view t)
   pub full : AreFullRightly view goes (tables_missing (put_into mine) (view s)) (answered mine replies) s t
   pub taken : HasTakenFew (tables_missing (put_into mine) (view s)) (answered mine replies) (unanswered mine replies) (view s) (view t)
   pub few : (keys : List ℕ) → ListsKeysOf image keys

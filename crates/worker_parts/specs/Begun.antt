@@ -26,8 +26,8 @@ pub record IsOpenedFor (opening : Opening) (workers worker : ℕ) (v : View) : T
   pub roots_own : (root : ℕ) → root < roots → Contains v.roots root ↔ (root_owner workers root ≡ worker)
   pub opened : (s : CacheState) → s.view ≡ v → IsOpenedOver (slice_index v.setup.opened) (heap_view s)
 
--- From the one state to the other tables were made for the wanted shards, as far as there was room, and it is told of each whether it has one. The maps are as before,
--- wherever that ended.
+-- From the one state to the other tables were made for the wanted shards, as far as there was room, and it is told of each whether it has one, unless it was stopped in
+-- that. The maps are as before, wherever that ended.
 pub record IsBegun (image : Image) (wanted tables : ℕ → Bool) (stopped : Bool) (s t : CacheState) : Type 0 where
   pub answered : HasAnswered image [] (heap_view t)
   pub told : stopped ≡ false → (shard : ℕ) → shard < shards → wanted shard ≡ true → TellsTable heap_view GoesOn TurnsAway shard (tables shard) s t

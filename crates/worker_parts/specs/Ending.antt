@@ -7,18 +7,19 @@ use Rattle.dict_model.specs.Requests.{Request, put, Reply}
 use Rattle.run_model.specs.Progress.{MayAnswer, HasAnswered}
 use Rattle.run_model.specs.Sending.{Sent, puts_of}
 use Rattle.run_model.specs.Workers.{Replies}
-use Rattle.run_model.specs.Working.{TakesRequests}
+use Rattle.run_model.specs.Working.{IsUnderWay, TakesRequests}
 use Rattle.seat_view.specs.CacheState.{CacheState, heap_view}
+use Rattle.shard_moves.specs.Arriving.{MayArrive}
 use Rattle.worker_parts.specs.Going.{GoesOn, TurnsAway, HasSettled}
 
 -- where it was when its work ended: at rest behind all of it; not begun, since a worker was stopped before the first request; or stopped in the first
 -- request that is left, or in the first value that is left to be brought in
 pub data EndsIn (left : List Request) (brought later : List Sent) (halted stopped : Bool) (v w : View) : Type 0 where
-  at_rest : left ≡ [] → later ≡ [] → w ≡ v → EndsIn left brought later halted stopped v w
+  at_rest : halted ≡ false → left ≡ [] → later ≡ [] → w ≡ v → EndsIn left brought later halted stopped v w
   not_begun : halted ≡ true → brought ≡ [] → w ≡ v → EndsIn left brought later halted stopped v w
-  in_request : stopped ≡ true → brought ≡ [] → (request : Request) (others : List Request) → left ≡ request ∷ others → MayAnswer request v w
+  in_request : halted ≡ false → stopped ≡ true → brought ≡ [] → (request : Request) (others : List Request) → left ≡ request ∷ others → MayAnswer request v w
       → EndsIn left brought later halted stopped v w
-  in_arrival : stopped ≡ true → left ≡ [] → (next : Sent) (others : List Sent) → later ≡ next ∷ others → MayAnswer (put next.key next.value) v w
+  in_arrival : halted ≡ false → stopped ≡ true → left ≡ [] → (next : Sent) (others : List Sent) → later ≡ next ∷ others → MayAnswer (put next.key next.value) v w
       → EndsIn left brought later halted stopped v w
 
 -- These requests have these replies, none where it is not begun; and of what came the first values are brought in, as puts that are done. Then it ended.
@@ -35,16 +36,28 @@ pub record HasEnded (image : Image) (requests : List Request) (replies : Replies
   pub unbegun : halted ≡ true → rs ≡ []
   pub ends : EndsIn left brought later halted stopped before v
 
--- behind the last of these it was stopped in the next, or its caches were to be emptied; one that was halted is left as it was
+-- what was done of the values that are left to be brought in: nothing where none is left, and else a part of the first one, by few calls
+abbrev pub IsArriving : List Sent → View → View → Type 0
+IsArriving [] v w = w ≡ v
+IsArriving (s ∷ later) v w = MayArrive s v w
+
+-- what was done behind the last answer or value: a part of the first request that is left, and where none is left, of the first value that is
+abbrev pub IsBehind : List Request → List Sent → View → View → Type 0
+IsBehind [] later v w = IsArriving later v w
+IsBehind (request ∷ others) later v w = IsUnderWay (request ∷ others) v w
+
+-- Behind the last answer or value it was stopped in the next one, or nothing was left and its caches were to be emptied. One that was halted is left as it is.
 pub record SettlesBehind (left : List Request) (later : List Sent) (halted after : Bool) (s t : CacheState) : Type 0 where
   pub worked : CacheState
   pub goes_on : GoesOn s worked
+  pub under_way : halted ≡ false → IsBehind left later (heap_view s) (heap_view worked)
   pub before : Bool
   pub all : halted ≡ false → before ≡ false → (left ≡ []) × (later ≡ [])
   pub settled : halted ≡ false → HasSettled before after worked t
-  pub left_as_is : halted ≡ true → t ≡ worked
+  pub left_as_is : halted ≡ true → (worked ≡ s) × (t ≡ worked)
 
--- the seat's steps from the first state to the last: tables, requests one by one, values one by one, and emptied caches
+-- The seat's states from the first one to the last: once its tables are made, once its requests are answered, one by one, once the first values are brought in, each as a put
+-- that is done, and at the end.
 pub record HasStepped (rs : List (Request × Reply)) (brought : List Sent) (left : List Request) (later : List Sent) (halted stopped : Bool) (s t : CacheState) : Type 0 where
   pub begun : CacheState
   pub asked : CacheState

@@ -1,9 +1,10 @@
 -- What a worker of a run begins with, how it goes on, and what it ends with.
-use Rattle.std.specs.Prelude.{◌≡◌, ℕ, ◌<◌, ◌≤◌, Bool, false, List, [], length, slice_index}
+use Rattle.std.specs.Prelude.{◌≡◌, ◌⊎◌, ℕ, ◌<◌, ◌≤◌, Bool, true, false, List, [], ◌∷◌, length, slice_index}
 use Rattle.std.specs.Vec.{vec_capacity}
 use Rattle.heap_table.specs.AtTable.{SharedView}
 use Rattle.heap_table.specs.Rule.{setup_for}
 use Rattle.heap_rule.specs.Seated.{IsSeatOf, SeatView}
+use Rattle.dict_model.specs.Nodes.{shard_of}
 use Rattle.dict_model.specs.Requests.{Request}
 use Rattle.seat_view.specs.CacheState.{CacheState}
 use Rattle.run_model.specs.Needs.{is_target_of}
@@ -42,7 +43,7 @@ pub record IsFirst (shared : SharedView) (workers worker : ℕ) (s : CacheState)
 abbrev pub image_of : SharedView → ℕ → ℕ
 image_of shared = slice_index (setup_for shared.opening).opened
 
--- the worker's tables are made; there is room for each of its requests, and it has no reply yet
+-- The worker's tables are made; where it was stopped in that, nothing is told of them. There is room for each of its requests, and it has no reply yet.
 pub record IsBegunOf {C : Type 0} (shared : SharedView) (requests : List Request) (begun : Begun C) : Type 0 where
   pub first : CacheState
   pub is_first : IsFirst shared begun.worker.workers begun.worker.number first
@@ -59,6 +60,15 @@ pub record IsAskedOf {C : Type 0} (shared : SharedView) (requests : List Request
   pub made : IsBegun (image_of shared) (is_target_of asked.worker.workers asked.worker.number requests) tables false first begun
   pub part : HasAsked (image_of shared) (worker_requests asked.worker.workers asked.worker.number requests) tables (replies_of asked.replies.items) asked.stopped
       begun asked.seat.state
+
+-- the key's shard is one of the worker's that values are moved to, and is told to have a table
+pub record HasTableFor (tables : ℕ → Bool) (requests : List Request) (workers worker key : ℕ) : Type 0 where
+  pub table : tables (shard_of key) ≡ true
+  pub target : is_target_of workers worker requests (shard_of key) ≡ true
+
+-- of the values that were left to be brought in these are left now: all of them, or all but the first one, which has come and is not brought in
+abbrev pub AreLeftOf : List Sent → List Sent → Type 0
+AreLeftOf later left = (left ≡ later) ⊎ ((next : Sent) × (later ≡ next ∷ left))
 
 -- the seat of a worker did its part of the run: it has these replies, this came for it and the first values of it are brought in, and it was stopped or not
 pub record IsPartOf (shared : SharedView) (requests : List Request) (workers worker : ℕ) (tables : ℕ → Bool) (seat : SeatView) (replies : Replies)

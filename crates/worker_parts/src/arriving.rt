@@ -1,14 +1,13 @@
 //! What came for a worker is brought in, and its caches are emptied.
 
-ghost use Rattle.std.specs.Prelude.{◌≡◌, ℕ, Bool, true, false, List, []};
+ghost use Rattle.std.specs.Prelude.{◌≡◌, ◌++◌, ℕ, All, Bool, true, false, List, []};
 ghost use Rattle.run_model.specs.Sending.{Sent};
-ghost use Rattle.seat_view.specs.CacheState.{CacheValue, heap_view};
-ghost use Rattle.shard_moves.specs.Arriving.{HaveTables};
+ghost use Rattle.seat_view.specs.CacheState.{CacheValue};
 ghost use Rattle.shard_moves.specs.Tables.{is_flagged};
 ghost use Rattle.thread_cache.specs.Keeps.{KeepsSeat};
 ghost use Rattle.worker_run.specs.Said.{requests_of};
 ghost use Rattle.worker_parts.specs.Going.{GoesOn, HasSettled};
-ghost use Rattle.worker_parts.specs.Jobs.{IsAskedOf, IsBegunOf, IsWorkedOf};
+ghost use Rattle.worker_parts.specs.Jobs.{AreLeftOf, HasTableFor, IsAskedOf, IsBegunOf, IsWorkedOf};
 
 use crate::asking::Asked;
 use crate::beginning::Begun;
@@ -41,7 +40,7 @@ fn empty_caches<C: Chance>(seat: &mut CacheSeat<'_, C>, stopped: bool) -> bool
 pub fn arrive<'a, C: Chance, I: Inbox<CacheSeat<'a, C>>>(
     asked: Asked<'a, C>,
     inbox: &mut I,
-    _shared: &'a Shared,
+    _shared: &Shared,
     _requests: &[Request],
     _tables: &[bool; 8],
 ) -> Worked
@@ -49,10 +48,12 @@ pub fn arrive<'a, C: Chance, I: Inbox<CacheSeat<'a, C>>>(
     requires going { asked.stopped ≡ false }
     requires goes { (s t : CacheValue C) → I.goes s t → GoesOn s.state t.state }
     requires ready { I.ready inbox.old asked.seat }
-    requires tables { HaveTables (I.left inbox.old) (heap_view asked.seat.state) }
+    requires tables { All (λ s. HasTableFor (is_flagged _tables.now) (requests_of _requests.now)
+        asked.worker.workers asked.worker.number s.key) (I.left inbox.old) }
     ensures worker { result.worker ≡ asked.entry.worker }
     ensures replies { result.replies ≡ asked.entry.replies }
-    ensures worked { (brought : List Sent) × IsWorkedOf _shared.now (requests_of _requests.now)
+    ensures worked { (brought later : List Sent) × (I.left inbox.old ≡ brought ++ later)
+        × AreLeftOf later (I.left inbox.new) × IsWorkedOf _shared.now (requests_of _requests.now)
         (is_flagged _tables.now) (I.left inbox.old) brought false result }
     ensures empty { result.stopped ≡ false → I.left inbox.new ≡ [] }
     ensures ends { (s t : CacheValue C) × I.goes asked.entry.seat s × I.ready inbox.new s

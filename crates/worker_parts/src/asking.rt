@@ -47,7 +47,7 @@ pub struct Asked<'a, C> {
 /// where `tables`, of the shards of all workers, tells that the other key's shard has a table.
 pub fn ask<'a, C: Chance, G: Gate, O: Outbox<CacheSeat<'a, C>>>(
     begun: Begun<'a, C>,
-    _shared: &'a Shared,
+    _shared: &Shared,
     requests: &[Request],
     tables: &[bool; 8],
     outbox: &mut O,

@@ -29,7 +29,7 @@ pub struct Job<C> {
 }
 
 /// A worker whose tables are made, with each shard of its own that was to have one: whether it has.
-/// It was stopped or not.
+/// Where it was stopped in that, nothing is told of them.
 #[derive(Drop)]
 pub struct Begun<'a, C> {
     pub worker: Worker,

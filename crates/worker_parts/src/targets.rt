@@ -3,7 +3,7 @@
 ghost use Rattle.std.specs.Prelude.{◌≡◌, ◌<◌, ◌≤◌, ℕ, List};
 ghost use Rattle.dict_model.specs.Links.{shards};
 ghost use Rattle.run_model.specs.Needs.{is_moved_to, is_target_of};
-ghost use Rattle.dict_model.specs.Requests.{Request as Asked};
+ghost use Rattle.dict_model.specs.Requests.{Request as RequestView};
 ghost use Rattle.shard_moves.specs.Tables.{is_flagged};
 ghost use Rattle.worker_run.specs.Said.{requests_of};
 
@@ -28,7 +28,7 @@ pub fn targets_of_moves(requests: &[Request]) -> [bool; 8]
 /// Those of them that are the worker's.
 pub(crate) fn own_targets(worker: Worker, targets: &[bool; 8]) -> [bool; 8]
     requires { 1 ≤ worker.workers }
-    ensures { (requests : List Asked)
+    ensures { (requests : List RequestView)
         → ((shard : ℕ) → shard < shards → is_flagged targets.now shard ≡ is_moved_to requests shard)
         → (shard : ℕ) → shard < shards
         → is_flagged result shard ≡ is_target_of worker.workers worker.number requests shard }
