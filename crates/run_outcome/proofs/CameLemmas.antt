@@ -185,7 +185,7 @@ module _ (image : Image) (requests : List Request) (told : Replies) (came brough
   pub have_come : (n : ℕ) × Come n
   have_come = by_end ended.ends where
     by_end : EndsIn ended.left brought ended.later halted stops ended.before v → (n : ℕ) × Come n
-    by_end (at_rest none_left none_later same) = (
+    by_end (at_rest begun none_left none_later same) = (
       length brought,
       record {
         every = λ going. sym (ap length (ended.came_are ∙ ap (λ xs. brought ++ xs) none_later ∙ append-nil brought));
@@ -197,8 +197,8 @@ module _ (image : Image) (requests : List Request) (told : Replies) (came brough
       length brought,
       record { every = λ going. not_both stopped (halts halt) going; none = λ some. ap length none; each = first_come (as_before same) },
     )
-    by_end (in_request stop none request others is may) = (
+    by_end (in_request begun stop none request others is may) = (
       length brought,
       record { every = λ going. not_both stopped (so stop) going; none = λ some. ap length none; each = first_come (in_first request may others is (so stop)) },
     )
-    by_end (in_arrival stop none_left next others is may) = have_come_by next others is none_left (so stop) may
+    by_end (in_arrival begun stop none_left next others is may) = have_come_by next others is none_left (so stop) may

@@ -5,6 +5,7 @@ pub mod CostLemmas
 pub mod CountLemmas
 pub mod FullLemmas
 pub mod HeaderLemmas
+pub mod HeldLemmas
 pub mod LeftLemmas
 pub mod MapLeftLemmas
 pub mod MoveLemmas

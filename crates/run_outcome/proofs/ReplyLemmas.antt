@@ -79,10 +79,10 @@ module _ (image : Image) (requests : List Request) (told final : Replies) (final
   pub owned_before : (root : ℕ) → Contains v.roots root → Contains ended.before.roots root
   owned_before root owned = by_end ended.ends where
     by_end : EndsIn ended.left brought ended.later halted stopped ended.before v → Contains ended.before.roots root
-    by_end (at_rest none_left none_later same) = subst (λ (w : View). Contains w.roots root) same owned
+    by_end (at_rest begun none_left none_later same) = subst (λ (w : View). Contains w.roots root) same owned
     by_end (not_begun halt none same) = subst (λ (w : View). Contains w.roots root) same owned
-    by_end (in_request stop none request others is may) = subst (λ (roots : List ℕ). Contains roots root) may.others.roots owned
-    by_end (in_arrival stop none_left next others is may) = subst (λ (roots : List ℕ). Contains roots root) may.others.roots owned
+    by_end (in_request begun stop none request others is may) = subst (λ (roots : List ℕ). Contains roots root) may.others.roots owned
+    by_end (in_arrival begun stop none_left next others is may) = subst (λ (roots : List ℕ). Contains roots root) may.others.roots owned
 
   -- the replies to a shard that the seat owns are right for its map
   ended_replies : (shard : ℕ) (m : Map) → shard < shards → Contains v.roots shard → MapOf image shard m → AreReplies m (of_shard shard (answered requests final))

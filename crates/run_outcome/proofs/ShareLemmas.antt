@@ -29,10 +29,10 @@ use Rattle.run_model.proofs.GoesOnLemmas.{stands_on}
 
 -- however a worker's part has ended, what belongs to no shard stands in its seat
 ends_stands : (image : Image) (left : List Request) (brought later : List Sent) (halted stopped : Bool) (v w : HeapView) → StandsOver image v → EndsIn left brought later halted stopped v w → StandsOver image w
-ends_stands image left brought later halted stopped v w stands (at_rest none none_later same) = subst (StandsOver image) (sym same) stands
+ends_stands image left brought later halted stopped v w stands (at_rest begun none none_later same) = subst (StandsOver image) (sym same) stands
 ends_stands image left brought later halted stopped v w stands (not_begun was none same) = subst (StandsOver image) (sym same) stands
-ends_stands image left brought later halted stopped v w stands (in_request stop none request others first may) = stands_on image v w request stands may
-ends_stands image left brought later halted stopped v w stands (in_arrival stop none next others first may) = stands_on image v w (put next.key next.value) stands may
+ends_stands image left brought later halted stopped v w stands (in_request begun stop none request others first may) = stands_on image v w request stands may
+ends_stands image left brought later halted stopped v w stands (in_arrival begun stop none next others first may) = stands_on image v w (put next.key next.value) stands may
 
 ended_stands : (image : Image) (requests : List Request) (replies : Replies) (came brought : List Sent) (halted stopped : Bool) (v : HeapView)
     → HasEnded image requests replies came brought halted stopped v → StandsOver image v

@@ -24,10 +24,10 @@ none_left (r ∷ rs) = none_left rs
 
 nothing_left : (left : List Request) (brought later : List Sent) (halted stops : Bool) (v w : HeapView) → (halted ≡ true → ⊥) → (stops ≡ true → ⊥)
     → EndsIn left brought later halted stops v w → left ≡ []
-nothing_left left brought later halted stops v w begun goes (at_rest none all same) = none
+nothing_left left brought later halted stops v w begun goes (at_rest starts none all same) = none
 nothing_left left brought later halted stops v w begun goes (not_begun is none same) = absurd (begun is)
-nothing_left left brought later halted stops v w begun goes (in_request is none request others more may) = absurd (goes is)
-nothing_left left brought later halted stops v w begun goes (in_arrival is none next others more may) = absurd (goes is)
+nothing_left left brought later halted stops v w begun goes (in_request begins is none request others more may) = absurd (goes is)
+nothing_left left brought later halted stops v w begun goes (in_arrival begins is none next others more may) = absurd (goes is)
 
 all_by_end : (image : Image) (requests : List Request) (told : Replies) (came brought : List Sent) (halted stops : Bool) (v : HeapView) → (halted ≡ true → ⊥) → (stops ≡ true → ⊥)
     → HasEnded image requests told came brought halted stops v → unanswered requests told ≡ []

@@ -1,2 +1,4 @@
 pub mod Closed
+pub mod Examples
+pub mod Held
 pub mod Together

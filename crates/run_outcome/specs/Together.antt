@@ -1,5 +1,5 @@
 -- The parts of all workers of a run over one heap, and what is left of it.
-use Rattle.std.specs.Prelude.{◌≡◌, ℕ, ◌-◌, ◌<◌, ◌≤◌, ◌↔◌, ◌++◌, Bool, true, false, List, [], length, replicate, get_or, slice_index, None, Contains}
+use Rattle.std.specs.Prelude.{◌≡◌, ℕ, ◌+◌, ◌-◌, ◌<◌, ◌≤◌, ◌↔◌, ◌++◌, Bool, true, false, List, [], length, sum_by, replicate, get_or, slice_index, None, Contains}
 use Rattle.heap_model.specs.declared.block.Block.{Block}
 use Rattle.heap_model.specs.Durability.{IsClosedImage, IsCrashImage}
 use Rattle.heap_model.specs.Rest.{IsReady}
@@ -14,8 +14,8 @@ use Rattle.heap_table.specs.Rule.{Opening, opening_of}
 use Rattle.seat_view.specs.CacheState.{CacheState}
 use Rattle.run_model.specs.Arrivals.{IsWholeMap}
 use Rattle.run_model.specs.Opened.{IsDictionary}
-use Rattle.run_model.specs.Sending.{Sent, coming}
-use Rattle.run_model.specs.Workers.{Replies, worker_requests, worker_replies}
+use Rattle.run_model.specs.Sending.{Sent, all_sent, coming, worker_numbered}
+use Rattle.run_model.specs.Workers.{Replies, worker_numbers, worker_requests, worker_replies}
 use Rattle.seat_owners.specs.Owning.{AreOwnersByRoot}
 use Rattle.worker_parts.specs.Begun.{IsOpenedFor}
 use Rattle.worker_parts.specs.Parts.{IsPart}
@@ -54,6 +54,14 @@ pub record HaveWorked (words : List ℕ) (held : List Block) (workers budget : �
   pub tables : ℕ → Bool
   pub came : ℕ → List Sent
   pub brought : ℕ → List Sent
+  -- These are counts, and say of no block which value it is. Each seat has offered as many blocks as its moves sent; it has accepted as many as values are brought in, or
+  -- one more. Of all workers together as many carriers are left as values came beside those that were accepted; a carrier belongs to no worker here.
+  pub offered : (whole : Map) → IsWholeMap (slice_index words) whole → (worker : ℕ) → worker < workers
+      → (last worker).view.offers ≡ length (all_sent whole (worker_numbered workers worker requests) (told worker))
+  pub accepted : (worker : ℕ) → worker < workers → (length (brought worker) ≤ (last worker).view.accepts) × ((last worker).view.accepts ≤ length (brought worker) + 1)
+  pub remaining : ℕ → ℕ
+  pub remain : (worker : ℕ) → worker < workers → (last worker).view.accepts + remaining worker ≡ length (came worker)
+  pub carriers_are : length carriers ≡ sum_by remaining (worker_numbers workers)
   pub halted : Bool
   pub halts : halted ≡ true → stopped ≡ true
   pub long : length replies ≡ length requests

@@ -8,7 +8,8 @@ ghost use Rattle.run_model.specs.Workers.{Replies};
 ghost use Rattle.run_outcome.specs.Together.{HaveWorked};
 
 /// Each worker has answered its first requests; the replies to a shard are right for its map; and
-/// each shard is left as its answered requests and what arrived of moves make it.
+/// each shard is left as its answered requests and what arrived of moves make it. In a stopped run
+/// the request that was under way may be done too.
 pub fn what_the_workers_answered()
     ensures order { (words : List ℕ) (held : List Block) (workers budget : ℕ)
         (requests : List Request) (replies : Replies) (stopped : Bool) (now kept left : List ℕ)

@@ -8,7 +8,8 @@ ghost use Rattle.run_model.specs.Workers.{Replies};
 ghost use Rattle.run_outcome.specs.Together.{HaveWorked};
 
 /// A run is stopped only where its budget is below the bound; a put or a move is told that there is
-/// no room only where there was none; and no superblock is lost.
+/// no room only where too few superblocks were left, with those that other requests and the tables
+/// may take; and no superblock is lost.
 pub fn what_the_workers_spent()
     ensures stops { (words : List ℕ) (held : List Block) (workers budget : ℕ)
         (requests : List Request) (replies : Replies) (stopped : Bool) (now kept left : List ℕ)
