@@ -1,0 +1,4 @@
+pub mod Ended
+pub mod Posts
+pub mod Rows
+pub mod Turns
