@@ -1,7 +1,7 @@
 -- Jobs that are given their chances in turn, and the workers to whom chances are dealt by that.
 use Rattle.std.proofs.Common.{◌≡◌, ℕ, suc, ◌+◌, ◌<◌, List, [], ◌∷◌, ◌++◌, get_or, length, refl, subst, sym, ◌∙◌, arith}
-use Rattle.shared_run.specs.declared.job.Job.{Job}
-use Rattle.shared_run.specs.Dealing.{AreInTurn}
+use Rattle.worker_parts.specs.declared.beginning.Job.{Job}
+use Rattle.run_rows.specs.Turns.{AreInTurn}
 use Rattle.shared_run.specs.Dealt.{AreGiven, AreDealt}
 
 module _ {C One : Type 0} (chance_gives : C → ℕ → One → C → Type 0) where

@@ -2,7 +2,7 @@
 use Rattle.std.specs.Prelude.{◌≡◌, ℕ, zero, suc, Bool, true, false, List, [], ◌∷◌, map}
 use Rattle.heap_model.specs.Image.{Image}
 use Rattle.crash_image.specs.Crash.{GivesAll, transient_words}
-use Rattle.shared_run.specs.declared.job.Job.{Job}
+use Rattle.worker_parts.specs.declared.beginning.Job.{Job}
 
 -- job by job the chances were asked for the chance of its worker, by that one's number, and it is the job's
 abbrev pub AreGiven : {C One : Type 0} → (C → ℕ → One → C → Type 0) → C → List (Job One) → C → Type 0

@@ -1,11 +1,7 @@
-pub mod Closed
 pub mod Dealing
 pub mod Dealt
 pub mod DealtExamples
 pub mod Following
 pub mod FollowingExamples
-pub mod Jobs
-pub mod Parts
+pub mod Gathering
 pub mod Scrambled
-pub mod Settling
-pub mod Together

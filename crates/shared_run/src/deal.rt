@@ -9,17 +9,18 @@ ghost use Rattle.run_model.specs.Opened.{HasMaps};
 ghost use Rattle.worker_run.specs.Said.{requests_of};
 ghost use Rattle.worker_run.specs.Rooms.{AreLongest};
 ghost use Rattle.tool_ports.specs.Chances.{ComesFrom};
-ghost use Rattle.shared_run.specs.Jobs.{IsJobOf};
-ghost use Rattle.shared_run.specs.Dealing.{AreFresh, AreInTurn};
+ghost use Rattle.worker_parts.specs.Jobs.{IsJobOf};
+ghost use Rattle.run_rows.specs.Turns.{AreInTurn};
+ghost use Rattle.shared_run.specs.Dealing.{AreFresh};
 ghost use Rattle.shared_run.specs.Dealt.{AreGiven};
 
-use crate::job::Job;
 use heap_rule::{Seat, Shared};
 use region_header::Bytes;
 use std::alloc::{AllocError, Global};
 use std::collections::BTreeMap;
 use tool_ports::Chances;
 use trace_text::Request;
+use worker_parts::Job;
 use worker_run::{Worker, make_rooms};
 
 /// What a trace may read of a heap: the maps of its shards, and by key the longest value that the

@@ -1,31 +1,40 @@
-//! What the workers of a run did is put together: their seats, and their replies in the order of
-//! the trace.
+//! What the workers of a run ended with is put together: their seats, their replies in the order of
+//! the trace, and the carriers that are left.
 
-ghost use Rattle.std.specs.Prelude.{◌≡◌, ◌<◌, ◌≤◌, ℕ, All, IfOk, List, [], length, get_or};
+ghost use Rattle.std.specs.Prelude.{◌≡◌, ◌<◌, ◌≤◌, ℕ, All, IfOk, [], length, get_or};
 ghost use Rattle.std.specs.Vec.{vec_capacity};
-ghost use Rattle.heap_table.specs.AtTable.{IsClosedReached, IsClosedSound};
-ghost use Rattle.heap_table.specs.Rule.{setup_for};
-ghost use Rattle.heap_rule.specs.Carried.{AreAllOf};
-ghost use Rattle.heap_rule.specs.Seats.{views_of};
+ghost use Rattle.core_model.specs.Carriers.{IsCarrier};
 ghost use Rattle.run_model.specs.Workers.{worker_requests, worker_replies};
+ghost use Rattle.run_rows.specs.Ended.{HaveEnded};
 ghost use Rattle.worker_run.specs.Said.{requests_of, replies_of};
-ghost use Rattle.shared_run.specs.Jobs.{IsWorkedOf};
-ghost use Rattle.shared_run.specs.Dealing.{AreInTurn, AreParts, Queue, padded};
+ghost use Rattle.shared_run.specs.Dealing.{Queue, padded};
+ghost use Rattle.shared_run.specs.Gathering.{AreParts};
 
-use crate::job::Worked;
-use heap_rule::{Seat, Shared, close_shared};
-use line_memory::Closed;
+use heap_rule::{Carrier, Seat, Shared};
+use run_rows::Ended;
 use std::alloc::{AllocError, Global};
 use std::collections::VecDeque;
 use trace_text::{Reply, Request};
+use worker_parts::Worked;
 use worker_run::worker_of;
 
-/// The seats and the replies of the workers, in their order, and whether one was stopped.
+/// The seats and the replies of the workers, in their order, the carriers that are left, and whether
+/// a worker was stopped.
 #[derive(Drop)]
 pub(crate) struct Gathered {
     pub seats: Vec<Seat>,
     pub told: Vec<VecDeque<Reply>>,
+    pub carriers: Vec<Carrier>,
     pub stopped: bool,
+}
+
+/// Says of each of the carriers that it is one, and no seat.
+fn hold_blocks(carriers: &[Carrier])
+    ensures { All (λ c. IsCarrier c.view) carriers.now }
+{
+    for carrier in carriers {
+        carrier.holds_its_block();
+    }
 }
 
 /// Takes apart what the workers ended with, of whom the last one comes first.
@@ -33,44 +42,40 @@ pub(crate) fn gather(
     alloc: Global,
     _shared: &Shared,
     _requests: &[Request],
-    mut worked: Vec<Worked>,
+    mut ended: Vec<Ended>,
 ) -> Result<Gathered, AllocError>
-    requires worked { All (IsWorkedOf _shared.now (requests_of _requests.now)) worked.items }
-    requires turns { AreInTurn (λ one. one.worker) (length worked.items) worked.items }
+    requires ended { HaveEnded _shared.now (requests_of _requests.now) (length ended.items) ended.items }
     ensures parts { IfOk result (λ g. AreParts _shared.now (requests_of _requests.now)
-        (length worked.items) g.seats.items g.told.items g.stopped) }
-    ensures count { IfOk result (λ g. length g.seats.items ≡ length worked.items) }
+        (length ended.items) g.seats.items g.told.items g.carriers.items g.stopped) }
+    ensures carry { IfOk result (λ g. All (λ c. IsCarrier c.view) g.carriers.items) }
 {
-    let mut seats = Vec::with_capacity(alloc, worked.len())?;
-    let mut told = Vec::with_capacity(alloc, worked.len())?;
+    let mut seats = Vec::with_capacity(alloc, ended.len())?;
+    let mut told = Vec::with_capacity(alloc, ended.len())?;
+    let mut carriers = Vec::new(alloc);
     let mut stopped = false;
-    while let Some(one) = worked.pop() {
+    while let Some(one) = ended.pop() {
+        let Ended {
+            worked,
+            carriers: mut more,
+        } = one;
         let Worked {
             worker: _,
             seat,
             replies,
             stopped: was_stopped,
-        } = one;
+        } = worked;
         seats.push_reserved(seat);
         told.push_reserved(VecDeque::from_vec(replies));
+        carriers.append(&mut more)?;
         stopped = stopped || was_stopped;
     }
+    hold_blocks(&carriers);
     Ok(Gathered {
         seats,
         told,
+        carriers,
         stopped,
     })
-}
-
-/// Closes the heap, which has no carriers, since no worker offers a block.
-pub(crate) fn close(alloc: Global, shared: Shared, seats: Vec<Seat>) -> Result<Closed, AllocError>
-    requires { AreAllOf shared seats.items [] }
-    ensures sound { IfOk result (λ c. IsClosedSound (setup_for shared.opening) c.now c.kept
-        (views_of seats.items)) }
-    ensures reached { IfOk result (λ c. IsClosedReached shared.opening c.now c.kept
-        (views_of seats.items)) }
-{
-    close_shared(alloc, shared, seats, Vec::new(alloc))
 }
 
 /// The replies in the order of the trace: each request has the next one of its worker, as far as

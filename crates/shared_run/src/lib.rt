@@ -4,7 +4,6 @@
 mod deal;
 mod follow;
 mod gather;
-mod job;
 mod run;
 
 pub use run::{Outcome, run_trace};

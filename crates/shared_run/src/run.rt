@@ -7,38 +7,39 @@ ghost use Rattle.heap_model.specs.Rest.{IsReady};
 ghost use Rattle.dict_model.specs.Links.{shards};
 ghost use Rattle.seat_notes.specs.OwnerLists.{OwnerLists};
 ghost use Rattle.dictionary.specs.Reading.{AreMaps};
-ghost use Rattle.run_model.specs.Needs.{has_move};
 ghost use Rattle.run_model.specs.Opened.{IsDictionary};
 ghost use Rattle.run_model.specs.Runs.{AnswerInOrder, IsFullRightly, answered, LeavesHeader, LeavesMaps, LeavesOthers, LeavesState, LeavesUsed, RepliesRightly, StopsRightly};
 ghost use Rattle.worker_run.specs.Left.{AreWholeImage};
 ghost use Rattle.worker_run.specs.Said.{requests_of, replies_of, ValuesAreShort};
 ghost use Rattle.tool_ports.specs.Chances.{ComesFrom};
 ghost use Rattle.crash_image.specs.Crash.{GivesAll, transient_words};
-ghost use Rattle.shared_run.specs.Closed.{LeavesOrderly};
-ghost use Rattle.shared_run.specs.Dealing.{AreInTurn};
+ghost use Rattle.run_outcome.specs.Closed.{LeavesOrderly};
+ghost use Rattle.run_rows.specs.Turns.{AreInTurn};
 ghost use Rattle.shared_run.specs.Dealt.{AreGiven, HaveAsked};
 ghost use Rattle.shared_run.specs.Following.{AreAfterRun, FollowMapsOf};
-ghost use Rattle.shared_run.specs.Jobs.{IsJobOf, IsWorkedOf};
+ghost use Rattle.worker_parts.specs.Jobs.{IsJobOf};
 ghost use Rattle.shared_run.specs.Scrambled.{IsScrambled};
 ghost use Rattle.seat_owners.specs.Owning.{AreOwnersByRoot};
-ghost use Rattle.shared_run.specs.Together.{HaveWorked, IsLeftOf, opening_for};
+ghost use Rattle.run_outcome.specs.Together.{HaveWorked, IsLeftOf, opening_for};
 
 use crate::deal::{Reading, deal};
 use crate::follow::follow;
-use crate::gather::{Gathered, close, gather, put_in_order};
-use crate::job::{Job, Worked, work};
+use crate::gather::{Gathered, gather, put_in_order};
 use dictionary::MappedHeap;
-use heap_rule::{Shared, open_shared};
+use heap_rule::{Shared, close_shared, open_shared};
 use line_memory::{Chance, Closed};
 use region_header::Bytes;
+use run_outcome::{what_the_workers_answered, what_the_workers_left, what_the_workers_spent};
+use run_rows::run_rows;
 use seat_owners::owners_by_trace;
 use std::alloc::{AllocError, Global};
 use std::collections::BTreeMap;
-use std::thread;
+use std::sync::Wait;
 use std::thread::Threads;
 use super_block::Geometry;
 use tool_ports::{Chances, Gate};
 use trace_text::{Reply, Request};
+use worker_parts::Job;
 use worker_run::{closed_image, left_by_crash, longest_puts};
 
 /// What a run of a trace gives.
@@ -51,8 +52,8 @@ pub struct Outcome {
     /// The words of the image that is left: that of a close or, where a worker was stopped, of a
     /// crash.
     pub image: Vec<u64>,
-    /// The maps of that image's shards; none where a worker was stopped, since whether the request
-    /// under way changed its shard stands in the image alone.
+    /// The maps of that image's shards; none where a worker was stopped, since how far requests and
+    /// arrivals under way came stands in the image alone.
     pub maps: Option<Vec<BTreeMap<u64, Bytes>>>,
 }
 
@@ -156,40 +157,8 @@ fn maps_after(
     Ok(None)
 }
 
-/// Each worker does its work, in a thread of its own where one can be made.
-fn work_together<R: Threads + Sync, G: Gate + Sync, C: Chance + Send>(
-    rt: &R,
-    shared: &Shared,
-    jobs: Vec<Job<C>>,
-    requests: &[Request],
-    gate: &G,
-) -> Result<Vec<Worked>, AllocError>
-    requires jobs { All (IsJobOf shared.now (requests_of requests.now)) jobs.items }
-    requires turns { AreInTurn (λ job. job.worker) (length jobs.items) jobs.items }
-    requires short { ValuesAreShort (requests_of requests.now) }
-    requires unmoved { has_move (requests_of requests.now) ≡ false }
-    ensures worked { IfOk result (λ worked. All (IsWorkedOf shared.now (requests_of requests.now))
-        worked.items) }
-    ensures turns { IfOk result (λ worked. AreInTurn (λ one. one.worker) (length jobs.items)
-        worked.items) }
-    ensures count { IfOk result (λ worked. length worked.items ≡ length jobs.items) }
-{
-    let worked = thread::map_vec(
-        rt,
-        jobs,
-        &|job: Job<C>| -> Worked
-            requires job { IsJobOf shared.now (requests_of requests.now) job }
-            requires short { ValuesAreShort (requests_of requests.now) }
-            requires unmoved { has_move (requests_of requests.now) ≡ false }
-            ensures worker { result.worker ≡ job.worker }
-            ensures worked { IsWorkedOf shared.entry.now (requests_of requests.entry.now) result }
-        { work(job, shared, requests, gate) },
-    )?;
-    Ok(worked)
-}
-
 /// A run, with the states that its workers' seats went through.
-fn run_workers<R: Threads + Sync, G: Gate + Sync, C: Chances>(
+fn run_workers<R: Threads + Wait + Sync, G: Gate + Sync, C: Chances>(
     rt: &R,
     alloc: Global,
     mapped: MappedHeap,
@@ -205,7 +174,6 @@ fn run_workers<R: Threads + Sync, G: Gate + Sync, C: Chances>(
     requires dictionary { IsDictionary (slice_index mapped.words)
         (Contains mapped.held) }
     requires short { ValuesAreShort (requests_of requests.now) }
-    requires unmoved { has_move (requests_of requests.now) ≡ false }
     ensures worked { IfOk result (λ o. (now kept : List ℕ) × HaveWorked mapped.words
         mapped.held workers budget (requests_of requests.now) (replies_of o.replies.items)
         o.stopped now kept o.image.items) }
@@ -224,14 +192,15 @@ fn run_workers<R: Threads + Sync, G: Gate + Sync, C: Chances>(
     let geometry = mapped.heap().geometry();
     let mut replies = Vec::with_capacity(alloc, requests.len())?;
     let Opened { shared, jobs, maps } = open(alloc, mapped, requests, workers, budget, chances)?;
-    let worked = work_together(rt, &shared, jobs, requests, gate)?;
+    let ended = run_rows(rt, alloc, &shared, jobs, requests, gate)?;
     let Gathered {
         seats,
         told,
+        carriers,
         stopped,
-    } = gather(alloc, &shared, requests, worked)?;
+    } = gather(alloc, &shared, requests, ended)?;
     put_in_order(requests, told, &mut replies);
-    let closed = close(alloc, shared, seats)?;
+    let closed = close_shared(alloc, shared, seats, carriers)?;
     let image = image_left(closed, stopped, geometry, chances);
     let maps = maps_after(alloc, maps, stopped, requests, &replies)?;
     Ok(Outcome {
@@ -243,11 +212,12 @@ fn run_workers<R: Threads + Sync, G: Gate + Sync, C: Chances>(
 }
 
 /// Works off a trace over a recovered heap in which nothing is outside and each shard has a map, by
-/// one to eight workers, each of which has its shards and its part of the heap. The gate is told of
-/// each request before and after it. All workers together draw so many tickets as the budget says;
-/// what is written back early, and what a crash leaves of words without a durable value, comes from
-/// the chances. It fails only where memory runs out.
-pub fn run_trace<R: Threads + Sync, G: Gate + Sync, C: Chances>(
+/// one to eight workers, each of which has its shards and its part of the heap. What their moves
+/// take out goes to the workers of the other keys, which bring it in once all requests are worked
+/// off. The gate is told of each request before and after it. All workers together draw so many
+/// tickets as the budget says; what is written back early, and what a crash leaves of words without
+/// a durable value, comes from the chances. It fails only where memory runs out.
+pub fn run_trace<R: Threads + Wait + Sync, G: Gate + Sync, C: Chances>(
     rt: &R,
     alloc: Global,
     mapped: MappedHeap,
@@ -262,7 +232,6 @@ pub fn run_trace<R: Threads + Sync, G: Gate + Sync, C: Chances>(
     requires budget { budget < 2 ^ 40 }
     requires dictionary { IsDictionary (slice_index mapped.words) (Contains mapped.held) }
     requires short { ValuesAreShort (requests_of requests.now) }
-    requires unmoved { has_move (requests_of requests.now) ≡ false }
 
     // The states that the workers' seats went through, and the heap that they left.
     ensures worked { IfOk result (λ o. (now kept : List ℕ) × HaveWorked mapped.words mapped.held workers
@@ -306,6 +275,9 @@ pub fn run_trace<R: Threads + Sync, G: Gate + Sync, C: Chances>(
         (capacity_of (slice_index mapped.words)) (slice_index o.image.items)
         chances.old chances.new) }
 {
+    what_the_workers_answered();
+    what_the_workers_spent();
+    what_the_workers_left();
     let outcome = run_workers(rt, alloc, mapped, requests, workers, budget, gate, chances)?;
     Ok(outcome)
 }

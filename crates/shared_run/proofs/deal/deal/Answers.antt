@@ -6,7 +6,8 @@ use Rattle.run_model.specs.Working.{HaveRoom}
 use Rattle.tool_ports.specs.Chances.{unasked, by_chance}
 use Rattle.worker_run.specs.Said.{requests_of}
 use Rattle.shared_run.specs.Dealing.{AreFresh}
-use Rattle.shared_run.specs.Jobs.{IsJobOf, IsOpenedFor}
+use Rattle.worker_parts.specs.Begun.{IsOpenedFor}
+use Rattle.worker_parts.specs.Jobs.{IsJobOf}
 use Rattle.shared_run.proofs.DealLemmas.{fresh_last, fresh_rest, rooms_long, turn_push}
 use Rattle.shared_run.proofs.DealtLemmas.{given_none, given_more}
 use Rattle.shared_run.proofs.deal.deal.Goals as goal

@@ -1,8 +1,9 @@
 use Rattle.std.proofs.Common.{◌≡◌, ◌+◌, All, length}
 use Rattle.tool_ports.specs.Chances.{ComesFrom}
 use Rattle.worker_run.specs.Said.{requests_of}
-use Rattle.shared_run.specs.Jobs.{IsJobOf}
-use Rattle.shared_run.specs.Dealing.{AreFresh, AreInTurn}
+use Rattle.worker_parts.specs.Jobs.{IsJobOf}
+use Rattle.run_rows.specs.Turns.{AreInTurn}
+use Rattle.shared_run.specs.Dealing.{AreFresh}
 use Rattle.shared_run.specs.Dealt.{AreGiven}
 use Rattle.std.specs.Vec.{vec_capacity}
 use Rattle.shared_run.proofs.deal.deal.Given as goal
