@@ -1,5 +1,5 @@
 -- A superblock that a run never took is left as the image before had it.
-use Rattle.std.proofs.Common.{◌≡◌, ℕ, ◌<◌, ◌≤◌, false, List, slice_index, refl, sym, subst, inl, inr, ◌∙◌, arith}
+use Rattle.std.proofs.Common.{◌≡◌, ℕ, ◌<◌, ◌≤◌, ◌++◌, false, List, slice_index, refl, sym, subst, inl, inr, ◌∙◌, arith}
 use Rattle.heap_model.specs.declared.block.Block.{Block}
 use Rattle.heap_model.specs.Blocks.{layout_of, of_class}
 use Rattle.heap_model.specs.Durability.{IsClosedImage}
@@ -14,7 +14,7 @@ use Rattle.heap_recover.proofs.SuperblockLemmas.{but_last_in}
 use Rattle.heap_table.proofs.UntakenLemmas.{never_taken}
 use Rattle.dict_model.specs.Links.{dict_links}
 use Rattle.dict_model.specs.Requests.{Request}
-use Rattle.shared_run.specs.Together.{IsLeftOf, opening_for}
+use Rattle.run_outcome.specs.Together.{IsLeftOf, opening_for}
 use Rattle.image_run.specs.Reporting.{image_in}
 use Rattle.image_run.specs.Running.{Options, AreOpened, as_they_are, by_recovery, RunsRequests}
 use Rattle.image_run.proofs.PutLemmas.{image_in_words}
@@ -53,7 +53,7 @@ module _ (image : Image) (requests : List Request) (options : Options) (put text
       let opened = opened_past over.words image over.opened in
       let capacity = opened.0 in
       let least = run.leaves.used.least in
-      let stays = never_taken (opening_for over.words over.held worked.owners options.workers options.budget) over.now over.kept worked.views worked.ready worked.by_root.fits worked.reached
+      let stays = never_taken (opening_for over.words over.held worked.owners options.workers options.budget) over.now over.kept (worked.views ++ worked.carriers) worked.ready worked.by_root.fits worked.reached
       word (omega (arith, from, used, capacity)) (omega (arith, until, capacity)) in
       closed.others word (λ e. omega (arith, from, e)) ∙ stays.0 ∙ opened.2 word (omega (arith, from, least))
 

@@ -8,9 +8,9 @@ use Rattle.dict_model.specs.Requests.{Request}
 use Rattle.dictionary.specs.Reading.{RecoversTo}
 use Rattle.run_model.specs.Runs.{AnswerInOrder, StopsRightly, IsFullRightly, RepliesRightly, LeavesMaps, LeavesHeader, LeavesOthers, LeavesUsed, LeavesState}
 use Rattle.run_model.specs.Workers.{Replies}
-use Rattle.shared_run.specs.Closed.{LeavesOrderly}
+use Rattle.run_outcome.specs.Closed.{LeavesOrderly}
 use Rattle.shared_run.specs.Dealt.{HaveAsked}
-use Rattle.shared_run.specs.Together.{HaveWorked}
+use Rattle.run_outcome.specs.Together.{HaveWorked}
 use Rattle.worker_run.specs.Said.{Told, replies_of}
 use Rattle.trace_text.specs.Replies.{replies_text}
 use Rattle.image_run.specs.declared.options.RunOptions.{RunOptions}

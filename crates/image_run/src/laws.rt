@@ -71,7 +71,7 @@ pub fn an_image_is_recovered_in_one_way()
 
 /// A run that isn't stopped, and refuses no request for want of room, is that of one thread,
 /// however many workers it has: the replies are those of one map asked by the whole trace in its
-/// order, and that map after it is left.
+/// order, and that map after it is left, with what arrives by its moves.
 pub fn a_run_without_a_refusal_is_that_of_one_thread()
     ensures { (image : Image) (requests : List Request) (options : Options) (put text : List ℕ)
         → HasMaps image → (run : RunsRequests image requests options put text)

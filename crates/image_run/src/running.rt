@@ -2,7 +2,6 @@
 ghost use Rattle.std.specs.Prelude.{◌≡◌, false, length, IfOk, IfSome, IsSomeAnd, Contains, slice_index};
 ghost use Rattle.dict_model.specs.Links.{shards};
 ghost use Rattle.dictionary.specs.Reading.{AreMaps};
-ghost use Rattle.run_model.specs.Needs.{has_move};
 ghost use Rattle.run_model.specs.Opened.{IsDictionary, CanBeRun};
 ghost use Rattle.worker_run.specs.Said.{requests_of, ValuesAreShort};
 ghost use Rattle.tool_ports.specs.Chances.{ComesFromSeed};
@@ -18,6 +17,7 @@ use region_header::{Bytes, words_to_bytes};
 use shared_run::run_trace;
 use std::alloc::{AllocError, Global};
 use std::collections::BTreeMap;
+use std::sync::Wait;
 use std::thread::Threads;
 use tool_ports::{Chances, Gate};
 use trace_text::{Request, reply_text};
@@ -25,7 +25,7 @@ use trace_text::{Request, reply_text};
 /// Runs the requests over a recovered heap in which nothing is outside and each shard has a map,
 /// and makes all that is to be put and printed. The chances begin anew by the options' seed. The
 /// shards of the image that is left are read only where a worker was stopped.
-pub fn run_image<R: Threads + Sync, G: Gate + Sync, C: Chances>(
+pub fn run_image<R: Threads + Wait + Sync, G: Gate + Sync, C: Chances>(
     rt: &R,
     alloc: Global,
     mapped: MappedHeap,
@@ -37,7 +37,6 @@ pub fn run_image<R: Threads + Sync, G: Gate + Sync, C: Chances>(
     requires dictionary { IsDictionary (slice_index mapped.words)
         (Contains mapped.held) }
     requires short { ValuesAreShort (requests_of requests.now) }
-    requires unmoved { has_move (requests_of requests.now) ≡ false }
     ensures ok { IfOk result (λ product. IsSomeAnd product.image (λ image. RunsRequests
         (slice_index mapped.words) (requests_of requests.now) (options_of options) image
         product.text)) }

@@ -16,6 +16,7 @@ use std::env::Args;
 use std::io;
 use std::io::ErrorKind;
 use std::process::ExitCode;
+use std::sync::Wait;
 use std::thread::Threads;
 use tool_ports::{Chances, Gate, ImageStore, Sink, Source, write_all};
 use tool_run::{Status, run_tool, tell_out_of_memory};
@@ -23,7 +24,7 @@ use tool_run::{Status, run_tool, tell_out_of_memory};
 /// Does what the words behind the program's name ask for, and ends with the status of that. At
 /// status 2 it writes help to `help` too, and at no other status anything.
 pub fn run_line<
-    R: Threads + Sync,
+    R: Threads + Wait + Sync,
     I: ImageStore,
     T: Source,
     O: Sink,
@@ -79,7 +80,7 @@ pub fn run_line<
 }
 
 // Runs the tool on the words. Where there is no memory for them, it tells that.
-fn answer<R: Threads + Sync, I: ImageStore, T: Source, O: Sink, G: Gate + Sync, C: Chances>(
+fn answer<R: Threads + Wait + Sync, I: ImageStore, T: Source, O: Sink, G: Gate + Sync, C: Chances>(
     rt: &R,
     alloc: Global,
     args: io::Result<Args>,

@@ -15,6 +15,7 @@ use file_ports::{FileStore, InputSource, OutputSink};
 use std::io::Print;
 use std::process::ExitCode;
 use std::rt::Runtime;
+use std::sync::Wait;
 use std::thread::Threads;
 use std::{env, io};
 use tool_ports::{OpenGate, SeededChances};
@@ -22,7 +23,10 @@ pub use usage::USAGE;
 
 /// Does what the words of the process ask for: `run_line` over files, standard input and output.
 /// `err` is the standard error.
-pub fn run_program<R: Runtime + AllocGlobal + Threads + Sync, E: Print>(rt: &R, err: &E) -> ExitCode
+pub fn run_program<R: Runtime + AllocGlobal + Threads + Wait + Sync, E: Print>(
+    rt: &R,
+    err: &E,
+) -> ExitCode
     ensures { Contains statuses (exit_status result) }
 {
     run_line(

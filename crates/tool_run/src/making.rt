@@ -25,13 +25,14 @@ use dictionary::read_maps;
 use image_run::{Product, recovered_text};
 use region_header::{Bytes, format, words_to_bytes};
 use std::alloc::{AllocError, Global};
+use std::sync::Wait;
 use std::thread::Threads;
 use super_block::{Geometry, WORD_BYTES};
 use tool_command::Invocation;
 use tool_ports::{Chances, Gate, ImageStore, Source};
 
 /// Makes what the command is to put and to print.
-pub fn make<R: Threads + Sync, I: ImageStore, T: Source, G: Gate + Sync, C: Chances>(
+pub fn make<R: Threads + Wait + Sync, I: ImageStore, T: Source, G: Gate + Sync, C: Chances>(
     rt: &R,
     alloc: Global,
     command: Invocation<'_>,

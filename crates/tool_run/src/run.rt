@@ -20,6 +20,7 @@ use crate::fault::Fault;
 use crate::making::make;
 use crate::status::Status;
 use std::alloc::Global;
+use std::sync::Wait;
 use std::thread::Threads;
 use tool_command::{Invocation, Refusal, parse};
 use tool_ports::{Chances, Gate, ImageStore, Sink, Source};
@@ -39,7 +40,14 @@ use tool_ports::{Chances, Gate, ImageStore, Sink, Source};
 /// prints the offsets of the blocks that the class then gives, and `gen N SEED` prints a trace.
 /// Where there is no result, a line tells why; one that the sink refuses is lost. What a heap
 /// writes back early comes from `chances`, with the seed 0 where none is given.
-pub fn run_tool<R: Threads + Sync, I: ImageStore, T: Source, O: Sink, G: Gate + Sync, C: Chances>(
+pub fn run_tool<
+    R: Threads + Wait + Sync,
+    I: ImageStore,
+    T: Source,
+    O: Sink,
+    G: Gate + Sync,
+    C: Chances,
+>(
     rt: &R,
     alloc: Global,
     words: &[String],
@@ -207,7 +215,14 @@ pub fn tell_out_of_memory<O: Sink>(out: &mut O) -> Status
 }
 
 // Makes the whole result first, then puts and prints it.
-fn carry_out<R: Threads + Sync, I: ImageStore, T: Source, O: Sink, G: Gate + Sync, C: Chances>(
+fn carry_out<
+    R: Threads + Wait + Sync,
+    I: ImageStore,
+    T: Source,
+    O: Sink,
+    G: Gate + Sync,
+    C: Chances,
+>(
     rt: &R,
     alloc: Global,
     command: Invocation<'_>,

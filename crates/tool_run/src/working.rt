@@ -18,6 +18,7 @@ use crate::recovering::recover_image;
 use dictionary::MappedHeap;
 use image_run::{Product, RunOptions, run_image};
 use std::alloc::Global;
+use std::sync::Wait;
 use std::thread::Threads;
 use tool_ports::{Chances, Gate, ImageStore, Source, read_all};
 use trace_text::{Request, parse_trace};
@@ -27,7 +28,7 @@ pub const LONGEST_TRACE: usize = 1 << 24;
 
 /// Runs the trace that the source has left over the image of this name, and makes the image that is
 /// left and the text on the run.
-pub fn work_named<R: Threads + Sync, I: ImageStore, T: Source, G: Gate + Sync, C: Chances>(
+pub fn work_named<R: Threads + Wait + Sync, I: ImageStore, T: Source, G: Gate + Sync, C: Chances>(
     rt: &R,
     alloc: Global,
     name: &str,

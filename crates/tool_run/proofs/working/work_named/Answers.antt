@@ -1,6 +1,5 @@
-use Rattle.std.proofs.Common.{◌≡◌, false, List, IsSomeAnd, refl, sym, subst, slice_index}
+use Rattle.std.proofs.Common.{◌≡◌, List, IsSomeAnd, refl, sym, subst, slice_index}
 use Rattle.image_run.specs.Running.{RunsRequests, options_of}
-use Rattle.run_model.specs.Needs.{has_move}
 use Rattle.tool_command.specs.Command.{run_image}
 use Rattle.worker_run.specs.Said.{Line, requests_of, ValuesAreShort}
 use Rattle.tool_run.specs.declared.fault.Fault.TheVariants.{ReadFault}
@@ -10,7 +9,6 @@ use Rattle.tool_run.proofs.OutsideLemmas.{mapped_inside}
 use Rattle.tool_run.proofs.ReadingLemmas.{none_taken, not_err, stands}
 use Rattle.tool_run.proofs.TraceLemmas.{run_asks, runs_trace}
 use Rattle.worker_run.proofs.SaidLemmas.{lines_short}
-use Rattle.worker_run.proofs.UnmovedLemmas.{lines_unmoved}
 use Rattle.tool_run.proofs.working.work_named.Goals as goal
 
 pub returns-in_err-mapped-clause-err : goal.returns-in_err-mapped-clause-err
@@ -23,11 +21,6 @@ pub run_image-requires-clause-short : goal.run_image-requires-clause-short
 run_image-requires-clause-short g c lifetimes within =
     let lines = c.in_ok-requests.ensures.ok in
     subst (λ (l : List Line). ValuesAreShort (requests_of l)) (sym c.deref.ensures.value) (lines_short _ _ lines.lines_are)
-
-pub run_image-requires-clause-unmoved : goal.run_image-requires-clause-unmoved
-run_image-requires-clause-unmoved g c lifetimes within =
-    let lines = c.in_ok-requests.ensures.ok in
-    subst (λ (l : List Line). has_move (requests_of l) ≡ false) (sym c.deref.ensures.value) (lines_unmoved _ _ lines.lines_are)
 
 pub returns-clause-ok : goal.returns-clause-ok
 returns-clause-ok g c =
