@@ -4,13 +4,14 @@ use crate::calls::{image_made, make, must_hold, store_with};
 use line_memory::ConstantChance;
 use std::alloc::{AllocError, Global};
 use std::process::Abort;
+use std::sync::Wait;
 use std::test::Fail;
 use std::thread::Threads;
 use tool_ports::MapStore;
 
 /// What a run of the trace over the image in the store prints.
 fn printed_by(
-    rt: &(impl Abort + AllocGlobal + Threads + Sync),
+    rt: &(impl Abort + AllocGlobal + Threads + Wait + Sync),
     images: &mut MapStore,
     line: &str,
     trace: &[u8],
@@ -24,7 +25,7 @@ fn printed_by(
 /// What two runs of the trace over an empty heap of 256 superblocks print, the second over what the
 /// first left.
 fn run_twice(
-    rt: &(impl Abort + AllocGlobal + Threads + Sync),
+    rt: &(impl Abort + AllocGlobal + Threads + Wait + Sync),
     line: &str,
     trace: &[u8],
 ) -> Result<(Vec<u8>, Vec<u8>), Fail> {
@@ -35,7 +36,10 @@ fn run_twice(
 }
 
 /// The trace that the tool makes of these words.
-fn made_trace(rt: &(impl AllocGlobal + Threads + Sync), line: &str) -> Result<Vec<u8>, Fail> {
+fn made_trace(
+    rt: &(impl AllocGlobal + Threads + Wait + Sync),
+    line: &str,
+) -> Result<Vec<u8>, Fail> {
     let mut none = store_with(rt.alloc(), b"")?;
     let chance = &mut ConstantChance(0);
     Ok(make(rt, line, Vec::new(rt.alloc()), &mut none, chance)?.1)
@@ -63,7 +67,7 @@ fn a_long_trace_gives_the_same_by_any_workers_within_its_bound(
 
 /// Shows the image in the store, with its map: threads find what one finds.
 fn is_shown_alike(
-    rt: &(impl Abort + AllocGlobal + Threads + Sync),
+    rt: &(impl Abort + AllocGlobal + Threads + Wait + Sync),
     images: &mut MapStore,
 ) -> Result<(), Fail> {
     let by_one = printed_by(rt, images, "show h --map", b"")?;

@@ -2,6 +2,7 @@
 use line_memory::ConstantChance;
 use std::alloc::{AllocError, Global};
 use std::process::Abort;
+use std::sync::Wait;
 use std::test::Fail;
 use std::thread::Threads;
 use tool_ports::{BytesSource, Chances, FailedPut, ImageStore, MapStore, OpenGate, VecSink};
@@ -27,7 +28,7 @@ fn words_of(alloc: Global, line: &str) -> Result<Vec<String>, AllocError> {
 
 /// Makes the call: its status, and the bytes that it printed.
 pub fn make<C: Chances>(
-    rt: &(impl AllocGlobal + Threads + Sync),
+    rt: &(impl AllocGlobal + Threads + Wait + Sync),
     line: &str,
     trace: Vec<u8>,
     images: &mut MapStore,
@@ -50,7 +51,10 @@ pub fn make<C: Chances>(
 }
 
 /// The image that a call makes, as `format h 1`.
-pub fn image_made(rt: &(impl AllocGlobal + Threads + Sync), line: &str) -> Result<Vec<u8>, Fail> {
+pub fn image_made(
+    rt: &(impl AllocGlobal + Threads + Wait + Sync),
+    line: &str,
+) -> Result<Vec<u8>, Fail> {
     let mut images = store_with(rt.alloc(), b"")?;
     let chance = &mut ConstantChance(0);
     make(rt, line, Vec::new(rt.alloc()), &mut images, chance)?;
@@ -65,7 +69,7 @@ pub fn must_hold(rt: &impl Abort, holds: bool, told: &str) {
 
 /// Makes the call, which is to end with this status and to print this text.
 pub fn runs<C: Chances>(
-    rt: &(impl Abort + AllocGlobal + Threads + Sync),
+    rt: &(impl Abort + AllocGlobal + Threads + Wait + Sync),
     images: &mut MapStore,
     chances: &mut C,
     line: &str,

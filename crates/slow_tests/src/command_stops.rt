@@ -5,6 +5,7 @@ use line_memory::ConstantChance;
 use region_header::words_to_bytes;
 use std::alloc::{AllocError, Global};
 use std::process::Abort;
+use std::sync::Wait;
 use std::test::Fail;
 use std::thread::Threads;
 use tool_ports::{Chances, MapStore, SeededChances};
@@ -23,7 +24,7 @@ fn one_block(alloc: Global) -> Result<Vec<u8>, Fail> {
 
 /// The status of a recovery that is to stop at this step, and what it prints.
 fn stopped_at<C: Chances>(
-    rt: &(impl AllocGlobal + Threads + Sync),
+    rt: &(impl AllocGlobal + Threads + Wait + Sync),
     images: &mut MapStore,
     budget: u64,
     chances: &mut C,
@@ -34,7 +35,7 @@ fn stopped_at<C: Chances>(
 
 /// Stops a recovery of the image in the store at this step: the answer is whether it is done.
 fn is_done_at<C: Chances>(
-    rt: &(impl Abort + AllocGlobal + Threads + Sync),
+    rt: &(impl Abort + AllocGlobal + Threads + Wait + Sync),
     images: &mut MapStore,
     budget: u64,
     chances: &mut C,
@@ -50,7 +51,7 @@ fn is_done_at<C: Chances>(
 /// Stops a recovery of the image at this step, and goes on from what the stop left: the answer is
 /// whether there was no stop.
 fn goes_on_from<C: Chances>(
-    rt: &(impl Abort + AllocGlobal + Threads + Sync),
+    rt: &(impl Abort + AllocGlobal + Threads + Wait + Sync),
     image: &[u8],
     budget: u64,
     chances: &mut C,
@@ -64,7 +65,7 @@ fn goes_on_from<C: Chances>(
 
 /// Stops a recovery at each step until it is done, and goes on from what each stop left.
 fn is_told_at_each_stop<C: Chances>(
-    rt: &(impl Abort + AllocGlobal + Threads + Sync),
+    rt: &(impl Abort + AllocGlobal + Threads + Wait + Sync),
     chances: &mut C,
 ) -> Result<(), Fail> {
     let image = one_block(rt.alloc())?;

@@ -6,13 +6,14 @@ use line_memory::ConstantChance;
 use region_header::words_to_bytes;
 use std::alloc::{AllocError, Global};
 use std::process::Abort;
+use std::sync::Wait;
 use std::test::Fail;
 use std::thread::Threads;
 use tool_ports::MapStore;
 
 /// Makes a call without input, which is to end with this status and to print this text.
 fn must_tell(
-    rt: &(impl Abort + AllocGlobal + Threads + Sync),
+    rt: &(impl Abort + AllocGlobal + Threads + Wait + Sync),
     images: &mut MapStore,
     line: &str,
     status: u8,
@@ -32,7 +33,7 @@ fn all_blocks(alloc: Global) -> Result<String, AllocError> {
 }
 
 fn is_made_and_shown(
-    rt: &(impl Abort + AllocGlobal + Threads + Sync),
+    rt: &(impl Abort + AllocGlobal + Threads + Wait + Sync),
     images: &mut MapStore,
 ) -> Result<(), Fail> {
     let made = "formatted 257 bytes 16875904\n";

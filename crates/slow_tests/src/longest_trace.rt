@@ -3,6 +3,7 @@ use crate::calls::{image_made, must_hold, runs, store_with};
 use line_memory::ConstantChance;
 use std::alloc::{AllocError, Global};
 use std::process::Abort;
+use std::sync::Wait;
 use std::test::Fail;
 use std::thread::Threads;
 use tool_ports::MapStore;
@@ -33,7 +34,7 @@ fn longest_trace(
 
 /// Works off a trace of the greatest length, which asks for no key that is there.
 fn must_answer(
-    rt: &(impl Abort + AllocGlobal + Threads + Sync),
+    rt: &(impl Abort + AllocGlobal + Threads + Wait + Sync),
     trace: Vec<u8>,
     text: &str,
 ) -> Result<(), Fail> {
@@ -72,7 +73,7 @@ fn the_longest_trace_of_the_most_lines_is_worked_off(rt: HostRuntime) -> Result<
 
 /// Refuses a trace of so many bytes, which is one line outside the grammar.
 fn must_refuse(
-    rt: &(impl Abort + AllocGlobal + Threads + Sync),
+    rt: &(impl Abort + AllocGlobal + Threads + Wait + Sync),
     images: &mut MapStore,
     length: usize,
     text: &str,

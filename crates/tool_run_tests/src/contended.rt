@@ -5,6 +5,7 @@ use crate::session::{image_in, store_of};
 use crate::turn::nth_number;
 use std::alloc::AllocError;
 use std::process::Abort;
+use std::sync::Wait;
 use std::test::Fail;
 use std::thread::Threads;
 use tool_ports::MapStore;
@@ -194,8 +195,8 @@ fn report_of(printed: &str) -> &str {
 }
 
 /// Whether this report is shown of the image that is left.
-fn shows_report(
-    rt: &(impl AllocGlobal + Threads + Sync),
+pub fn shows_report(
+    rt: &(impl AllocGlobal + Threads + Wait + Sync),
     images: &mut MapStore,
     report: &str,
 ) -> Result<bool, AllocError> {
@@ -205,7 +206,7 @@ fn shows_report(
 
 /// Whether the image that is left is shown as the run told, and stays as it is.
 fn is_shown_again(
-    rt: &(impl AllocGlobal + Threads + Sync),
+    rt: &(impl AllocGlobal + Threads + Wait + Sync),
     images: &mut MapStore,
     printed: &str,
 ) -> Result<bool, AllocError> {
@@ -216,7 +217,7 @@ fn is_shown_again(
 
 /// Makes the run: at least so many of its puts find no room, and each rightly.
 fn contend_over(
-    rt: &(impl Abort + AllocGlobal + Threads + Sync),
+    rt: &(impl Abort + AllocGlobal + Threads + Wait + Sync),
     images: &mut MapStore,
     run: &Run,
 ) -> Result<(), Fail> {
@@ -227,13 +228,13 @@ fn contend_over(
 }
 
 /// Makes the run over an empty heap.
-fn contend(rt: &(impl Abort + AllocGlobal + Threads + Sync), run: &Run) -> Result<(), Fail> {
+fn contend(rt: &(impl Abort + AllocGlobal + Threads + Wait + Sync), run: &Run) -> Result<(), Fail> {
     let mut images = store_of(rt.alloc(), run.capacity)?;
     contend_over(rt, &mut images, run)
 }
 
 /// Makes each of the runs.
-fn contend_in_each(rt: &(impl Abort + AllocGlobal + Threads + Sync)) -> Result<(), Fail> {
+fn contend_in_each(rt: &(impl Abort + AllocGlobal + Threads + Wait + Sync)) -> Result<(), Fail> {
     for run in &RUNS {
         contend(rt, run)?;
     }

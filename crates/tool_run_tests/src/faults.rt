@@ -5,6 +5,7 @@ use crate::session::{Table, image_in, played, plays};
 use crate::turn::replaced;
 use crate::workers::{BY_EIGHT, BY_ONE, BY_TWO};
 use std::process::Abort;
+use std::sync::Wait;
 use std::test::Fail;
 use std::thread::Threads;
 use tool_ports::MapStore;
@@ -90,7 +91,7 @@ const RUN_BY_EIGHT: [(&str, &str); 3] = [("RUN", RUN), ("TOLD", TOLD), ("N", "8"
 
 /// The store that such a session leaves.
 fn left_by(
-    rt: &(impl Abort + AllocGlobal + Threads + Sync),
+    rt: &(impl Abort + AllocGlobal + Threads + Wait + Sync),
     session: &str,
     pairs: &[(&str, &str)],
 ) -> Result<MapStore, Fail> {
@@ -99,7 +100,7 @@ fn left_by(
 
 /// Plays a session, which leaves this image.
 fn leaves(
-    rt: &(impl Abort + AllocGlobal + Threads + Sync),
+    rt: &(impl Abort + AllocGlobal + Threads + Wait + Sync),
     session: &str,
     pairs: &[(&str, &str)],
     image: &[u8],
@@ -111,7 +112,7 @@ fn leaves(
 
 /// Plays the sessions, which leave the same image.
 fn leave_the_same(
-    rt: &(impl Abort + AllocGlobal + Threads + Sync),
+    rt: &(impl Abort + AllocGlobal + Threads + Wait + Sync),
     pairs: &[(&str, &str)],
 ) -> Result<(), Fail> {
     let images = left_by(rt, LEAVE_NEW[0], pairs)?;
@@ -241,7 +242,23 @@ $ run h --workers N
 = 10
 > bad trace line 1
 $ run h --workers N
-< move 1 2
+< move 1
+= 10
+> bad trace line 1
+$ run h --workers N
+< move 1 2 3
+= 10
+> bad trace line 1
+$ run h --workers N
+< move  1 2
+= 10
+> bad trace line 1
+$ run h --workers N
+< move 01 2
+= 10
+> bad trace line 1
+$ run h --workers N
+< move 1 18446744073709551616
 = 10
 > bad trace line 1
 ";

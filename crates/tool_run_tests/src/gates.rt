@@ -4,6 +4,7 @@ use crate::harness::{make, must_hold};
 use crate::session::store_of;
 use std::alloc::{AllocError, Global};
 use std::process::Abort;
+use std::sync::Wait;
 use std::sync::atomic::{AtomicU64, Ordering};
 use std::test::Fail;
 use std::thread::Threads;
@@ -90,7 +91,7 @@ const SEVEN: &str = "
 < get 11
 < put 3 bb
 < del 5
-< get 20
+< move 0 9
 < put 14 cc
 < put 7 dd";
 
@@ -115,7 +116,7 @@ fn turn_of(alloc: Global, call: &str, requests: &str, times: usize) -> Result<St
 
 /// Makes a run, which tells the gate of its requests.
 fn pass_through(
-    rt: &(impl AllocGlobal + Threads + Sync),
+    rt: &(impl AllocGlobal + Threads + Wait + Sync),
     turn: &str,
     gate: &Recorder,
 ) -> Result<(), Fail> {
@@ -143,7 +144,7 @@ fn was_told_all(gate: &Recorder, turn: &str, workers: u64) -> bool {
 
 /// Makes the run, whose gate is told of all requests.
 fn tells_all(
-    rt: &(impl Abort + AllocGlobal + Threads + Sync),
+    rt: &(impl Abort + AllocGlobal + Threads + Wait + Sync),
     turn: &str,
     requests: usize,
     workers: u64,
@@ -156,7 +157,7 @@ fn tells_all(
 
 /// Makes the run that a row tells.
 fn tells_row(
-    rt: &(impl Abort + AllocGlobal + Threads + Sync),
+    rt: &(impl Abort + AllocGlobal + Threads + Wait + Sync),
     (call, workers, requests, times): (&str, u64, &str, usize),
 ) -> Result<(), Fail> {
     let turn = turn_of(rt.alloc(), call, requests, times)?;
@@ -166,9 +167,9 @@ fn tells_row(
 /// What is told of the first request of each of three workers, and of no other.
 const FIRST: [u64; 7] = [2, 0, 0, 6, 4, 0, 0];
 
-/// Whether the gate was told of these alone.
-fn was_told_first(gate: &Recorder) -> bool {
-    for (number, told) in FIRST.iter().enumerate() {
+/// Whether the gate was told this of the requests.
+fn was_told(gate: &Recorder, requests: &[u64]) -> bool {
+    for (number, told) in requests.iter().enumerate() {
         if gate.told_of(number) != *told {
             return false;
         }
@@ -187,10 +188,24 @@ const STOPPED: &str = "run h --workers 3 --stop 0
 < put 7 dd";
 
 /// Makes it.
-fn tells_first(rt: &(impl Abort + AllocGlobal + Threads + Sync)) -> Result<(), Fail> {
+fn tells_first(rt: &(impl Abort + AllocGlobal + Threads + Wait + Sync)) -> Result<(), Fail> {
     let gate = Recorder::new(rt.alloc(), 7)?;
     pass_through(rt, STOPPED, &gate)?;
-    must_hold(rt, was_told_first(&gate), "the first ones");
+    must_hold(rt, was_told(&gate, &FIRST), "the first ones");
+    Ok(())
+}
+
+/// A run that is stopped while the table for a move is made, before any request.
+const STOPPED_BEFORE: &str = "run h --workers 3 --stop 0
+< put 0 aa
+< move 1 2
+< get 2";
+
+/// Makes it.
+fn tells_none(rt: &(impl Abort + AllocGlobal + Threads + Wait + Sync)) -> Result<(), Fail> {
+    let gate = Recorder::new(rt.alloc(), 3)?;
+    pass_through(rt, STOPPED_BEFORE, &gate)?;
+    must_hold(rt, was_told(&gate, &[0, 0, 0]), "none");
     Ok(())
 }
 
@@ -202,11 +217,12 @@ const ROWS: [(&str, u64, &str, usize); 3] = [
 ];
 
 /// Makes all of these runs.
-fn tells_in_each(rt: &(impl Abort + AllocGlobal + Threads + Sync)) -> Result<(), Fail> {
+fn tells_in_each(rt: &(impl Abort + AllocGlobal + Threads + Wait + Sync)) -> Result<(), Fail> {
     for row in &ROWS {
         tells_row(rt, *row)?;
     }
-    tells_first(rt)
+    tells_first(rt)?;
+    tells_none(rt)
 }
 
 #[test]

@@ -6,6 +6,7 @@ use line_memory::ConstantChance;
 use std::alloc::{AllocError, Global};
 use std::process::Abort;
 use std::str;
+use std::sync::Wait;
 use std::test::Fail;
 use std::thread::Threads;
 use tool_ports::{BytesSource, Chances, Gate, MapStore, OpenGate, SeededChances, VecSink};
@@ -69,7 +70,7 @@ impl Ended {
 
 /// Makes the call that a turn tells.
 pub fn make<G: Gate + Sync, C: Chances>(
-    rt: &(impl AllocGlobal + Threads + Sync),
+    rt: &(impl AllocGlobal + Threads + Wait + Sync),
     images: &mut MapStore,
     turn: &str,
     gate: &G,
@@ -98,7 +99,7 @@ pub fn make<G: Gate + Sync, C: Chances>(
 
 /// Makes it with an open gate, and with the chances that the turn tells.
 pub fn make_turn(
-    rt: &(impl AllocGlobal + Threads + Sync),
+    rt: &(impl AllocGlobal + Threads + Wait + Sync),
     images: &mut MapStore,
     turn: &str,
 ) -> Result<Ended, AllocError> {
@@ -118,13 +119,13 @@ pub fn must_hold(rt: &impl Abort, holds: bool, told: &str) {
 }
 
 /// The text with the number in place of its name, N.
-fn numbered(alloc: Global, text: &str, number: u64) -> Result<String, AllocError> {
+pub fn numbered(alloc: Global, text: &str, number: u64) -> Result<String, AllocError> {
     text.replace(alloc, "N", &format!(in alloc; "{number}")?)
 }
 
 /// Makes the call of a turn that has the number in place of N.
 pub fn make_numbered(
-    rt: &(impl AllocGlobal + Threads + Sync),
+    rt: &(impl AllocGlobal + Threads + Wait + Sync),
     images: &mut MapStore,
     turn: &str,
     number: u64,

@@ -8,7 +8,7 @@ use std::test::Fail;
 /// in superblock 1, with key 0 and no byte.
 const TABLE: &str = "used 2, info:0 12, info:1 2, root:0 @1080, 1080 @9272";
 
-/// The words of an empty image of so many superblocks, one to four, or of one of two with that
+/// The words of an empty image of so many superblocks, one to eight, or of one of two with that
 /// table.
 #[tactic(auto, unfolding(heap_model::specs::Geometry::largest_capacity))]
 fn base_words(alloc: Global, base: &str) -> Result<Vec<u64>, Fail> {
@@ -16,7 +16,7 @@ fn base_words(alloc: Global, base: &str) -> Result<Vec<u64>, Fail> {
         return image_of(alloc, 2, TABLE);
     }
     let superblocks = number(base)?;
-    if superblocks == 0 || 4 < superblocks {
+    if superblocks == 0 || 8 < superblocks {
         return Err("no image of this name".into());
     }
     image_of(alloc, superblocks, "")

@@ -15,6 +15,8 @@ mod damage;
 #[cfg(test)]
 mod faults;
 #[cfg(test)]
+mod gate_draws;
+#[cfg(test)]
 mod gates;
 #[cfg(test)]
 mod harness;
@@ -22,6 +24,14 @@ mod harness;
 mod images;
 #[cfg(test)]
 mod meeting;
+#[cfg(test)]
+mod moving;
+#[cfg(test)]
+mod moving_full;
+#[cfg(test)]
+mod moving_order;
+#[cfg(test)]
+mod moving_stops;
 #[cfg(test)]
 mod parallel;
 #[cfg(test)]

@@ -3,6 +3,7 @@ use crate::harness::{make, must_hold};
 use crate::session::{ends_as_told, store_of};
 use line_memory::Chance;
 use std::process::Abort;
+use std::sync::Wait;
 use std::sync::atomic::{AtomicU64, Ordering};
 use std::test::Fail;
 use std::thread;
@@ -51,7 +52,7 @@ impl Meeting {
 }
 
 /// Waits until the other worker has come, but not for ever.
-fn has_come(other: &AtomicU64) -> bool {
+pub fn has_come(other: &AtomicU64) -> bool {
     for _ in 0..MOST_TURNS {
         if other.load(Ordering::SeqCst) == 1 {
             return true;
@@ -123,7 +124,7 @@ const BOTH: &str = "run h --workers 2
 
 /// Makes the run with these two points.
 fn run_with(
-    rt: &(impl Abort + AllocGlobal + Threads + Sync),
+    rt: &(impl Abort + AllocGlobal + Threads + Wait + Sync),
     at_first_request: &Meeting,
     at_first_draw: &Meeting,
 ) -> Result<(), Fail> {
@@ -135,7 +136,7 @@ fn run_with(
 }
 
 /// Makes it, and asserts that both points were come to.
-fn meet(rt: &(impl Abort + AllocGlobal + Threads + Sync)) -> Result<(), Fail> {
+fn meet(rt: &(impl Abort + AllocGlobal + Threads + Wait + Sync)) -> Result<(), Fail> {
     let (requests, draws) = (Meeting::new(), Meeting::new());
     run_with(rt, &requests, &draws)?;
     must_hold(rt, requests.was_held(), "at the first requests");

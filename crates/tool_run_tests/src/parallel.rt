@@ -3,6 +3,7 @@ use crate::harness::{Ended, make_turn, must_hold};
 use crate::session::{Table, image_in, played, plays};
 use std::alloc::AllocError;
 use std::process::Abort;
+use std::sync::Wait;
 use std::test::Fail;
 use std::thread::Threads;
 use tool_ports::MapStore;
@@ -59,7 +60,7 @@ fn ended_alike(one: Result<Ended, AllocError>, other: Result<Ended, AllocError>)
 
 /// Shows the image with threads and without, by these two lines: all is the same.
 fn shows_alike(
-    rt: &(impl Abort + AllocGlobal + Threads + Sync),
+    rt: &(impl Abort + AllocGlobal + Threads + Wait + Sync),
     images: &mut MapStore,
     line: &str,
     by_threads: &str,
@@ -72,7 +73,7 @@ fn shows_alike(
 /// Shows the image that a session leaves, with the map of superblocks and without. It stays as it
 /// is.
 fn is_shown_alike(
-    rt: &(impl Abort + AllocGlobal + Threads + Sync),
+    rt: &(impl Abort + AllocGlobal + Threads + Wait + Sync),
     session: &str,
 ) -> Result<(), Fail> {
     let mut images = played(rt, session)?;
@@ -84,7 +85,7 @@ fn is_shown_alike(
 }
 
 /// Shows each image alike, and that which a run leaves.
-fn are_shown_alike(rt: &(impl Abort + AllocGlobal + Threads + Sync)) -> Result<(), Fail> {
+fn are_shown_alike(rt: &(impl Abort + AllocGlobal + Threads + Wait + Sync)) -> Result<(), Fail> {
     for told in IMAGES.split('\n') {
         if !told.starts_with('#') {
             is_shown_alike(rt, told)?;

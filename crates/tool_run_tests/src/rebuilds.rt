@@ -2,6 +2,7 @@
 use crate::harness::{make_numbered, must_hold};
 use crate::session::{Table, play, plays, store_of};
 use std::process::Abort;
+use std::sync::Wait;
 use std::test::Fail;
 use std::thread::Threads;
 use tool_ports::MapStore;
@@ -26,7 +27,7 @@ const STOPPED: &str = "rebuild stopped\nheap 2 dirty\nheld 64 1\n";
 
 /// Stops a recovery, and answers whether there was no stop.
 fn stop_recovery(
-    rt: &(impl Abort + AllocGlobal + Threads + Sync),
+    rt: &(impl Abort + AllocGlobal + Threads + Wait + Sync),
     images: &mut MapStore,
     stop: &str,
     budget: u64,
@@ -43,7 +44,7 @@ fn stop_recovery(
 
 /// Stops a recovery, recovers what is left, and answers whether there was no stop.
 fn stop_at(
-    rt: &(impl Abort + AllocGlobal + Threads + Sync),
+    rt: &(impl Abort + AllocGlobal + Threads + Wait + Sync),
     stop: &str,
     budget: u64,
 ) -> Result<bool, Fail> {
@@ -55,7 +56,10 @@ fn stop_at(
 
 /// Stops a recovery at each early step and at a few later ones until it is done, and recovers what
 /// each stop left. (The crate slow_tests takes every step.)
-fn goes_on_from(rt: &(impl Abort + AllocGlobal + Threads + Sync), stop: &str) -> Result<(), Fail> {
+fn goes_on_from(
+    rt: &(impl Abort + AllocGlobal + Threads + Wait + Sync),
+    stop: &str,
+) -> Result<(), Fail> {
     for budget in (0..4).chain((4..100_000).step_by(683)) {
         if stop_at(rt, stop, budget)? {
             must_hold(rt, 1 < budget, "it takes steps");
@@ -66,7 +70,7 @@ fn goes_on_from(rt: &(impl Abort + AllocGlobal + Threads + Sync), stop: &str) ->
 }
 
 /// Does so by both chances.
-fn goes_on_from_stops(rt: &(impl Abort + AllocGlobal + Threads + Sync)) -> Result<(), Fail> {
+fn goes_on_from_stops(rt: &(impl Abort + AllocGlobal + Threads + Wait + Sync)) -> Result<(), Fail> {
     for stop in &STOPS {
         goes_on_from(rt, stop)?;
     }

@@ -4,6 +4,7 @@ use crate::harness::{make, must_hold};
 use crate::session::{Table, ends_as_told, has_told_words, played, plays};
 use line_memory::ConstantChance;
 use std::process::Abort;
+use std::sync::Wait;
 use std::test::Fail;
 use std::thread::Threads;
 use tool_ports::{Chances, MapStore, OpenGate};
@@ -122,7 +123,7 @@ const SEEDS: [(&str, u64); 8] = [
 
 /// Makes a call as it tells, and answers what its chances were given and gave.
 fn record(
-    rt: &(impl Abort + AllocGlobal + Threads + Sync),
+    rt: &(impl Abort + AllocGlobal + Threads + Wait + Sync),
     images: &mut MapStore,
     turn: &str,
 ) -> Result<Recorder, Fail> {
@@ -135,7 +136,7 @@ fn record(
 
 /// Makes a call on the heap, which gives its chances the seed once.
 fn gives_the_seed(
-    rt: &(impl Abort + AllocGlobal + Threads + Sync),
+    rt: &(impl Abort + AllocGlobal + Threads + Wait + Sync),
     turn: &str,
     seed: u64,
 ) -> Result<(), Fail> {
@@ -188,7 +189,7 @@ const CLOSED: &str = "run h --workers 2
 >* run closed";
 
 /// Gives each call's chances the seed.
-fn give_the_seeds(rt: &(impl Abort + AllocGlobal + Threads + Sync)) -> Result<(), Fail> {
+fn give_the_seeds(rt: &(impl Abort + AllocGlobal + Threads + Wait + Sync)) -> Result<(), Fail> {
     for (turn, seed) in &SEEDS {
         gives_the_seed(rt, turn, *seed)?;
     }
@@ -196,7 +197,7 @@ fn give_the_seeds(rt: &(impl Abort + AllocGlobal + Threads + Sync)) -> Result<()
 }
 
 /// Makes both runs, one behind the other: what crashes asks for a word for each, a close for none.
-fn numbers_words(rt: &(impl Abort + AllocGlobal + Threads + Sync)) -> Result<(), Fail> {
+fn numbers_words(rt: &(impl Abort + AllocGlobal + Threads + Wait + Sync)) -> Result<(), Fail> {
     let mut images = played(rt, "3")?;
     for (turn, words) in [(CRASHED, 27), (CLOSED, 0)] {
         must_hold(rt, record(rt, &mut images, turn)?.words == words, turn);

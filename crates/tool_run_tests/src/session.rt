@@ -27,6 +27,7 @@ use crate::images::image_bytes;
 use crate::turn::{behind, first_behind, first_line, nth_number, numbers, replaced};
 use std::alloc::{AllocError, Global};
 use std::process::Abort;
+use std::sync::Wait;
 use std::test::Fail;
 use std::thread::Threads;
 use tool_ports::{FailedPut, ImageStore, MapStore};
@@ -119,7 +120,7 @@ pub fn has_told_words(images: &MapStore, turn: &str) -> Result<bool, Fail> {
 
 /// Makes a call of a session, which ends and leaves an image as it tells.
 fn take_turn(
-    rt: &(impl Abort + AllocGlobal + Threads + Sync),
+    rt: &(impl Abort + AllocGlobal + Threads + Wait + Sync),
     images: &mut MapStore,
     turn: &str,
 ) -> Result<(), Fail> {
@@ -132,7 +133,7 @@ fn take_turn(
 
 /// Makes the calls of a session over the store.
 pub fn play(
-    rt: &(impl Abort + AllocGlobal + Threads + Sync),
+    rt: &(impl Abort + AllocGlobal + Threads + Wait + Sync),
     images: &mut MapStore,
     session: &str,
 ) -> Result<(), Fail> {
@@ -187,7 +188,7 @@ fn is_left_as_told(alloc: Global, images: &MapStore, head: &str) -> Result<bool,
 
 /// Plays a session, and answers the store that it leaves.
 pub fn played(
-    rt: &(impl Abort + AllocGlobal + Threads + Sync),
+    rt: &(impl Abort + AllocGlobal + Threads + Wait + Sync),
     session: &str,
 ) -> Result<MapStore, Fail> {
     let head = session.split("\n$ ").next().unwrap_or("");
@@ -197,8 +198,18 @@ pub fn played(
     Ok(images)
 }
 
+/// The call that shows what the last run of a session left, as that run tells it. A run itself takes
+/// the keys that it tells from its replies, and not from the image.
+pub fn show_of(alloc: Global, session: &str) -> Result<String, Fail> {
+    let (_, report) = session.rsplit_once("> run closed\n").ok_or("no report")?;
+    Ok(format!(in alloc; "\n$ show h\n{report}")?)
+}
+
 /// Plays the sessions of a text.
-fn play_each(rt: &(impl Abort + AllocGlobal + Threads + Sync), text: &str) -> Result<(), Fail> {
+fn play_each(
+    rt: &(impl Abort + AllocGlobal + Threads + Wait + Sync),
+    text: &str,
+) -> Result<(), Fail> {
     for session in text.split("\n@") {
         played(rt, session)?;
     }
@@ -210,7 +221,7 @@ pub type Table = (&'static str, &'static [(&'static str, &'static str)]);
 
 /// Plays the sessions of each table.
 pub fn plays(
-    rt: &(impl Abort + AllocGlobal + Threads + Sync),
+    rt: &(impl Abort + AllocGlobal + Threads + Wait + Sync),
     tables: &[Table],
 ) -> Result<(), Fail> {
     for (text, pairs) in tables {

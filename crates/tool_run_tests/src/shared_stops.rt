@@ -4,6 +4,7 @@ use crate::harness::{make_numbered, must_hold, word_at};
 use crate::session::{image_in, played};
 use std::alloc::{AllocError, Global};
 use std::process::Abort;
+use std::sync::Wait;
 use std::test::Fail;
 use std::thread::Threads;
 use tool_ports::{ImageStore, MapStore};
@@ -87,7 +88,7 @@ fn long_value(alloc: Global) -> Result<String, AllocError> {
 
 /// What a run prints, with the name of the long value in its place.
 fn printed_by(
-    rt: &(impl AllocGlobal + Threads + Sync),
+    rt: &(impl AllocGlobal + Threads + Wait + Sync),
     images: &mut MapStore,
     turn: &str,
     long: &str,
@@ -149,7 +150,7 @@ fn keeps_others(left: &[u8], before: &[u8]) -> bool {
 
 /// Stops a run at this step. The answer is whether it was stopped.
 fn stop_run(
-    rt: &(impl Abort + AllocGlobal + Threads + Sync),
+    rt: &(impl Abort + AllocGlobal + Threads + Wait + Sync),
     images: &mut MapStore,
     before: &[u8],
     long: &str,
@@ -163,7 +164,7 @@ fn stop_run(
 
 /// Runs all requests on what a stop left.
 fn run_again(
-    rt: &(impl Abort + AllocGlobal + Threads + Sync),
+    rt: &(impl Abort + AllocGlobal + Threads + Wait + Sync),
     images: &mut MapStore,
     long: &str,
     budget: u64,
@@ -176,7 +177,7 @@ fn run_again(
 /// Stops a run at this step, over the image, and runs all requests on what it left. The answer is
 /// whether it was stopped.
 fn stop_at(
-    rt: &(impl Abort + AllocGlobal + Threads + Sync),
+    rt: &(impl Abort + AllocGlobal + Threads + Wait + Sync),
     images: &mut MapStore,
     image: &[u8],
     long: &str,
@@ -190,7 +191,7 @@ fn stop_at(
 
 /// Stops a run at each 37th step, until it isn't stopped.
 fn stop_at_each(
-    rt: &(impl Abort + AllocGlobal + Threads + Sync),
+    rt: &(impl Abort + AllocGlobal + Threads + Wait + Sync),
     images: &mut MapStore,
     image: &[u8],
 ) -> Result<(), Fail> {
@@ -204,7 +205,7 @@ fn stop_at_each(
 }
 
 /// Does so over the image that is left before.
-fn stops(rt: &(impl Abort + AllocGlobal + Threads + Sync)) -> Result<(), Fail> {
+fn stops(rt: &(impl Abort + AllocGlobal + Threads + Wait + Sync)) -> Result<(), Fail> {
     let mut images = played(rt, BEFORE)?;
     let image = Vec::from_slice(rt.alloc(), image_in(&images))?;
     stop_at_each(rt, &mut images, &image)

@@ -2,6 +2,7 @@
 use crate::harness::{make_numbered, make_turn, must_hold};
 use crate::session::{image_in, play, played};
 use std::process::Abort;
+use std::sync::Wait;
 use std::test::Fail;
 use std::thread::Threads;
 use tool_ports::{ImageStore, MapStore};
@@ -91,7 +92,7 @@ fn seen_in(printed: &str) -> Result<usize, Fail> {
 
 /// Stops the put at this step: which of the four is printed.
 fn stop_put(
-    rt: &(impl AllocGlobal + Threads + Sync),
+    rt: &(impl AllocGlobal + Threads + Wait + Sync),
     images: &mut MapStore,
     stop: &str,
     budget: u64,
@@ -102,7 +103,7 @@ fn stop_put(
 
 /// Stops the put at this step, over the image, and does it on what is left.
 fn put_twice(
-    rt: &(impl Abort + AllocGlobal + Threads + Sync),
+    rt: &(impl Abort + AllocGlobal + Threads + Wait + Sync),
     images: &mut MapStore,
     image: &[u8],
     stop: &str,
@@ -125,7 +126,7 @@ fn next_step(budget: u64, each: u64, apart: u64) -> u64 {
 /// Stops the put at one step after the other until it is closed: the old value is there up to some
 /// step, and from there on the new one.
 fn replaces_at_one_step(
-    rt: &(impl Abort + AllocGlobal + Threads + Sync),
+    rt: &(impl Abort + AllocGlobal + Threads + Wait + Sync),
     images: &mut MapStore,
     image: &[u8],
     (stop, apart): (&str, u64),
@@ -187,7 +188,7 @@ fn answered(text: &str) -> usize {
 
 /// Runs the requests behind so many first ones on what a stop left.
 fn runs_rest(
-    rt: &(impl Abort + AllocGlobal + Threads + Sync),
+    rt: &(impl Abort + AllocGlobal + Threads + Wait + Sync),
     images: &mut MapStore,
     count: usize,
 ) -> Result<(), Fail> {
@@ -202,7 +203,7 @@ fn runs_rest(
 
 /// Stops a run of the requests at this step: how many are answered. Where it is closed, all are.
 fn stop_requests(
-    rt: &(impl Abort + AllocGlobal + Threads + Sync),
+    rt: &(impl Abort + AllocGlobal + Threads + Wait + Sync),
     images: &mut MapStore,
     budget: u64,
 ) -> Result<(usize, bool), Fail> {
@@ -216,7 +217,7 @@ fn stop_requests(
 /// Stops a run of the requests at this step, over the image, and runs those left unanswered on what
 /// is left. The answer is whether none was.
 fn go_on(
-    rt: &(impl Abort + AllocGlobal + Threads + Sync),
+    rt: &(impl Abort + AllocGlobal + Threads + Wait + Sync),
     images: &mut MapStore,
     image: &[u8],
     budget: u64,
@@ -229,7 +230,7 @@ fn go_on(
 
 /// Goes on from one step after the other, until no request is left.
 fn goes_on_from_each(
-    rt: &(impl Abort + AllocGlobal + Threads + Sync),
+    rt: &(impl Abort + AllocGlobal + Threads + Wait + Sync),
     images: &mut MapStore,
     image: &[u8],
 ) -> Result<(), Fail> {
@@ -245,7 +246,7 @@ fn goes_on_from_each(
 
 /// Replaces the value at one step, over the image that is left before.
 fn replaces(
-    rt: &(impl Abort + AllocGlobal + Threads + Sync),
+    rt: &(impl Abort + AllocGlobal + Threads + Wait + Sync),
     stop: (&str, u64),
 ) -> Result<(), Fail> {
     let mut images = played(rt, BEFORE)?;
@@ -254,7 +255,7 @@ fn replaces(
 }
 
 /// Goes on from each step over that image.
-fn goes_on(rt: &(impl Abort + AllocGlobal + Threads + Sync)) -> Result<(), Fail> {
+fn goes_on(rt: &(impl Abort + AllocGlobal + Threads + Wait + Sync)) -> Result<(), Fail> {
     let mut images = played(rt, BEFORE)?;
     let image = Vec::from_slice(rt.alloc(), image_in(&images))?;
     goes_on_from_each(rt, &mut images, &image)
