@@ -59,6 +59,18 @@ fn tell_unanswered(replies: &mut Vec<Reply>, requests: usize) -> Result<(), Allo
     Ok(())
 }
 
+/// Whether a request of the trace moves a value, for which a run by one seat has no place.
+fn has_a_move(requests: &[Request]) -> bool
+    ensures { result ≡ false → has_move (requests_of requests.now) ≡ false }
+{
+    for request in requests {
+        if let Request::Move(_, _) = request {
+            return true;
+        }
+    }
+    false
+}
+
 /// Runs the requests over a recovered heap, with a budget of so many steps.
 fn run_requests<G: Gate, C: Chances>(
     alloc: Global,
@@ -105,7 +117,7 @@ fn run_requests<G: Gate, C: Chances>(
 }
 
 /// Runs the trace over what recovery makes of the image, with a budget of so many steps. The gate
-/// is told of each request.
+/// is told of each request. A trace that moves a value is refused.
 pub fn run_text<G: Gate>(
     alloc: Global,
     image: &[u64],
@@ -117,6 +129,9 @@ pub fn run_text<G: Gate>(
 {
     let heap = recover_dictionary(alloc, image)?.heap;
     let requests = parse_trace(alloc, text.as_bytes())?;
+    if has_a_move(&requests) {
+        return Err("the trace moves a value".into());
+    }
     let chances = &mut SeededChances::new();
     run_requests(alloc, heap, &requests, budget, gate, chances)
 }

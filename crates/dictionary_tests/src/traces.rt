@@ -19,6 +19,10 @@ get 18446744073709551615; => get 18446744073709551615;
 del 18446744073709551615 => del 18446744073709551615;
 get 10;get 9;get 10; => get 10;get 9;get 10;
 del 3498;put 2531 3738; => del 3498;put 2531 3738;
+move 1 2; => move 1 2;
+move 0 0 => move 0 0;
+move 18446744073709551615 0;move 0 18446744073709551615 => move 18446744073709551615 0;move 0 18446744073709551615;
+put 0 aa;move 0 9;get 9; => put 0 aa;move 0 9;get 9;
 ";
 
 #[test]
@@ -70,9 +74,30 @@ put - - => bad line 1
 del => bad line 1
 del - => bad line 1
 del 1 aa => bad line 1
+move => bad line 1
+move  => bad line 1
+move 1 => bad line 1
+move 1  => bad line 1
+move 1 2 3 => bad line 1
+move 1  2 => bad line 1
+move  1 2 => bad line 1
+move 1 2  => bad line 1
+ move 1 2 => bad line 1
+move\t1 2 => bad line 1
+move 1\t2 => bad line 1
+move 01 2 => bad line 1
+move 1 02 => bad line 1
+move 1 -2 => bad line 1
+move 1 - => bad line 1
+move 1 aa => bad line 1
+move 18446744073709551616 2 => bad line 1
+move 1 18446744073709551616 => bad line 1
+Move 1 2 => bad line 1
+moves 1 2 => bad line 1
 put 1 aa;get 1;put 5 abc; => bad line 3
 put 1 aa;get 1;put 5 abc;get => bad line 3
-get 1;get 2;get 3; move 1 2; => bad line 4
+get 1;get 2;get 3;move 1; => bad line 4
+move 1 2;move 3 4;move 5;move 6 => bad line 3
 ";
 
 #[test]
