@@ -5,6 +5,8 @@
 #[cfg(test)]
 mod alone;
 #[cfg(test)]
+mod early;
+#[cfg(test)]
 mod exchange;
 #[cfg(test)]
 mod letters;
