@@ -1,9 +1,6 @@
 """Traces at random, for the tools that hold the program against a second reading. A request is
 ("put", key, value), ("get", key), ("del", key) or ("move", key, other key)."""
 
-# whether half of the traces have moves; false as long as the program refuses them
-MOVES = False
-
 SHORT_LENGTHS = [0, 1, 7, 8, 9, 40, 232, 1000, 4000, 14312, 14313, 20000, 65512, 65513, 131072]
 LONG_LENGTHS = [0, 1, 8, 9, 40, 232, 4000, 14312, 14313, 65512, 65513, 131072]
 
@@ -54,9 +51,8 @@ def requests(chance, names, keys, lengths, count, room):
 
 
 def with_moves(chance, trace):
-    """Half of the time the trace with moves among its requests, most of keys that are likely there.
-    Always as it is without `MOVES`."""
-    if not MOVES or chance.random() < 0.5:
+    """Half of the time the trace with moves among its requests, most of keys that are likely there."""
+    if chance.random() < 0.5:
         return trace
     keys, there, mixed = [request[1] for request in trace], set(), []
     rate = chance.choice([0.05, 0.2, 0.5])
