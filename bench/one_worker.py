@@ -18,7 +18,7 @@ import tempfile
 from process import shared_memory
 from scratch import build
 from stops import can_stop, place_of
-from workers import OURS, RUN_JOBS, SIZES, TOOL, Store, make_traces
+from workers import OURS, RUN_ROWS, SIZES, TOOL, Store, make_traces
 
 
 def run_for_one(program, requests, superblocks, trace):
@@ -52,7 +52,7 @@ def tell(series, requests):
 def main(runs="15", requests="100000"):
     if not can_stop():
         sys.exit("no process can be stopped here")
-    requests, place, program = int(requests), place_of(TOOL, RUN_JOBS), build("timed_one_worker.txt")
+    requests, place, program = int(requests), place_of(TOOL, RUN_ROWS), build("timed_one_worker.txt")
     with tempfile.TemporaryDirectory(dir=shared_memory()) as folder:
         room = pathlib.Path(folder)
         traces = make_traces(room, requests)

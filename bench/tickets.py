@@ -21,7 +21,7 @@ import tempfile
 
 from process import shared_memory
 from stops import can_stop, place_of
-from workers import OURS, RUN_JOBS, SIZES, TOOL, WORKERS, Store, make_traces
+from workers import OURS, RUN_ROWS, SIZES, TOOL, WORKERS, Store, make_traces
 
 # Of a lost exchange: that of the look at the word, and its own.
 TICKETS_OF_A_LOSS = 2
@@ -89,7 +89,7 @@ def main(runs="9", requests="100000"):
     requests = int(requests)
     if not can_stop():
         sys.exit("no process can be stopped here")
-    place, one = place_of(TOOL, RUN_JOBS), {min(os.sched_getaffinity(0))}
+    place, one = place_of(TOOL, RUN_ROWS), {min(os.sched_getaffinity(0))}
     with tempfile.TemporaryDirectory(dir=shared_memory()) as folder:
         room = pathlib.Path(folder)
         traces = make_traces(room, requests)

@@ -31,7 +31,7 @@ WORKERS = (1, 2, 4, 8)
 SEED = "7"
 CUT_TO = 8
 # The call that has the workers of a run do their work, from the first worker's begin to the last one's end.
-RUN_JOBS = "std::thread::fork::run_jobs"
+RUN_ROWS = "run_rows::rows::run_rows"
 METRICS = ("whole", "net", "requests", "cpu")
 OURS = "heap_tool"
 PEERS = {"libpmemobj": "peer_pmemobj", "LMDB": "peer_lmdb", "plain map": "peer_mem"}
@@ -87,7 +87,7 @@ class Store:
 def place_of_work():
     """The place of the call; none, which is told, where no process can be stopped there."""
     if can_stop():
-        return place_of(TOOL, RUN_JOBS)
+        return place_of(TOOL, RUN_ROWS)
     print("no process can be stopped here: the requests alone of heap_tool are left out")
     return None
 
