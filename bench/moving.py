@@ -1,10 +1,10 @@
 #!/usr/bin/env python3
 """Times a move beside a get, a del and a put of the same value, by 1, 2 and 4 workers, with values of 64 bytes and of 64 KiB.
 
-Each request is asked once of each of COUNT keys, over a heap that several runs have filled, and that is as it was before
-each call. A moved key goes to the next shard, so all shards send and receive. What is told is the time of the call that
-has the workers make tables, work off their requests and bring in what they sent each other (stops.py stops the process
-there), less that call on an empty trace, by request: the median of RUNS.
+Each request is asked once of each of COUNT keys, or of as many as a trace has room for, over a heap that several runs have filled, and that is as it was before
+each call. A moved key goes to the next shard, so all shards send and receive. What is told is the time of the calls that
+have the workers make tables, work off their requests and bring in what they sent each other (stops.py stops the process
+there), less those calls on an empty trace, by request: the median of RUNS.
 
 usage: moving.py [RUNS [COUNT]]      (make comes first)
 """
@@ -16,11 +16,12 @@ import sys
 import tempfile
 
 from process import shared_memory
-from stops import call_of, can_stop, place_of
-from workers import RUN_ROWS, TOOL
+from stops import calls_of, can_stop, places_of
+from workers import RUN_JOBS, TOOL
 
 LENGTHS, WORKERS = (64, 65536), (1, 2, 4)
 OTHER_KEYS = 8 * 10**6 + 1
+LONGEST_TRACE = 1 << 24
 
 
 def run(image, trace, workers=4):
@@ -30,51 +31,59 @@ def run(image, trace, workers=4):
         sys.exit(f"no room: {told}")
 
 
-def traces(count, length):
-    """The traces by the name of their request."""
+def lines(count, length):
+    """The requests by their names."""
     value = "ab" * length
     return {
-        "get": "".join(f"get {key}\n" for key in range(count)),
-        "del": "".join(f"del {key}\n" for key in range(count)),
-        "put": "".join(f"put {key} {value}\n" for key in range(count)),
-        "move": "".join(f"move {key} {key + OTHER_KEYS}\n" for key in range(count)),
+        "get": [f"get {key}\n" for key in range(count)],
+        "del": [f"del {key}\n" for key in range(count)],
+        "put": [f"put {key} {value}\n" for key in range(count)],
+        "move": [f"move {key} {key + OTHER_KEYS}\n" for key in range(count)],
     }
+
+
+def in_traces(requests):
+    """The requests, cut into traces that are short enough."""
+    most = LONGEST_TRACE // max(map(len, requests))
+    return [requests[at : at + most] for at in range(0, len(requests), most)]
 
 
 def fill(image, count, asked):
     """A heap with all keys, of which each was put, replaced, taken out and put again."""
-    superblocks = 64 + 3 * count
+    superblocks = 64 + 8 * count
     subprocess.run([TOOL, "format", str(image), str(min(superblocks, 4096))], check=True, stdout=subprocess.DEVNULL)
     for name in ("put", "put", "del", "put"):
-        run(image, asked[name])
+        for requests in in_traces(asked[name]):
+            run(image, "".join(requests))
 
 
-def time_of(place, room, trace, workers, runs):
+def time_of(places, room, trace, workers, runs):
     """Nanoseconds of the call, the median of so many, each on the heap as it was filled."""
     (room / "trace").write_text(trace)
     spent = []
     for _ in range(runs):
         shutil.copy(room / "filled", room / "h")
         words = [TOOL, "run", str(room / "h"), "--workers", str(workers), "--sum"]
-        spent.append(call_of(place, words, str(room / "trace"))[0])
+        spent.append(calls_of(places, words, str(room / "trace"))[0])
     return statistics.median(spent)
 
 
-def main(runs="5", count="1000"):
+def main(runs="5", count="500"):
     runs, count = int(runs), int(count)
     if not can_stop():
         sys.exit("no process can be stopped here")
-    place = place_of(TOOL, RUN_ROWS)
+    places = places_of(TOOL, RUN_JOBS)
     print("nanoseconds a request\n| bytes | request | " + " | ".join(f"{n} workers" for n in WORKERS) + " |")
     print("|---|---|" + "---|" * len(WORKERS))
     with tempfile.TemporaryDirectory(dir=shared_memory()) as folder:
         room = pathlib.Path(folder)
         for length in LENGTHS:
-            asked = traces(count, length)
+            asked = lines(count, length)
             fill(room / "filled", count, asked)
-            empty = {n: time_of(place, room, "", n, runs) for n in WORKERS}
-            for name, trace in asked.items():
-                cells = [(time_of(place, room, trace, n, runs) - empty[n]) / count for n in WORKERS]
+            empty = {n: time_of(places, room, "", n, runs) for n in WORKERS}
+            for name, requests in asked.items():
+                first = in_traces(requests)[0]
+                cells = [(time_of(places, room, "".join(first), n, runs) - empty[n]) / len(first) for n in WORKERS]
                 print(f"| {length} | {name} | " + " | ".join(f"{cell:,.0f}" for cell in cells) + " |", flush=True)
 
 

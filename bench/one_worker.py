@@ -17,8 +17,8 @@ import tempfile
 
 from process import shared_memory
 from scratch import build
-from stops import can_stop, place_of
-from workers import OURS, RUN_ROWS, SIZES, TOOL, Store, make_traces
+from stops import can_stop, places_of
+from workers import OURS, RUN_JOBS, SIZES, TOOL, Store, make_traces
 
 
 def run_for_one(program, requests, superblocks, trace):
@@ -52,7 +52,7 @@ def tell(series, requests):
 def main(runs="15", requests="100000"):
     if not can_stop():
         sys.exit("no process can be stopped here")
-    requests, place, program = int(requests), place_of(TOOL, RUN_ROWS), build("timed_one_worker.txt")
+    requests, places, program = int(requests), places_of(TOOL, RUN_JOBS), build("timed_one_worker.txt")
     with tempfile.TemporaryDirectory(dir=shared_memory()) as folder:
         room = pathlib.Path(folder)
         traces = make_traces(room, requests)
@@ -62,7 +62,7 @@ def main(runs="15", requests="100000"):
         series = {size: [] for size in SIZES}
         for _ in range(int(runs)):
             for size, store in stores.items():
-                ours = store.nanoseconds_of_requests(place, 1, traces[size])
+                ours = store.nanoseconds_of_requests(places, 1, traces[size])
                 series[size].append((ours, run_for_one(program, requests, size, traces[size])[0]))
     print(f"nanoseconds a request, medians of {runs} runs that take turns; {requests:,} requests; load {os.getloadavg()[0]:.1f}")
     tell(series, requests)

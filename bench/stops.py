@@ -1,7 +1,7 @@
-"""What one call of a function takes in a program as it was built, and what the memory of its process has when it ends.
+"""What calls of a function take in a program as it was built, and what the memory of its process has when they have ended.
 
-By ptrace, on Linux with x86-64: the process is stopped where the function is entered for the first time, and where that
-call returns. In between it runs as ever; the threads that it makes are not looked at.
+By ptrace, on Linux with x86-64: the process is stopped where each form of the function is entered for the first time, and
+where that call returns. In between it runs as ever; the threads that it makes are not looked at.
 """
 import ctypes
 import os
@@ -75,21 +75,24 @@ class Process:
         ptrace(GETREGS, self.number, ctypes.addressof(found))
         return found
 
-    def go_to(self, at):
-        """Runs on until it comes to this place, and tells the nanoseconds that this took."""
-        was = self.read(at, 1)
-        os.pwrite(self.memory, BREAKPOINT, at)
+    def go_to(self, places):
+        """Runs on until it comes to one of these places, and tells which, and the nanoseconds that this took."""
+        was = {at: self.read(at, 1) for at in places}
+        for at in places:
+            os.pwrite(self.memory, BREAKPOINT, at)
         begun = time.monotonic_ns()
         ptrace(CONT, self.number)
         self.wait()
         ended = time.monotonic_ns()
-        os.pwrite(self.memory, was, at)
+        for at, byte in was.items():
+            os.pwrite(self.memory, byte, at)
         registers = self.registers()
-        if registers[PLACE] != at + len(BREAKPOINT):
+        found = registers[PLACE] - len(BREAKPOINT)
+        if found not in was:
             raise OSError(f"a stop at another place: {self.words}")
-        registers[PLACE] = at
+        registers[PLACE] = found
         ptrace(SETREGS, self.number, ctypes.addressof(registers))
-        return ended - begun
+        return found, ended - begun
 
     def end(self):
         """Runs on to its end, which is to have status 0."""
@@ -107,14 +110,14 @@ class Process:
                 yield [int(place, 16) for place in region.split("-")]
 
 
-def place_of(program, function):
-    """Where the function begins in the program's file, by the name that nm tells. There is one, of whatever types."""
+def places_of(program, function):
+    """Where the function's forms begin in the program's file, one for each choice of its types, by the names that nm tells."""
     told = subprocess.run(["nm", program], check=True, capture_output=True, text=True).stdout
     symbols = [line.split(" ", 2) for line in told.splitlines()]
     places = [place for place, _, name in symbols if name == function or name.startswith(f"{function}::<")]
-    if len(places) != 1:
-        sys.exit(f"{program} has {len(places)} functions {function}")
-    return int(places[0], 16)
+    if not places:
+        sys.exit(f"{program} has no function {function}")
+    return [int(place, 16) for place in places]
 
 
 def base_of(process):
@@ -127,12 +130,16 @@ def base_of(process):
     return min(int(line.split("-")[0], 16) for line in lines if line.endswith(program))
 
 
-def call_of(place, words, stdin=os.devnull, stdout=os.devnull, look=None, processors=None):
-    """Runs the process, and tells the nanoseconds of the first call of the function at this place of the program's file,
-    and what `look` finds in the process where the call returns."""
+def calls_of(places, words, stdin=os.devnull, stdout=os.devnull, look=None, processors=None):
+    """Runs the process, and tells the nanoseconds of the first call of each form of a function, together, by their places in
+    the program's file; and what `look` finds in the process where the last of them returns."""
     process = Process(words, stdin, stdout, processors)
-    process.go_to(base_of(process) + place)
-    spent = process.go_to(process.word(process.registers()[STACK]))
+    base, spent = base_of(process), 0
+    left = {base + place for place in places}
+    while left:
+        entered, _ = process.go_to(left)
+        left.discard(entered)
+        spent += process.go_to([process.word(process.registers()[STACK])])[1]
     found = look(process) if look else None
     process.end()
     return spent, found

@@ -20,8 +20,8 @@ import sys
 import tempfile
 
 from process import shared_memory
-from stops import can_stop, place_of
-from workers import OURS, RUN_ROWS, SIZES, TOOL, WORKERS, Store, make_traces
+from stops import can_stop, places_of
+from workers import OURS, RUN_JOBS, SIZES, TOOL, WORKERS, Store, make_traces
 
 # Of a lost exchange: that of the look at the word, and its own.
 TICKETS_OF_A_LOSS = 2
@@ -51,19 +51,19 @@ def tickets_in(process, head, length):
     return found.pop()
 
 
-def count(store, place, workers, trace, processors=None):
+def count(store, places, workers, trace, processors=None):
     """The tickets of a run."""
     store.make()
     with open(store.path, "rb") as image:
         head = image.read(HEAD)
     length = os.stat(store.path).st_size
     look = lambda process: tickets_in(process, head, length)
-    return store.run_with_stops(place, workers, trace, look=look, processors=processors)[1]
+    return store.run_with_stops(places, workers, trace, look=look, processors=processors)[1]
 
 
-def check(room, store, place, trace):
+def check(room, store, places, trace):
     """The tickets of one worker are the least budget that doesn't stop the run."""
-    tickets = count(store, place, 1, trace)
+    tickets = count(store, places, 1, trace)
     for budget, last in ((tickets, "run closed"), (tickets - 1, "run stopped")):
         store.run(1, trace, "--stop", str(budget), "--sum", stdout=str(room / "replies"))
         if last not in (room / "replies").read_text().splitlines():
@@ -89,18 +89,18 @@ def main(runs="9", requests="100000"):
     requests = int(requests)
     if not can_stop():
         sys.exit("no process can be stopped here")
-    place, one = place_of(TOOL, RUN_ROWS), {min(os.sched_getaffinity(0))}
+    places, one = places_of(TOOL, RUN_JOBS), {min(os.sched_getaffinity(0))}
     with tempfile.TemporaryDirectory(dir=shared_memory()) as folder:
         room = pathlib.Path(folder)
         traces = make_traces(room, requests)
         stores = {size: Store(OURS, room, size, TOOL) for size in SIZES}
         for size, store in stores.items():
-            check(room, store, place, traces[size])
+            check(room, store, places, traces[size])
         series = {}
         for _ in range(int(runs)):
             for size, workers in ((size, workers) for size in SIZES for workers in WORKERS):
                 for name, processors in (("all", None), ("one", one)):
-                    tickets = count(stores[size], place, workers, traces[size], processors)
+                    tickets = count(stores[size], places, workers, traces[size], processors)
                     series.setdefault((size, workers, name), []).append(tickets)
     print(f"medians of {runs} runs, the least and the most; {requests:,} requests; load {os.getloadavg()[0]:.1f}")
     tell(series, requests)

@@ -9,7 +9,7 @@ replies that differ from the plain map's.
 Three times are told, each by request, as medians of RUNS runs that take turns, each on a store made anew. whole: the
 process. net: that less the process on an empty trace. requests: from the beginning of the first request to the end of
 the last one, without reading, parsing, opening, closing and printing. The other stores tell that time themselves. Of
-heap_tool it is that of the call which has the workers do their work: stops.py stops the process there.
+heap_tool it is that of the calls which have the workers do their work, one for each row: stops.py stops the process there.
 
 usage: workers.py [RUNS [FILE [REQUESTS]]]      (make comes first; FILE gets what plot_workers.py draws)
 """
@@ -22,7 +22,7 @@ import sys
 import tempfile
 
 from process import shared_memory, took
-from stops import call_of, can_stop, place_of
+from stops import calls_of, can_stop, places_of
 from suite import programs
 
 TOOL = str(pathlib.Path(__file__).resolve().parent.parent / "bin" / "heap_tool")
@@ -30,8 +30,8 @@ SIZES = (256, 16)
 WORKERS = (1, 2, 4, 8)
 SEED = "7"
 CUT_TO = 8
-# The call that has the workers of a run do their work, from the first worker's begin to the last one's end.
-RUN_ROWS = "run_rows::rows::run_rows"
+# The calls that have the workers of a run do their work, one for each row: tables, requests and what arrives.
+RUN_JOBS = "std::thread::fork::run_jobs"
 METRICS = ("whole", "net", "requests", "cpu")
 OURS = "heap_tool"
 PEERS = {"libpmemobj": "peer_pmemobj", "LMDB": "peer_lmdb", "plain map": "peer_mem"}
@@ -59,24 +59,24 @@ class Store:
         self.make()
         return took(self.words(workers, *more), str(trace), stdout, stderr=self.told)[:2]
 
-    def run_with_stops(self, place, workers, trace, **how):
+    def run_with_stops(self, places, workers, trace, **how):
         """The nanoseconds of the workers' work, and what is looked for behind it, on a store made anew."""
         self.make()
-        return call_of(place, self.words(workers), str(trace), **how)
+        return calls_of(places, self.words(workers), str(trace), **how)
 
-    def nanoseconds_of_requests(self, place, workers, trace):
+    def nanoseconds_of_requests(self, places, workers, trace):
         if self.name == OURS:
-            return self.run_with_stops(place, workers, trace)[0]
+            return self.run_with_stops(places, workers, trace)[0]
         self.run(workers, trace, "--stats")
         return int(re.search(r"inner_ns=(\d+)", pathlib.Path(self.told).read_text())[1])
 
-    def measure(self, place, workers, trace, requests):
+    def measure(self, places, workers, trace, requests):
         """Nanoseconds by request, by metric."""
         whole, cpu = self.run(workers, trace)
         empty, _ = self.run(workers, os.devnull)
         found = {"whole": whole * 1e6, "net": (whole - empty) * 1e6, "cpu": cpu * 1e6}
-        if place or self.name != OURS:
-            found["requests"] = self.nanoseconds_of_requests(place, workers, trace)
+        if places or self.name != OURS:
+            found["requests"] = self.nanoseconds_of_requests(places, workers, trace)
         return {metric: found[metric] / requests for metric in METRICS if metric in found}
 
     def replies(self, room, workers, trace, requests):
@@ -84,10 +84,10 @@ class Store:
         return (room / "replies").read_text().split("\n")[:requests]
 
 
-def place_of_work():
-    """The place of the call; none, which is told, where no process can be stopped there."""
+def places_of_work():
+    """The places of the calls; none, which is told, where no process can be stopped there."""
     if can_stop():
-        return place_of(TOOL, RUN_ROWS)
+        return places_of(TOOL, RUN_JOBS)
     print("no process can be stopped here: the requests alone of heap_tool are left out")
     return None
 
@@ -132,7 +132,7 @@ def tell(path, medians):
 
 
 def main(runs="9", path=None, requests="100000"):
-    requests, place = int(requests), place_of_work()
+    requests, places = int(requests), places_of_work()
     with tempfile.TemporaryDirectory(dir=shared_memory()) as folder:
         room = pathlib.Path(folder)
         peers, traces = programs(room), make_traces(room, requests)
@@ -145,7 +145,7 @@ def main(runs="9", path=None, requests="100000"):
             for workers in WORKERS:
                 for size in SIZES:
                     for store in stores[size]:
-                        for metric, value in store.measure(place, workers, traces[size], requests).items():
+                        for metric, value in store.measure(places, workers, traces[size], requests).items():
                             series.setdefault((size, store.name, workers, metric), []).append(value)
     print(f"medians of {runs} runs, {requests:,} requests; load {os.getloadavg()[0]:.1f}")
     tell(path, {key: statistics.median(values) for key, values in series.items()})
