@@ -1,6 +1,7 @@
 -- What the rule says of an opened heap, and of its first seat.
-use Rattle.std.proofs.Common.{◌≡◌, ℕ, ◌<◌, ◌≤◌, List, [], ◌∷◌, ◌++◌, refl, sym, subst}
-use Rattle.std.proofs.lemmas.List.{append-nil}
+use Rattle.std.proofs.Common.{◌≡◌, ℕ, ◌<◌, ◌≤◌, List, [], ◌∷◌, ◌++◌, length, refl, sym, subst, ap, ◌∙◌}
+use lib.ListN.{take}
+use Rattle.std.proofs.lemmas.List.{append-nil, take_at}
 use Rattle.heap_model.specs.Rest.{IsReady}
 use Rattle.core_model.specs.Opening.{AreOwners}
 use Rattle.core_model.specs.Sound.{Sound}
@@ -28,6 +29,10 @@ opened_keeps o words ready owners few low are = record {
 pub both_parts : (group : SeatViews) → first_view group ++ other_views group ≡ group
 both_parts [] = refl
 both_parts (v ∷ group) = refl
+
+-- the table's words begin with the heap's
+pub front_is : (words table shown : List ℕ) → table ≡ words ++ (words ++ (0 ∷ [])) → shown ≡ words → take (length shown) table ≡ words
+front_is words table shown are same = ap (take (length shown)) are ∙ take_at words (words ++ (0 ∷ [])) (length shown) (sym (ap length same))
 
 -- the key of the table, which is made of the same parts, is the opening
 pub same_opening : (key o : Opening) → key.words ≡ o.words → key.held ≡ o.held → key.block_owners ≡ o.block_owners → key.root_owners ≡ o.root_owners → key.seats ≡ o.seats → key.budget ≡ o.budget → key ≡ o

@@ -100,9 +100,9 @@ fn part(
     requires inside { from + length ≤ slots_len closed.now.words }
     ensures { IfOk result (λ v. v.items ≡ take length (drop from (slots_items closed.now.words))) }
 {
-    let mut words = Vec::new(alloc);
+    let mut words = Vec::with_capacity(alloc, length)?;
     for i in 0..length {
-        words.push(closed.word(from + i))?;
+        words.push_reserved(closed.word(from + i));
     }
     Ok(words)
 }

@@ -43,16 +43,18 @@ pub fn open_table(
     let table_words = opened_table(alloc, &heap)?;
     let block_owners = Vec::from_slice(alloc, owners.held())?;
     let root_owners = Vec::from_slice(alloc, owners.roots())?;
-    let (words, held) = heap.into_parts();
+    let length = heap.words().len();
+    let (_, held) = heap.into_parts();
     let key = OpenedHeap {
-        words,
+        table_words,
+        length,
         held,
         block_owners,
         root_owners,
         seats,
         budget,
     };
-    let (table, dealer) = Table::of_words(alloc, table_words.as_slice(), &key)?;
+    let (table, dealer) = Table::of_words(alloc, key.table_words.as_slice(), &key)?;
     Ok((Shared { table }, dealer))
 }
 

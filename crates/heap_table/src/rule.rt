@@ -17,11 +17,13 @@ impl Model for Known {
     ghost view = { λ _. [] };
 }
 
-/// A heap at rest that is opened for some seats: its words and its held blocks, whose each held
-/// block and each root is, and the budget of tickets.
+/// A heap at rest that is opened for some seats: the words that its table is made of, which begin
+/// with the `length` words of the heap, and its held blocks; whose each held block and each root
+/// is, and the budget of tickets. It has no copy of the heap's words beside the table's.
 #[derive(Drop)]
 pub struct OpenedHeap {
-    pub words: Vec<u64>,
+    pub table_words: Vec<u64>,
+    pub length: usize,
     pub held: Vec<Block>,
     pub block_owners: Vec<u32>,
     pub root_owners: Vec<u32>,
@@ -30,12 +32,13 @@ pub struct OpenedHeap {
 }
 
 impl Model for OpenedHeap {
+    ghost use lib.ListN.{take};
     ghost use Rattle.heap_table.specs.Rule.{Opening};
 
     ghost Value = { Opening };
 
     ghost view = { λ a. record {
-      words = a.words.items;
+      words = take a.length a.table_words.items;
       held = a.held.items;
       block_owners = a.block_owners.items;
       root_owners = a.root_owners.items;
