@@ -1,5 +1,6 @@
 #!/usr/bin/env python3
 """Times a move beside a get, a del and a put of the same value, by 1, 2 and 4 workers, with values of 64 bytes and of 64 KiB.
+Values of 64 bytes are timed once more where their nodes lie as far apart as pages, as those of 64 KiB do.
 
 Each request is asked once of each of COUNT keys, or of as many as a trace has room for, over a heap that several runs have filled, and that is as it was before
 each call. A moved key goes to the next shard, so all shards send and receive. What is told is the time of the calls that
@@ -19,8 +20,10 @@ from process import shared_memory
 from stops import calls_of, can_stop, places_of
 from workers import RUN_JOBS, TOOL
 
-LENGTHS, WORKERS = (64, 65536), (1, 2, 4)
+WORKERS = 1, 2, 4
 OTHER_KEYS = 8 * 10**6 + 1
+# So many nodes of 64 bytes are put between two, and taken out: each node that stays has pages of its own.
+BETWEEN, FIRST_BETWEEN = 85, 8 * 10**7
 LONGEST_TRACE = 1 << 24
 
 
@@ -57,6 +60,18 @@ def fill(image, count, asked):
             run(image, "".join(requests))
 
 
+def fill_apart(image, count, asked):
+    """The same keys, each of which had others put behind it that are gone again."""
+    subprocess.run([TOOL, "format", str(image), "256"], check=True, stdout=subprocess.DEVNULL)
+    mixed, gone = [], []
+    for key, put in enumerate(asked["put"]):
+        others = [FIRST_BETWEEN + BETWEEN * key + i for i in range(BETWEEN)]
+        mixed += [put, *(f"put {other} {'cd' * 64}\n" for other in others)]
+        gone += [f"del {other}\n" for other in others]
+    for requests in (mixed, gone):
+        run(image, "".join(requests), 1)
+
+
 def time_of(places, room, trace, workers, runs):
     """Nanoseconds of the call, the median of so many, each on the heap as it was filled."""
     (room / "trace").write_text(trace)
@@ -68,6 +83,9 @@ def time_of(places, room, trace, workers, runs):
     return statistics.median(spent)
 
 
+ROWS = (64, fill, "64"), (64, fill_apart, "64, nodes apart"), (65536, fill, "65,536")
+
+
 def main(runs="5", count="500"):
     runs, count = int(runs), int(count)
     if not can_stop():
@@ -77,14 +95,14 @@ def main(runs="5", count="500"):
     print("|---|---|" + "---|" * len(WORKERS))
     with tempfile.TemporaryDirectory(dir=shared_memory()) as folder:
         room = pathlib.Path(folder)
-        for length in LENGTHS:
+        for length, filled, name_of_row in ROWS:
             asked = lines(count, length)
-            fill(room / "filled", count, asked)
+            filled(room / "filled", count, asked)
             empty = {n: time_of(places, room, "", n, runs) for n in WORKERS}
             for name, requests in asked.items():
                 first = in_traces(requests)[0]
                 cells = [(time_of(places, room, "".join(first), n, runs) - empty[n]) / len(first) for n in WORKERS]
-                print(f"| {length} | {name} | " + " | ".join(f"{cell:,.0f}" for cell in cells) + " |", flush=True)
+                print(f"| {name_of_row} | {name} | " + " | ".join(f"{cell:,.0f}" for cell in cells) + " |", flush=True)
 
 
 if __name__ == "__main__":
