@@ -9,8 +9,10 @@
 # make readings  checks the second readings of traces and runs by small cases that were worked out by hand; make compare and make soak begin with it
 # make kills   kills the program at random moments of a run, and counts which images and temporaries that leaves
 # make soak    runs random traces with one to eight workers for ten minutes (MINUTES), and holds each answer against a second reading; then threads that allocate and free at random, and threads that hand blocks round, for one minute each
+# make explore  makes out/explore.html: the put of docs/GUIDE.md that is cut off, with a slider over its stops, and why each leaves what it leaves
+# make explore-test  opens such a page in chromium, where there is one, and holds it against what the program prints
 # make clean   removes what these made
-.PHONY: all test demo check bench faults schedules readings compare kills soak clean
+.PHONY: all test demo check bench faults schedules readings compare kills soak explore explore-test clean
 
 all: bin/heap_tool
 
@@ -55,5 +57,12 @@ soak: bin/heap_tool readings
 	tools/seats 1
 	tools/hands 1
 
+explore: bin/heap_tool
+	mkdir -p out
+	tools/explore -o out/explore.html
+
+explore-test: bin/heap_tool
+	tools/explore_test
+
 clean:
-	rm -rf bin crates/*/out
+	rm -rf bin out crates/*/out
