@@ -23,12 +23,13 @@ class Browser:
 
     def __init__(self, folder, width=1120, height=900):
         heard, told = os.pipe(), os.pipe()
-        words = [program(), "--headless", "--no-sandbox", "--disable-gpu", "--disable-dev-shm-usage", "--hide-scrollbars",
-                 "--remote-debugging-pipe", f"--user-data-dir={folder}", f"--window-size={width},{height}", "about:blank"]
+        words = [program(), "--headless", "--no-sandbox", "--disable-gpu", "--disable-dev-shm-usage",
+                 "--hide-scrollbars", "--remote-debugging-pipe", f"--user-data-dir={folder}",
+                 f"--window-size={width},{height}", "about:blank"]
         # the browser reads from 3 and writes to 4
         pipes = f'exec "$@" 3<&{heard[0]} 4>&{told[1]}'
-        self.process = subprocess.Popen(["bash", "-c", pipes, "", *words], pass_fds=(heard[0], told[1]),
-                                        stdin=subprocess.DEVNULL, stdout=subprocess.DEVNULL, stderr=subprocess.DEVNULL)
+        none = {name: subprocess.DEVNULL for name in ("stdin", "stdout", "stderr")}
+        self.process = subprocess.Popen(["bash", "-c", pipes, "", *words], pass_fds=(heard[0], told[1]), **none)
         os.close(heard[0])
         os.close(told[1])
         self.to, self.back = heard[1], told[0]

@@ -56,10 +56,10 @@ class Reasons:
     def left_of(self, point):
         """Which node recovery finds under the key of a request under way."""
         name, key = point.request[0], point.key
-        if name == "get":
-            return f"The links to the node of key {key} were durable before."
         if point.node is None:
             return f"Recovery follows durable links, and none leads to a node of key {key}."
+        if name == "get":
+            return f"The links to the node of key {key} were durable before."
         if name != "put":
             return f"Recovery follows durable links, and one still leads to the node of key {key}."
         which = "new" if is_done(point) else "old"
@@ -101,20 +101,20 @@ class Reasons:
     def done(self, point):
         by = self.by_chance(point)
         if point.request[0] == "put":
-            return (f"Key {point.key} has {short(point.request[2])} already, though its put isn't answered: the link to "
-                    f"the new node is durable. {by}")
+            return (f"Key {point.key} has {short(point.request[2])} already, though its put isn't answered: the link "
+                    f"to the new node is durable.{by}")
         return (f"Key {point.key} is gone already, though the request isn't answered: the link past its node is "
-                f"durable. {by}")
+                f"durable.{by}")
 
     def by_chance(self, point):
-        """Whether it is chance that another seed did not have."""
+        """Whether it is chance, which another seed did not have."""
         if self.stop.workers > 1:
             return ""
-        found = [other.node(point.key)[0] is not None and other.node(point.key)[1] == self.reading.values.get(point.key)
-                 or other.node(point.key)[0] is None and point.node is None for other in self.stop.others()]
+        mine = self.left.node(point.key)[1]
+        found = [other.node(point.key)[1] == mine for other in self.stop.others()]
         if found and not all(found):
-            return "Chance wrote it back early: other seeds leave the old link here."
-        return "Each seed here leaves it, as behind its fence." if found else ""
+            return " Chance wrote it back early: other seeds leave the old link here."
+        return " Each seed here leaves it, as behind its fence." if found else ""
 
     def put_not_done(self, point):
         key, has = point.key, f"Key {point.key} is not there"
@@ -144,26 +144,22 @@ class Reasons:
 
     def map(self):
         """What recovery frees, and why."""
-        parts = []
+        parts, end = [], "was freed" if self.left.is_closed else "is reached by no root any more, so recovery frees it"
         for point in self.points:
-            if point.new and self.is_begun(point):
+            if point.new and self.durable(point)[0]:
                 where = told_block(self.reading.place(point.new[0]))
                 parts.append(f"The new node, {where}, is reached by no root, so recovery frees it.")
             if point.gone:
-                where = told_block(self.reading.place(point.gone))
-                parts.append(f"The old node, {where}, is reached by no root any more, so recovery frees it.")
+                parts.append(f"The old node, {told_block(self.reading.place(point.gone))}, {end}.")
         for d, what in list(self.marked.items())[:2]:
             parts.append(f"The file has superblock {d} as {what}, and no root reaches a block of it: recovery makes "
                          "it free.")
         count = len(self.reading.held)
-        kept = f"Recovery keeps the {count} {'block' if count == 1 else 'blocks'} that the roots reach."
+        blocks = f"{count} {'block' if count == 1 else 'blocks'}"
+        kept = f"Recovery keeps the {blocks} that the roots reach."
+        if self.left.is_closed:
+            kept = f"The heap holds {blocks}."
         return " ".join(dict.fromkeys(parts + [kept if count else "No root reaches a block."]))
-
-    def is_begun(self, point):
-        """Whether a word of the new node is durable that the block didn't have before."""
-        first, wanted = point.new
-        opening = self.stop.page.opening.words
-        return any(self.reading.words[at] != opening[at] for at in range(first + 1, first + len(wanted)))
 
     def became(self):
         """Why words became durable since the stop before."""
