@@ -21,7 +21,7 @@ def program():
 class Browser:
     """One page. What its console says is in `said`, and what it asks to load in `loaded`."""
 
-    def __init__(self, folder, width=1120, height=900):
+    def __init__(self, folder, width=1060, height=900):
         heard, told = os.pipe(), os.pipe()
         words = [program(), "--headless", "--no-sandbox", "--disable-gpu", "--disable-dev-shm-usage",
                  "--hide-scrollbars", "--remote-debugging-pipe", f"--user-data-dir={folder}",
@@ -113,7 +113,9 @@ class Browser:
         """Light or dark."""
         self.ask("Emulation.setEmulatedMedia", features=[{"name": "prefers-color-scheme", "value": scheme}])
 
-    def picture(self, path):
-        told = self.ask("Page.captureScreenshot", format="png")
+    def picture(self, path, height):
+        """The upper part of the page, so many pixels of it."""
+        clip = {"x": 0, "y": 0, "width": self.value("innerWidth"), "height": height, "scale": 1}
+        told = self.ask("Page.captureScreenshot", format="png", clip=clip, captureBeyondViewport=True)
         with open(path, "wb") as file:
             file.write(base64.b64decode(told["data"]))

@@ -3,7 +3,7 @@
 import json
 
 from crash_reasons import Reasons
-from crash_views import MOST_WORDS, Reading, changed, drawing, left_behind, told_change
+from crash_views import MOST_WORDS, NewNode, Reading, changed, drawing, left_behind, told_change
 from reference import BLOCKS, SIZES, held_lines, key_lines, map_lines, show
 from reference_runs import Answered, must, opening_of
 from reference_texts import lines_of, requests_of
@@ -125,17 +125,28 @@ class Point:
         self.gone = self.gone_node()
 
     def new_node(self):
-        """The node of a put that no root reaches yet, and the words that it is to have."""
-        value = self.request[2]
+        """The node of a put that no root reaches yet: its place, and its words beside those that it is
+        to have, of which none counts that was there before the run."""
+        value, first, reading = self.request[2], None, self.reading
         if self.stop.workers > 1:
-            first = self.reading.whole_node(self.key, value)
-            return first and (first, self.reading.node_words(first, value))
+            first = reading.whole_node(self.key, value)
+        elif later := self.later_stop():
+            first, reading = later.node(self.key)[0], later.reading()
+        if first is None:
+            return None
+        wanted, has = reading.node_words(first, value), self.reading.node_words(first, value)
+        was = self.stop.page.opening.node_words(first, value)
+        is_begun = any(now == to and now != old for now, to, old in zip(has, wanted, was))
+        return NewNode(reading.place(first), wanted, [is_begun and now == to for now, to in zip(has, wanted)])
+
+    def later_stop(self):
+        """The first later stop at which the key has the node of this put."""
         for later in self.stop.row[self.stop.at + 1:]:
             if later.replies[self.number] not in ("unanswered", "ok"):
                 return None
             first, found = later.node(self.key)
             if first != self.node:
-                return (first, later.reading().node_words(first, value)) if found == value else None
+                return later if found == self.request[2] else None
         return None
 
     def gone_node(self):

@@ -125,7 +125,7 @@ class Reasons:
                     "one.")
         if point.new is None:
             return f"{has}: no durable link leads to a new node yet."
-        durable, words = self.durable(point)
+        durable, words = sum(point.new.durable), len(point.new.words)
         if durable == words:
             return (f"{has}: the new node is whole and durable, but the link to it is not durable yet. It still leads "
                     f"to {'the old node' if point.node else 'what was there before'}.")
@@ -133,10 +133,6 @@ class Reasons:
             return f"{has}: of the new node no word is durable yet."
         return (f"{has}: of the {words} words of the new node only {durable} "
                 f"{'is' if durable == 1 else 'are'} durable, and no link leads to them.")
-
-    def durable(self, point):
-        drawn = point.drawing()["new"]
-        return drawn["durable"], drawn["words"]
 
     def arrival(self, point):
         return (f"Key {point.key} gets the value that moves from key {point.request[1]} only when all requests are "
@@ -146,8 +142,8 @@ class Reasons:
         """What recovery frees, and why."""
         parts, end = [], "was freed" if self.left.is_closed else "is reached by no root any more, so recovery frees it"
         for point in self.points:
-            if point.new and self.durable(point)[0]:
-                where = told_block(self.reading.place(point.new[0]))
+            if point.new and any(point.new.durable):
+                where = told_block(point.new.place)
                 parts.append(f"The new node, {where}, is reached by no root, so recovery frees it.")
             if point.gone:
                 parts.append(f"The old node, {told_block(self.reading.place(point.gone))}, {end}.")

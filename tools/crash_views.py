@@ -1,6 +1,7 @@
 """What the stops of a run left, for tools/explore: the program's text, and by reference.py what lies
 in the image. A place of a block is [superblock, index]."""
 
+import collections
 import functools
 import zlib
 
@@ -191,9 +192,12 @@ def left_behind(opening, reading):
     return {d: sorted(found) for d, found in sorted(places.items())}, marked
 
 
+# A node that no root reaches yet: its place, the words that it is to have, and which of them are durable.
+NewNode = collections.namedtuple("NewNode", "place words durable")
+
+
 def drawing(reading, key, new, gone):
-    """The way to a key's node. `new` is (first word, the words that it is to have) of a node that no
-    root reaches yet, and `gone` the first word of one that none reaches any more."""
+    """The way to a key's node; a new node; and the first word of one that no root reaches any more."""
     table, nodes = reading.table(key), reading.chain(key)
     mine = reading.nodes.get(key)
     told = {"key": str(key), "shard": shard_of(key), "bucket": reading.bucket(key),
@@ -202,7 +206,7 @@ def drawing(reading, key, new, gone):
     first = max(0, at + 1 - MOST_NODES)
     told["before"], told["mine"] = first, at - first if mine in nodes else None
     told["nodes"] = [old_node(reading, node) for node in nodes[first:first + MOST_NODES]]
-    told["new"] = new and new_node(reading, *new)
+    told["new"] = new and new_node(reading, new)
     told["gone"] = old_node(reading, gone) if gone else None
     return told
 
@@ -213,15 +217,11 @@ def old_node(reading, first):
     return {"place": reading.place(first), "key": str(key), "value": short(value)}
 
 
-def new_node(reading, first, wanted):
+def new_node(reading, new):
     """Its words, and whether each is durable."""
-    has = reading.words[first:first + len(wanted)]
-    value = to_bytes(wanted[3:])[:wanted[2]]
-    link = "null" if wanted[0] == 0 else told_word(reading, wanted[0])
-    rows = [["link", link, has[0] == wanted[0]], ["key", str(wanted[1]), has[1] == wanted[1]],
-            ["length", str(wanted[2]), has[2] == wanted[2]]]
-    if wanted[3:]:
-        rows.append(["value", short(value), has[3:] == wanted[3:]])
-    words = list(zip(has, wanted))
-    return {"place": reading.place(first), "rows": rows,
-            "durable": sum(one == other for one, other in words), "words": len(words)}
+    words, durable = new.words, new.durable
+    link = "null" if words[0] == 0 else told_word(reading, words[0])
+    rows = [["link", link, durable[0]], ["key", str(words[1]), durable[1]], ["length", str(words[2]), durable[2]]]
+    if words[3:]:
+        rows.append(["value", short(to_bytes(words[3:])[:words[2]]), all(durable[3:])])
+    return {"place": new.place, "rows": rows, "durable": sum(durable)}
