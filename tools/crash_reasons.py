@@ -171,7 +171,7 @@ class Reasons:
         if self.stop.stops[self.stop.at - 1] < self.stop.stop - 1:
             return f"Steps {{from}} to {{last}} made {told_words if count else 'no word'} durable."
         if count == 0:
-            return "Step {last} made no word durable: no crash tells whether it was done."
+            return "Step {last} made no word durable: a crash leaves the same as one step before."
         if count > 1:
             return (f"Step {{last}} is a fence: it made {told_words} durable at once, which had been stored and "
                     "written back.")
