@@ -24,6 +24,8 @@ class Reasons:
         if self.left.is_closed:
             return "The run ended by itself: all is durable, and the heap is closed."
         if not self.stop.run.pending:
+            if self.stop.run.arrivals:
+                return "All requests are answered, and what moves is brought to its keys."
             return "All requests are answered: every crash from here on leaves what they made."
         firsts = [self.in_short(point) for point in self.points if point.is_pending and point.key == point.request[1]]
         return " ".join(dict.fromkeys(firsts))
@@ -71,7 +73,7 @@ class Reasons:
             return "This is what the answered requests made" + (", with all that moved." if moves else ".")
         if moves:
             return ("This is what the answered requests made, and of the values that move those that arrived. "
-                    "The others are in no root's reach, and a crash loses them.")
+                    "The others are on their way: no root reaches them, and a crash loses them.")
         return ("This is what the answered requests made. A reply comes only behind the fence that makes the "
                 "request's link durable, so no crash takes it back.")
 
@@ -135,8 +137,16 @@ class Reasons:
                 f"{'is' if durable == 1 else 'are'} durable, and no link leads to them.")
 
     def arrival(self, point):
-        return (f"Key {point.key} gets the value that moves from key {point.request[1]} only when all requests are "
-                "answered.")
+        """What became of the other key of a move."""
+        key, source = point.key, point.request[1]
+        if point.is_pending:
+            return f"Key {key} gets the value that moves from key {source} only when all requests are answered."
+        if point.reply != "ok":
+            return self.answered(point)
+        if (key, self.reading.values.get(key)) in self.stop.run.arrivals:
+            return f"Key {key} has the value that moved from key {source}: it arrived behind all requests."
+        return (f"The value that moves from key {source} to key {key} is on its way: no durable link leads to its "
+                "node, so a crash loses it.")
 
     def map(self):
         """What recovery frees, and why."""
