@@ -5,7 +5,7 @@ import collections
 import functools
 import zlib
 
-from reference import BLOCKS, FIXED, FREE_HEAD, ROOTS, SIZES, SUPERBLOCK, USED, STATE, Image, offset_in, to_bytes
+from reference import FIXED, FREE_HEAD, ROOTS, SIZES, SUPERBLOCK, USED, STATE, Image, offset_in, to_bytes
 from reference_runs import SHARDS, node_bytes, shard_of
 
 BUCKETS = 128
