@@ -3,7 +3,7 @@
 # make demo    a first session with a program that was not proved, in a minute or two
 # make check   every check: the gate
 # make bench   times the program beside the system's tools and other stores, runs of traces, and the heaps, and draws it
-# make faults  refuses each request for memory of a small run in turn, and says how the runs ended
+# make faults  has calls of all commands fail: each get, put, read and write, and each request for memory, in turn; and real files, inputs and outputs; it says how they ended
 # make schedules  runs the schedules of docs/ALGORITHM.md, and compares their answers
 # make compare  holds the program against a second reading of the format, over damaged images, random traces and schedules, for a minute
 # make readings  checks the second readings of traces and runs by small cases that were worked out by hand; make compare and make soak begin with it
@@ -35,7 +35,7 @@ check:
 bench: bin/heap_tool
 	bench/all
 
-faults:
+faults: bin/heap_tool
 	tools/faults
 
 schedules: bin/heap_tool
