@@ -17,6 +17,7 @@ NOBODY = 65534
 WAIT = 120
 # How often it is tried to be there while an image is read.
 TRIES = 5
+WRITE_RULE = "a write that failed gives status 5, and a refusal keeps its own"
 
 
 @dataclass(frozen=True)
@@ -136,7 +137,7 @@ def must_have_put(files, row, plain, said):
 def full_device(files, row, plain):
     with open("/dev/full", "wb") as full:
         said = files.run(files.new_place(files.image(row)), row.words, row.input, stdout=full)
-    must(said.status == (row.status or 5), "a write that failed gives status 5, and a refusal keeps its own")
+    must(said.status == (row.status or 5), WRITE_RULE)
     must_have_put(files, row, plain, said)
     return [said.status]
 
@@ -144,7 +145,7 @@ def full_device(files, row, plain):
 def closed_output(files, row, plain):
     said = files.run(files.new_place(files.image(row)), row.words, row.input, stdout=subprocess.DEVNULL,
                      preexec_fn=lambda: os.close(1))
-    must(said.status == (row.status or 5), "a write that failed gives status 5, and a refusal keeps its own")
+    must(said.status == (row.status or 5), WRITE_RULE)
     must_have_put(files, row, plain, said)
     return [said.status]
 
@@ -159,7 +160,7 @@ def closed_pipe(files, row, plain):
             said = files.run(files.new_place(files.image(row)), row.words, row.input, stdout=out,
                              restore_signals=restored)
         ended = (row.status or 5, -signal.SIGPIPE) if restored else (row.status or 5,)
-        must(said.status in ended, "a write that failed gives status 5, and a refusal keeps its own")
+        must(said.status in ended, WRITE_RULE)
         must_have_put(files, row, plain, said)
         ends.append(said.status)
     return ends
@@ -176,7 +177,7 @@ def limited_output(files, row, plain):
                              restore_signals=False, preexec_fn=lambda: limit_size(most))
             out.seek(0)
             must(out.read() == plain.text[:most], "what was printed is a first part of the text")
-        must(said.status == (row.status or 5), "a write that failed gives status 5, and a refusal keeps its own")
+        must(said.status == (row.status or 5), WRITE_RULE)
         must_have_put(files, row, plain, said)
         ends.append(said.status)
     return ends
@@ -197,7 +198,7 @@ def must_be_unread(said, image, status=4):
 
 def unreadable_file(files, row, plain):
     if os.getuid():
-        files.left_out.append("a file that may not be read: that is tried by root alone, as another user")
+        files.left_out.append("a file that may not be read: root alone can try it, as another user")
         return []
     place = files.new_place(files.image(row))
     os.chmod(os.path.join(place, "h"), 0)
@@ -229,7 +230,8 @@ def odd_names(files, row, plain):
     ends = []
     for name in ("n" * 300, "h/h"):
         place = files.new_place(files.image(row))
-        said = files.run(place, " ".join(name if word == "h" else word for word in row.words.split()), row.input)
+        words = [name if word == "h" else word for word in row.words.split()]
+        said = files.run(place, " ".join(words), row.input)
         must_be_unread(said, files.image(row))
         ends.append(said.status)
     return ends
@@ -259,7 +261,8 @@ def shrinking_image(files, row, plain):
         most = cut_off(run, path)
         text = run.communicate(timeout=WAIT)[0]
         if most:
-            must(run.returncode == 7 and text == b"bad header length\n", f"an image that is cut off is malformed: {run.returncode}")
+            must((run.returncode, text) == (7, b"bad header length\n"),
+                 f"an image that is cut off is malformed: {run.returncode}")
             must(os.path.getsize(path) == most and os.listdir(place) == ["h"], "nothing is put")
             return [run.returncode]
     files.left_out.append(f"an image that shrinks, of {row.words}: it was read too fast")
@@ -324,7 +327,8 @@ def bad_input(files, row, given, before=None):
 
 def must_be_old(said, image, status=5):
     must(said.status == status, f"a put that failed gives status {status}: {said.status}")
-    must(status != 5 or said.text == (LINES[5] + "\n").encode(), "nothing of the result is printed, but the line")
+    must(status != 5 or said.text == (LINES[5] + "\n").encode(),
+         "nothing of the result is printed, but the line")
     must(said.image == image, "the image is the old one")
 
 
@@ -366,7 +370,7 @@ def small_device(files, row, plain):
 
 def folder_not_writable(files, row, plain):
     if os.getuid():
-        files.left_out.append("a folder that may not be written: that is tried by root alone, as another user")
+        files.left_out.append("a folder that may not be written: root alone can try it, as another user")
         return []
     said = files.run(files.new_place(files.image(row)), row.words, row.input, user=NOBODY)
     must_be_old(said, files.image(row))
@@ -392,7 +396,8 @@ def folder_in_its_place(files, row, plain):
     os.mkdir(os.path.join(place, "h"))
     said = files.run(place, row.words, row.input)
     must_be_old(said, None)
-    must(os.path.isdir(os.path.join(place, "h")) and not said.others, "the folder stays, and no other file is left")
+    must(os.path.isdir(os.path.join(place, "h")), "the folder stays")
+    must(not said.others, "no other file is left")
     return [said.status]
 
 

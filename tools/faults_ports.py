@@ -40,17 +40,15 @@ class Ended:
 
     def leaves_as(self, plain):
         """Threads may get other blocks each time, and then the report alone is the same."""
-        return self.image == plain.image or "old" not in (self.image, plain.image) and self.shown == plain.shown
+        are_new = "old" not in (self.image, plain.image)
+        return self.image == plain.image or are_new and self.shown == plain.shown
 
 
 def ended(line):
-    place, status, calls, failed, behind, image, cut, text, shown = line.split("\t")
-
-    def counts(field):
-        return dict(zip(("get", "put", "read", "write"), map(int, field.split())))
-
-    return Ended(place, int(status), counts(calls), counts(failed), counts(behind), image, int(cut),
-                 text.replace("/", "\n"), shown)
+    place, status, *tallies, image, cut, text, shown = line.split("\t")
+    calls, failed, behind = (dict(zip(("get", "put", "read", "write"), map(int, counts)))
+                             for counts in zip(*(tally.split() for tally in tallies)))
+    return Ended(place, int(status), calls, failed, behind, image, int(cut), text.replace("/", "\n"), shown)
 
 
 class Ports:
@@ -61,7 +59,8 @@ class Ports:
 
     def call(self, *words):
         done = subprocess.run([self.program, *words], cwd=self.folder, capture_output=True, check=False)
-        must(done.returncode == 0, f"the program ends by itself: {done.returncode} {done.stderr.decode()[:2000]}")
+        told = f"{done.returncode} {done.stderr.decode()[:2000]}"
+        must(done.returncode == 0, f"the program ends by itself: {words} {told}")
         return [ended(line) for line in done.stdout.decode().splitlines()]
 
     def words(self, row):
@@ -134,7 +133,8 @@ def judge_store(row, plain, one):
     must(one.text == LINES[5] + "\n", "nothing of the result is printed where it was not put, but the line")
     must(one.calls["put"] == 1, "a put that failed is not made again")
     is_new = one.place == "store-new"
-    must(one.leaves_as(plain) if is_new else one.image == "old", "the name has its old bytes or the new, as the store left it")
+    must(one.leaves_as(plain) if is_new else one.image == "old",
+         "the name has its old bytes or the new, as the store left it")
 
 
 def judge_read(_, __, one):
@@ -167,7 +167,8 @@ def judge_writes(_, plain, one):
     must(one.text == plain.text[:one.cut], "what was printed is a first part of the text")
     must(one.leaves_as(plain), "the image is put before the text is printed")
     must(one.status == (plain.status or 5), "a write that failed gives status 5, and a refusal keeps its own")
-    must(one.behind["write"] == int(plain.status == 0), "the line is tried once behind a failed write, and no line twice")
+    must(one.behind["write"] == int(plain.status == 0),
+         "the line is tried once behind a failed write, and no line twice")
 
 
 def judge_memory(plain, one, is_hit, place):

@@ -7,10 +7,15 @@ import sys
 TOOL = os.path.abspath(os.path.join(os.path.dirname(__file__), "..", "bin", "heap_tool"))
 
 
+def parser_of(told):
+    """It ends with a line of usage where the words are others, or with all that is told for --help."""
+    how = argparse.RawDescriptionHelpFormatter
+    return argparse.ArgumentParser(description=told, formatter_class=how)
+
+
 def words_of(told, *places):
-    """The words of the command line by their places, each a name, a type and what it is by default.
-    It ends with a line of usage where they are others, or with the whole help where that is asked."""
-    parser = argparse.ArgumentParser(description=told, formatter_class=argparse.RawDescriptionHelpFormatter)
+    """The words of the command line by their places, each a name, a type and what it is by default."""
+    parser = parser_of(told)
     for name, kind, default in places:
         parser.add_argument(name, type=kind, nargs="?", default=default)
     words = parser.parse_args()
