@@ -9,6 +9,8 @@ from faults_rows import LINES
 
 # More requests for memory than any call makes, and than are granted at all.
 NO_END = str(10**6)
+# The seconds after which a call is taken for one that doesn't return.
+WAIT = 600
 
 
 class Broken(Exception):
@@ -34,14 +36,14 @@ class Ended:
     text: str
     shown: str
 
-    def is_like(self, plain):
+    def is_like(self, row, plain):
         """Whether it answered and left what the call does of which nothing fails."""
-        return (self.status, self.text) == (plain.status, plain.text) and self.leaves_as(plain)
+        return (self.status, self.text) == (plain.status, plain.text) and self.leaves_as(row, plain)
 
-    def leaves_as(self, plain):
-        """Threads may get other blocks each time, and then the report alone is the same."""
-        are_new = "old" not in (self.image, plain.image)
-        return self.image == plain.image or are_new and self.shown == plain.shown
+    def leaves_as(self, row, plain):
+        """Whether it left that image. Threads may get other blocks each time: then it is shown alike."""
+        is_shown_alike = "old" not in (self.image, plain.image) and self.shown == plain.shown
+        return self.image == plain.image or row.workers > 1 and is_shown_alike
 
 
 def ended(line):
@@ -58,7 +60,8 @@ class Ports:
         self.program, self.folder = program, folder
 
     def call(self, *words):
-        done = subprocess.run([self.program, *words], cwd=self.folder, capture_output=True, check=False)
+        done = subprocess.run([self.program, *words], cwd=self.folder, capture_output=True,
+                              check=False, timeout=WAIT)
         told = f"{done.returncode} {done.stderr.decode()[:2000]}"
         must(done.returncode == 0, f"the program ends by itself: {words} {told}")
         return [ended(line) for line in done.stdout.decode().splitlines()]
@@ -69,13 +72,15 @@ class Ports:
     def fail_ports(self, row):
         """Each call of the outside fails. It gives the plain call, and what there is to be counted."""
         plain, *others = self.call("ports", *self.words(row))
-        judged(plain, row, lambda: judge_plain(row, plain))
+        judged(plain, row, "no failure", lambda: judge_plain(row, plain))
         found = collections.defaultdict(list)
         for other in others:
-            end = judged(other, row, lambda: RULES[other.place](row, plain, other))
-            kind = kind_of(other)
+            kind = KINDS.get(other.place, kind_of(other))
+            place = f"{kind} {len(found[kind])} ({other.place})"
+            end = judged(other, row, place, lambda: RULES[other.place](row, plain, other))
+            # (a get that failed leaves the store alone, so it is counted once)
             if (kind, other.place) != ("get", "store-new"):
-                found[KINDS.get(other.place, kind)].append(end)
+                found[kind].append(end)
         return plain, found
 
     def fail_memory(self, row, plain, pool):
@@ -87,7 +92,8 @@ class Ports:
         def refuse(place):
             one = self.call("memory", str(granted - place), str(place + 2), *words)[0]
             is_hit = int(one.place.split()[2]) == place + 2
-            return judged(one, row, lambda: judge_memory(plain, one, is_hit, place)) if is_hit else None
+            told = f"request for memory {place}"
+            return judged(one, row, told, lambda: judge_memory(row, plain, one)) if is_hit else None
 
         ends = list(pool.map(refuse, range(granted - behind + 2)))
         places = [end for end in ends if end]
@@ -99,12 +105,13 @@ def kind_of(one):
     return next((kind for kind, count in one.failed.items() if count), "nothing")
 
 
-def judged(one, row, judge):
+def judged(one, row, place, judge):
     """How it ended, once it is judged."""
     try:
         judge()
     except Broken as rule:
-        raise Broken(f"{rule}\n  {row.words}, image {row.file()}, {one.place}\n  it came to {one}") from None
+        told = f"{row.words}, image {row.file()}, what failed: {place}"
+        raise Broken(f"{rule}\n  {told}\n  it came to {one}") from None
     return f"status {one.status}"
 
 
@@ -117,9 +124,9 @@ def judge_plain(row, plain):
     must(bool(plain.calls["read"]) == row.reads, "the input is read for a run and a replay alone")
 
 
-def judge_short(_, plain, one):
+def judge_short(row, plain, one):
     must(kind_of(one) == "nothing", "nothing fails that was not told to")
-    must(one.is_like(plain), "short counts change nothing")
+    must(one.is_like(row, plain), "short counts change nothing")
 
 
 def judge_store(row, plain, one):
@@ -133,7 +140,7 @@ def judge_store(row, plain, one):
     must(one.text == LINES[5] + "\n", "nothing of the result is printed where it was not put, but the line")
     must(one.calls["put"] == 1, "a put that failed is not made again")
     is_new = one.place == "store-new"
-    must(one.leaves_as(plain) if is_new else one.image == "old",
+    must(one.leaves_as(row, plain) if is_new else one.image == "old",
          "the name has its old bytes or the new, as the store left it")
 
 
@@ -150,10 +157,10 @@ def judge_read_fault(one):
     must(one.image == "old", "the store holds what it held at status 4")
 
 
-def judge_write(_, plain, one):
+def judge_write(row, plain, one):
     must(one.failed["write"] == 1, "the write is made")
     must(plain.text.startswith(one.text[:one.cut]), "what was printed is a first part of the text")
-    must(one.leaves_as(plain), "the image is put before the text is printed")
+    must(one.leaves_as(row, plain), "the image is put before the text is printed")
     if plain.status:
         must(one.status == plain.status, "a status stays where its line can't be printed")
         must(len(one.text) == one.cut and one.behind["write"] == 0, "no line is tried twice")
@@ -162,22 +169,21 @@ def judge_write(_, plain, one):
     must(one.text[one.cut:] == LINES[5] + "\n", "behind a failed write only the line is printed")
 
 
-def judge_writes(_, plain, one):
+def judge_writes(row, plain, one):
     must(one.failed["write"] >= 1, "the write is made")
     must(one.text == plain.text[:one.cut], "what was printed is a first part of the text")
-    must(one.leaves_as(plain), "the image is put before the text is printed")
+    must(one.leaves_as(row, plain), "the image is put before the text is printed")
     must(one.status == (plain.status or 5), "a write that failed gives status 5, and a refusal keeps its own")
     must(one.behind["write"] == int(plain.status == 0),
          "the line is tried once behind a failed write, and no line twice")
 
 
-def judge_memory(plain, one, is_hit, place):
-    must(is_hit, f"request {place} is refused")
+def judge_memory(row, plain, one):
     if one.status == 3 and plain.status != 3:
         must(one.text == LINES[3] + "\n", "the line of status 3 is printed")
         must(one.image == "old", "the store holds what it held at status 3")
         return
-    must(one.is_like(plain), "a call without this memory ends with 3, or as one with it")
+    must(one.is_like(row, plain), "a call without this memory ends with 3, or as one with it")
 
 
 KINDS = {"writes": "write, and all behind"}
