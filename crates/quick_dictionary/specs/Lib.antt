@@ -1,1 +1,2 @@
 pub mod OrderlyDictionary
+pub mod Examples
