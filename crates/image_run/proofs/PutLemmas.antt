@@ -1,10 +1,12 @@
 -- Bytes that stand for words, and that what a run puts can be run again.
-use Rattle.std.proofs.Common.{◌≡◌, ◌*◌, ◌/◌, ℕ, List, Some, None, length, slice_index, sym, subst, ap, ◌∙◌, arith}
+use Rattle.std.proofs.Common.{◌≡◌, ◌↔◌, ◌*◌, ◌/◌, ℕ, List, false, Some, None, length, slice_index, sym, subst, ap, ◌∙◌, arith}
 use Rattle.std.proofs.lemmas.Grind.{same_number_lists}
+use Rattle.heap_model.specs.declared.block.Block.{Block}
 use Rattle.heap_model.specs.Geometry.{version, version_word}
 use Rattle.heap_model.specs.Image.{Image, image_of_bytes}
 use Rattle.heap_model.specs.Header.{header_fault, first_kinds}
 use Rattle.heap_model.proofs.ImageLemmas.{length-words_from, get_or-words_from}
+use Rattle.orderly_image.specs.Orderly.{IsOrderly, IsHeldByAnchors}
 use Rattle.dict_model.specs.Links.{kind_count}
 use Rattle.dict_model.specs.Requests.{Request}
 use Rattle.run_model.specs.Opened.{HasMaps, CanBeRun}
@@ -13,7 +15,7 @@ use Rattle.worker_run.proofs.AgainLemmas.{can_be_run}
 use Rattle.region_header.specs.Words.{AreWordsOf}
 use Rattle.region_header.specs.Migration.{current_words}
 use Rattle.region_header.proofs.MigrationLemmas.{current_of_new}
-use Rattle.image_run.specs.Reporting.{fault_of, words_in_bytes, image_in, PointsOutside}
+use Rattle.image_run.specs.Reporting.{fault_of, words_in_bytes, image_in, IsKept, PointsOutside}
 use Rattle.image_run.specs.Running.{Options, RunsRequests}
 
 -- bytes are read as the image of the words that they stand for
@@ -56,3 +58,13 @@ module _ (image : Image) (requests : List Request) (options : Options) (put text
 
   pub put_maps : HasMaps (image_in put)
   put_maps = put_again.maps
+
+  -- where the run wasn't stopped, its own anchors tell what is reached
+  pub put_orderly : runs.stopped ≡ false → IsOrderly (Some kind_count) (length put) (image_in put) × ((b : Block) → IsHeldByAnchors (image_in put) b ↔ IsKept (image_in put) b)
+  put_orderly closed =
+      let same = sym (image_in_words runs.left put runs.words_are left_again.version_is) in
+      let left : IsOrderly (Some kind_count) (length put) (slice_index runs.left) =
+      subst (λ n. IsOrderly (Some kind_count) n (slice_index runs.left)) runs.words_are.count (runs.leaves.orderly.orderly closed) in (
+        subst (λ (i : Image). IsOrderly (Some kind_count) (length put) i) same left,
+        subst (λ (i : Image). (b : Block) → IsHeldByAnchors i b ↔ IsKept i b) same (runs.leaves.orderly.exact closed),
+      )

@@ -1,5 +1,5 @@
 //! What follows of runs, rebuilds and replays, as functions with nothing to run.
-ghost use Rattle.std.specs.Prelude.{◌≡◌, ◌≢◌, ℕ, ◌+◌, ◌%◌, ◌<◌, ◌≤◌, true, false, List, Some, None, length, slice_index};
+ghost use Rattle.std.specs.Prelude.{◌≡◌, ◌≢◌, ◌↔◌, ℕ, ◌+◌, ◌%◌, ◌<◌, ◌≤◌, true, false, List, Some, None, length, slice_index};
 ghost use Rattle.std.specs.BTreeMap.{BTreeMap};
 ghost use Rattle.heap_model.specs.declared.block.Block.{Block};
 ghost use Rattle.heap_model.specs.Geometry.{start_word, superblocks_end};
@@ -7,6 +7,7 @@ ghost use Rattle.heap_model.specs.Image.{Image};
 ghost use Rattle.heap_model.specs.Durability.{IsCrashImage};
 ghost use Rattle.heap_model.specs.Header.{capacity_of, used_of};
 ghost use Rattle.heap_recover.specs.InPlace.{RecoversAlike};
+ghost use Rattle.orderly_image.specs.Orderly.{IsOrderly, IsHeldByAnchors};
 ghost use Rattle.core_model.specs.declared.answer.StepAnswer.{StepAnswer};
 ghost use Rattle.core_model.specs.declared.event.Event.{Event};
 ghost use Rattle.dict_model.specs.Links.{dict_links, kind_count, shards};
@@ -18,7 +19,7 @@ ghost use Rattle.run_model.specs.Arrivals.{IsWholeMap};
 ghost use Rattle.run_model.specs.OneMap.{NoneIsFull, IsAsOneThread};
 ghost use Rattle.run_model.specs.Opened.{HasMaps};
 ghost use Rattle.worker_run.specs.Said.{replies_of};
-ghost use Rattle.image_run.specs.Reporting.{fault_of, image_in, PointsOutside, Recovers};
+ghost use Rattle.image_run.specs.Reporting.{fault_of, image_in, IsKept, PointsOutside, Recovers};
 ghost use Rattle.image_run.specs.Running.{Options, RunsRequests};
 ghost use Rattle.image_run.specs.Rebuilding.{IsLeftBySteps, Rebuilds};
 ghost use Rattle.image_run.specs.Replaying.{IsReplayed, Replays, LeavesOutside};
@@ -35,7 +36,9 @@ pub fn a_run_over_what_recovery_leaves_is_one_over_the_image()
 {}
 
 /// What a run over an image whose shards are maps puts is accepted by the next run: its bytes are
-/// not malformed, nothing in it is outside, and each of its shards is a map.
+/// not malformed, nothing in it is outside, and each of its shards is a map. Where the run isn't
+/// stopped, the image tells by its own anchors what it holds, which is what its roots reach: so it
+/// can be opened without a trace, and `count` prints `quick` of it.
 pub fn what_a_run_puts_can_be_run_again()
     ensures well_formed { (image : Image) (requests : List Request) (options : Options)
         (put text : List ℕ) → HasMaps image → RunsRequests image requests options put text
@@ -46,6 +49,11 @@ pub fn what_a_run_puts_can_be_run_again()
     ensures maps { (image : Image) (requests : List Request) (options : Options)
         (put text : List ℕ) → HasMaps image → RunsRequests image requests options put text
         → HasMaps (image_in put) }
+    ensures orderly { (image : Image) (requests : List Request) (options : Options)
+        (put text : List ℕ) → HasMaps image → (run : RunsRequests image requests options put text)
+        → run.stopped ≡ false
+        → IsOrderly (Some kind_count) (length put) (image_in put)
+        × ((b : Block) → IsHeldByAnchors (image_in put) b ↔ IsKept (image_in put) b) }
 {}
 
 /// A run that isn't stopped leaves the superblocks that are not taken in the image that it puts as
