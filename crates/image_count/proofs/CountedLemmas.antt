@@ -22,7 +22,8 @@ use Rattle.image_run.specs.Reporting.{IsKept, Recovers, shown_text}
 use Rattle.image_count.specs.Telling.{IsOrderlyImage, TellsOpened, by_anchors, traced, way_line}
 
 -- lines of numbers that are the same each are the same together
-same_lines : (f g : ℕ → List ℕ) (from count : ℕ) → ((d : ℕ) → from ≤ d → d < from + count → f d ≡ g d) → flat_map f (range_with_len from count) ≡ flat_map g (range_with_len from count)
+same_lines : (f g : ℕ → List ℕ) (from count : ℕ) → ((d : ℕ) → from ≤ d → d < from + count → f d ≡ g d)
+    → flat_map f (range_with_len from count) ≡ flat_map g (range_with_len from count)
 same_lines f g from zero same = refl
 same_lines f g from (suc count) same =
     ap (λ line. line ++ flat_map f (range_with_len (from + 1) count)) (same from (omega arith) (omega arith))
@@ -44,7 +45,14 @@ module _ (old new left : Image) (kept other : Block → Type 0) (same : (b : Blo
     holds = holds_other d part.holds;
     spare = let spare = part.spare.1 in (
       part.spare.0,
-      record { index = spare.index; block = spare.block; is_block = spare.is_block; first = spare.first; unkept = λ is. spare.unkept ((same spare.block).1 is) },
+      record {
+        index = spare.index;
+        block = spare.block;
+        is_block = spare.is_block;
+        first = spare.first;
+        unkept = λ is. spare.unkept
+            ((same spare.block).1 is);
+      },
     );
   }
 
@@ -64,8 +72,10 @@ module _ (old new left : Image) (kept other : Block → Type 0) (same : (b : Blo
   info_by : (d : ℕ) → d < used_of old → Standing (layout_of old) kept d → new (info_word d) ≡ left (info_word d)
   info_by d taken (is_untaken past) = absurd (omega arith)
   info_by d taken (is_free free) = (opened.free d free).info_is ∙ sym (recovered.free d (free_other d free)).info_is
-  info_by d taken (is_partial class is part) = (opened.partial class d is part).info_is ∙ sym (recovered.partial class d is (partial_other class d part)).words.info_is
-  info_by d taken (is_fully_kept class is full) = (opened.full class d is full).info_is ∙ sym (recovered.full class d is (full_other class d full)).info_is
+  info_by d taken (is_partial class is part) = (opened.partial class d is part).info_is
+      ∙ sym (recovered.partial class d is (partial_other class d part)).words.info_is
+  info_by d taken (is_fully_kept class is full) = (opened.full class d is full).info_is
+      ∙ sym (recovered.full class d is (full_other class d full)).info_is
   info_by d taken (is_in_large large) = (opened.in_large d large).info_is ∙ sym (recovered.in_large d (large_other d large)).info_is
 
   module _ (held : List Block) (are : AreAscending (λ (b : Block). b.first_word) kept held) (free : List ℕ) where
@@ -84,7 +94,8 @@ module _ (old new left : Image) (kept other : Block → Type 0) (same : (b : Blo
         ∙ ap (λ capacity. line_by capacity d (left (info_word d))) capacity_same
 
     abbrev first_by : ℕ → ℕ → List ℕ
-    first_by used capacity = codes "used " ++ decimal used ++ codes " free " ++ decimal (length free) ++ codes " fresh " ++ decimal (capacity - used) ++ line_feed
+    first_by used capacity = codes "used " ++ decimal used ++ codes " free " ++ decimal (length free) ++ codes " fresh "
+        ++ decimal (capacity - used) ++ line_feed
 
     first_line : used_line new free ≡ used_line left free
     first_line = ap (λ used. first_by used (capacity_of new)) used_same ∙ ap (λ capacity. first_by (used_of left) capacity) capacity_same
@@ -104,7 +115,8 @@ module _ (words : List ℕ) (with_map : Bool) (text : List ℕ) (orderly : IsOrd
   abbrev image : Image
   image = slice_index words
 
-  one_text : (held' : List Block) (free' : List ℕ) (new : Image) → held' ≡ held → free' ≡ free → AreAscending (λ (b : Block). b.first_word) (IsHeldByAnchors (slice_index words)) held
+  one_text : (held' : List Block) (free' : List ℕ) (new : Image) → held' ≡ held → free' ≡ free
+      → AreAscending (λ (b : Block). b.first_word) (IsHeldByAnchors (slice_index words)) held
       → IsReopened (slice_index words) new (IsHeldByAnchors (slice_index words))
       → shown_text (slice_index words) with_map [] held' free' new ≡ shown_text (slice_index words) with_map [] held free left
   one_text held' free' new same_held same_free are opened =
@@ -115,8 +127,10 @@ module _ (words : List ℕ) (with_map : Bool) (text : List ℕ) (orderly : IsOrd
 
   pub told_as_recovered : TellsOpened words with_map text → text ≡ way_line ByAnchors ++ shown_text (slice_index words) with_map [] held free left
   told_as_recovered (by_anchors is told) =
-      let one_held = ascending_one (λ (b : Block). b.first_word) (IsHeldByAnchors image) (IsKept image) told.held held (λ b. (same b).0) (λ b. (same b).1) told.held_are recovers.held_are in
-      let one_free = ascending_one (λ d. d) (IsFreeSuperblock (layout_of image) (IsHeldByAnchors image)) (IsFreeSuperblock (layout_of image) (IsKept image)) told.free free
+      let one_held = ascending_one (λ (b : Block). b.first_word) (IsHeldByAnchors image) (IsKept image) told.held held (λ b. (same b).0)
+      (λ b. (same b).1) told.held_are recovers.held_are in
+      let one_free = ascending_one (λ d. d) (IsFreeSuperblock (layout_of image) (IsHeldByAnchors image))
+      (IsFreeSuperblock (layout_of image) (IsKept image)) told.free free
       (λ d is. record { taken = is.taken; empty = λ b k part. is.empty b ((same b).1 k) part })
       (λ d is. record { taken = is.taken; empty = λ b h part. is.empty b ((same b).0 h) part })
       told.free_are recovers.free_are in

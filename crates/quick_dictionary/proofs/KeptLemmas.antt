@@ -43,7 +43,8 @@ module _ (old new : Image) (keeps : KeepsReached old new) where
   traced_words _ (is_linked a from position kind at reached listed is) =
       let long = length-words_from old a.first_word a.words in
       let inside = are_inside.position from (words_in old a) position kind listed in
-      subst (λ w. new w ≡ old w) (sym is) (reached_words a from (a.first_word + position) reached (record { from = omega arith; until = omega arith }))
+      subst (λ w. new w ≡ old w) (sym is)
+      (reached_words a from (a.first_word + position) reached (record { from = omega arith; until = omega arith }))
 
   traced_alike : TracesAlike old new AnyRoot (kinds_of old) dict_links
   traced_alike = record {
@@ -69,7 +70,8 @@ module _ (old new : Image) (keeps : KeepsReached old new) where
   same_reach b = (λ r. record { kind = r.kind; reach = to_new b r.kind r.reach }, λ r. record { kind = r.kind; reach = to_old b r.kind r.reach })
 
   -- a word that a trace of the old image looks at leads outside in the new one no more than there
-  not_there : (at : ℕ) → IsTraced old (kinds_of old) dict_links at → ((b : Block) → Leads old (old at) b → IsReachedIn old dict_links b) → LeadsOutside new (new at) → ⊥
+  not_there : (at : ℕ) → IsTraced old (kinds_of old) dict_links at → ((b : Block) → Leads old (old at) b → IsReachedIn old dict_links b)
+      → LeadsOutside new (new at) → ⊥
   not_there at traced reaches out =
       let same = traced_words at traced in
       none_before at traced (record {
@@ -88,7 +90,8 @@ module _ (old new : Image) (keeps : KeepsReached old new) where
   none_left _ (is_root root at below chosen same) out =
       not_there at (is_root root at below chosen same) (λ b leads. record {
         kind = kinds_of old root;
-        reach = by_start b (kinds_of old root) (record { root = root; below = below; is_chosen = chosen; kind_is = refl; leads = subst (λ x. Leads old (old x) b) same leads });
+        reach = by_start b (kinds_of old root)
+            (record { root = root; below = below; is_chosen = chosen; kind_is = refl; leads = subst (λ x. Leads old (old x) b) same leads });
       }) out
   none_left _ (is_linked a from position kind at reached listed same) out =
       let before = to_old a from reached in
@@ -129,13 +132,15 @@ module _ (old new : Image) (keeps : KeepsReached old new) where
   same_map shard map below = (map_after shard map below, map_before shard map below)
 
   -- a superblock without a part of a reached block
-  free_after : (d : ℕ) → IsFreeSuperblock (layout_of old) (IsReachedIn old dict_links) d → IsFreeSuperblock (layout_of new) (IsReachedIn new dict_links) d
+  free_after : (d : ℕ) → IsFreeSuperblock (layout_of old) (IsReachedIn old dict_links) d
+      → IsFreeSuperblock (layout_of new) (IsReachedIn new dict_links) d
   free_after d free = record {
     taken = let same = same_used old new keeps.same in let taken = free.taken in omega arith;
     empty = λ b reached part. free.empty b ((same_reach b).1 reached) (subst (λ c. HasPartIn c b d) (same_capacity old new keeps.same) part);
   }
 
-  free_before : (d : ℕ) → IsFreeSuperblock (layout_of new) (IsReachedIn new dict_links) d → IsFreeSuperblock (layout_of old) (IsReachedIn old dict_links) d
+  free_before : (d : ℕ) → IsFreeSuperblock (layout_of new) (IsReachedIn new dict_links) d
+      → IsFreeSuperblock (layout_of old) (IsReachedIn old dict_links) d
   free_before d free = record {
     taken = let same = same_used old new keeps.same in let taken = free.taken in omega arith;
     empty = λ b reached part. free.empty b ((same_reach b).0 reached) (subst (λ c. HasPartIn c b d) (sym (same_capacity old new keeps.same)) part);
@@ -157,7 +162,8 @@ module _ (old new : Image) (keeps : KeepsReached old new) where
   }
 
   -- so recovery keeps the same of both
-  pub recovers_alike : (bytes : ℕ) → IsWellFormed bytes old → HasKindsBelow (Some kind_count) old → RecoversAlike (Some kind_count) bytes old new dict_links
+  pub recovers_alike : (bytes : ℕ) → IsWellFormed bytes old → HasKindsBelow (Some kind_count) old
+      → RecoversAlike (Some kind_count) bytes old new dict_links
   recovers_alike bytes formed below = record {
     formed = formed_after bytes formed;
     below = kinds_below below;

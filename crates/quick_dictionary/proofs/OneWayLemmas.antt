@@ -18,11 +18,13 @@ use Rattle.heap_recover.proofs.AscendingLemmas.{ascending_one}
 use Rattle.quick_recover.specs.Reopened.{IsReopened, IsReopenedAs}
 
 -- links along one list begin alike, and are the same at its members
-one_start : (link link' : ℕ → ℕ) (capacity from from' : ℕ) (ds : List ℕ) → Follows link capacity from ds → Follows link' capacity from' ds → from ≡ from'
+one_start : (link link' : ℕ → ℕ) (capacity from from' : ℕ) (ds : List ℕ) → Follows link capacity from ds → Follows link' capacity from' ds
+    → from ≡ from'
 one_start link link' capacity from from' [] along along' = along ∙ sym along'
 one_start link link' capacity from from' (d ∷ ds) along along' = along.0 ∙ sym along'.0
 
-one_link : (link link' : ℕ → ℕ) (capacity from from' : ℕ) (ds : List ℕ) (d : ℕ) → Follows link capacity from ds → Follows link' capacity from' ds → Contains ds d → link d ≡ link' d
+one_link : (link link' : ℕ → ℕ) (capacity from from' : ℕ) (ds : List ℕ) (d : ℕ) → Follows link capacity from ds → Follows link' capacity from' ds
+    → Contains ds d → link d ≡ link' d
 one_link link link' capacity from from' [] d along along' has = absurd (in_none d has)
 one_link link link' capacity from from' (e ∷ ds) d along along' has = elim (head_or_rest e d ds has) as (λ _. link d ≡ link' d) [
   | inl same ↦ subst (λ x. link x ≡ link' x) same (one_start link link' capacity (link e) (link' e) ds along.2 along'.2)
@@ -40,12 +42,15 @@ module _ (old new other : Image) (kept : Block → Type 0) (held : List Block) (
   -- lists and their links
   one_list : (list : ℕ) → list < lists → again.descriptors list ≡ is.descriptors list
   one_list list less =
-      ascending_one (λ d. d) (IsListed l kept list) (IsListed l kept list) (again.descriptors list) (is.descriptors list) (λ d h. h) (λ d h. h) (again.listed list less) (is.listed list less)
+      ascending_one (λ d. d) (IsListed l kept list) (IsListed l kept list) (again.descriptors list) (is.descriptors list) (λ d h. h) (λ d h. h)
+      (again.listed list less) (is.listed list less)
 
   listed_link : (list d : ℕ) → list < lists → IsListed l kept list d → other (link_word d) ≡ new (link_word d)
   listed_link list d less listed =
-      let along = subst (λ ds. Follows (λ e. other (link_word e)) (capacity_of old) (first_number ds) ds) (one_list list less) (again.links list less) in
-      one_link (λ e. other (link_word e)) (λ e. new (link_word e)) (capacity_of old) _ _ (is.descriptors list) d along (is.links list less) ((is.listed list less).complete d listed)
+      let along = subst (λ ds. Follows (λ e. other (link_word e)) (capacity_of old) (first_number ds) ds) (one_list list less)
+      (again.links list less) in
+      one_link (λ e. other (link_word e)) (λ e. new (link_word e)) (capacity_of old) _ _ (is.descriptors list) d along (is.links list less)
+      ((is.listed list less).complete d listed)
 
   unlisted_link : (d : ℕ) → d < capacity_of old → ((list : ℕ) → list < lists → IsListed l kept list d → ⊥) → other (link_word d) ≡ new (link_word d)
   unlisted_link d less none =
@@ -53,16 +58,19 @@ module _ (old new other : Image) (kept : Block → Type 0) (held : List Block) (
       ∙ sym (is.unlisted d less (λ list few has. none list few ((is.listed list few).sound d has)))
 
   in_no_list : (d : ℕ) → (d < l.used → ⊥) → (list : ℕ) → list < lists → IsListed l kept list d → ⊥
-  in_no_list d untaken list few listed = elim (listed_cases l kept list d few listed) as (λ _. ⊥) [ inl free ↦ untaken free.taken | inr part ↦ untaken part.1.taken ]
+  in_no_list d untaken list few listed = elim (listed_cases l kept list d few listed) as
+      (λ _. ⊥) [ inl free ↦ untaken free.taken | inr part ↦ untaken part.1.taken ]
 
   one_link_word : (d : ℕ) → d < capacity_of old → Standing l kept d → other (link_word d) ≡ new (link_word d)
   one_link_word d less (is_untaken past) = unlisted_link d less (in_no_list d (λ taken. omega arith))
   one_link_word d less (is_free free) = listed_link 0 d (omega arith) free
-  one_link_word d less (is_partial class is_class part) = listed_link class d (let last = is_class.last in omega arith) (partial_listed l kept class d is_class part)
-  one_link_word d less (is_fully_kept class is_class full) = unlisted_link d less (λ list few listed. elim (listed_cases l kept list d few listed) as (λ _. ⊥) [
-    | inl free ↦ let holds = full_holds l kept class d is_class full in free.empty holds.block holds.is_kept holds.part
-    | inr part ↦ full_not_partial l kept class list d full part.1
-  ])
+  one_link_word d less (is_partial class is_class part) = listed_link class d (let last = is_class.last in omega arith)
+      (partial_listed l kept class d is_class part)
+  one_link_word d less (is_fully_kept class is_class full) = unlisted_link d less
+      (λ list few listed. elim (listed_cases l kept list d few listed) as (λ _. ⊥) [
+        | inl free ↦ let holds = full_holds l kept class d is_class full in free.empty holds.block holds.is_kept holds.part
+        | inr part ↦ full_not_partial l kept class list d full part.1
+      ])
   one_link_word d less (is_in_large large) = unlisted_link d less (λ list few listed. elim (listed_cases l kept list d few listed) as (λ _. ⊥) [
     | inl free ↦ free.empty large.holds.block large.holds.is_kept large.holds.part
     | inr part ↦ large_not_partial l kept list d part.0 large part.1
@@ -94,7 +102,8 @@ module _ (old new other : Image) (kept : Block → Type 0) (held : List Block) (
   one_head word low high =
       let at : word ≡ head_word (word - 16) = omega arith in
       let few : word - 16 < lists = omega arith in
-      subst (λ w. other w ≡ new w) (sym at) (again.heads (word - 16) few ∙ ap first_number (one_list (word - 16) few) ∙ sym (is.heads (word - 16) few))
+      subst (λ w. other w ≡ new w) (sym at)
+      (again.heads (word - 16) few ∙ ap first_number (one_list (word - 16) few) ∙ sym (is.heads (word - 16) few))
 
   one_header : (word : ℕ) → word < 16 → other word ≡ new word
   one_header word low = elim (cases_eq word magic_word) as (λ _. other word ≡ new word) [
@@ -160,4 +169,5 @@ module _ (words : List ℕ) (kept : Block → Type 0) (quick other : Recovered) 
 
   pub one_words : other.heap.words ≡ quick.heap.words
   one_words = ext_get_or 0 other.heap.words quick.heap.words (again.long ∙ sym is.long)
-      (λ i below. one_word (slice_index words) (slice_index quick.heap.words) (slice_index other.heap.words) kept quick.heap.held is.held is.reopened again.reopened i)
+      (λ i below. one_word (slice_index words) (slice_index quick.heap.words)
+      (slice_index other.heap.words) kept quick.heap.held is.held is.reopened again.reopened i)

@@ -68,7 +68,8 @@ module _ (words : List ℕ) (is : IsOrderlyDictionary (8 * length words) (slice_
         record {
           same = opened.reopened.same;
           state = opened.reopened.state;
-          words = λ b word reached inside. word_stays image new kept quick.heap.held opened.held named opened.reopened b word ((held_reached b).1 reached) inside;
+          words = λ b word reached inside. word_stays image new kept quick.heap.held opened.held named opened.reopened b word
+              ((held_reached b).1 reached) inside;
           blocks = λ b reached. block_stays image new kept quick.heap.held opened.held named opened.reopened b ((held_reached b).1 reached);
           none = is.dictionary.nothing_outside;
         }
@@ -107,23 +108,27 @@ module _ (words : List ℕ) (is : IsOrderlyDictionary (8 * length words) (slice_
             same = made.recovered.same;
             state = made.recovered.state;
             words = λ b word reached inside. words_unchanged image new (kinds_of image) dict_links made.recovered b word reached inside;
-            blocks = λ b reached. same_there (layout_of image) (layout_of new) b (same_capacity image new made.recovered.same) (same_used image new made.recovered.same)
+            blocks = λ b reached. same_there (layout_of image) (layout_of new) b (same_capacity image new made.recovered.same)
+                (same_used image new made.recovered.same)
                 (λ d part. info_left image new kept traced.heap.held left b d reached part) (reached_is_block image b reached);
             none = is.dictionary.nothing_outside;
           }
 
-      both_maps : (shard : ℕ) (map : Map) → shard < shards → MapOf (slice_index quick.heap.words) shard map ↔ MapOf (slice_index traced.heap.words) shard map
+      both_maps : (shard : ℕ) (map : Map) → shard < shards
+          → MapOf (slice_index quick.heap.words) shard map ↔ MapOf (slice_index traced.heap.words) shard map
       both_maps shard map below =
           let there = same_map image (slice_index traced.heap.words) keeps_traced shard map below in
           let here = quick_map shard map below in
           (λ m. there.0 (here.1 m), λ m. here.0 (there.1 m))
 
       pub as_recovered : (quick.heap.held ≡ traced.heap.held) × (quick.free.items ≡ traced.free.items)
-          × ((shard : ℕ) (map : Map) → shard < shards → MapOf (slice_index quick.heap.words) shard map ↔ MapOf (slice_index traced.heap.words) shard map)
+          × ((shard : ℕ) (map : Map) → shard < shards
+          → MapOf (slice_index quick.heap.words) shard map ↔ MapOf (slice_index traced.heap.words) shard map)
       as_recovered = (
         ascending_one (λ (b : Block). b.first_word) (IsHeldByAnchors image) (IsReachedIn image dict_links) quick.heap.held traced.heap.held
             (λ b. (held_reached b).0) (λ b. (held_reached b).1) opened.held made.held,
-        ascending_one (λ d. d) (IsFreeSuperblock (layout_of image) (IsHeldByAnchors image)) (IsFreeSuperblock (layout_of image) (IsReachedIn image dict_links)) quick.free.items traced.free.items
+        ascending_one (λ d. d) (IsFreeSuperblock (layout_of image) (IsHeldByAnchors image))
+            (IsFreeSuperblock (layout_of image) (IsReachedIn image dict_links)) quick.free.items traced.free.items
             (λ d free. record { taken = free.taken; empty = λ b r part. free.empty b ((held_reached b).1 r) part })
             (λ d free. record { taken = free.taken; empty = λ b h part. free.empty b ((held_reached b).0 h) part })
             opened.free made.free,

@@ -55,7 +55,8 @@ set_each P (w ∷ ws) word each none = set_or P (image_with ws) w.0 w.1 word eac
 
 -- all words of these images
 abbrev set_words : List (ℕ × ℕ) → List (ℕ × ℕ)
-set_words words = (0, magic) ∷ (1, version) ∷ (2, 1) ∷ (3, clean) ∷ (9264, 1) ∷ (9265, 1) ∷ (9266, 1) ∷ (9267, 1) ∷ (9268, 1) ∷ (9269, 1) ∷ (9270, 1) ∷ (9271, 1) ∷ words
+set_words words = (0, magic) ∷ (1, version) ∷ (2, 1) ∷ (3, clean) ∷ (9264, 1) ∷ (9265, 1) ∷ (9266, 1) ∷ (9267, 1) ∷ (9268, 1) ∷ (9269, 1) ∷
+    (9270, 1) ∷ (9271, 1) ∷ words
 
 few_kinds : (words : List (ℕ × ℕ)) (i : ℕ) → EachSet (λ v. v < 3) (9264 + i) words → with_tables words (9264 + i) < 3
 few_kinds words i each = set_each (λ v. v < 3) (set_words words) (9264 + i) (
@@ -95,13 +96,28 @@ module _ (eighth ninth : ℕ) where
 
   formed : IsWellFormed 82304 (four_blocks eighth ninth)
   unfolding four_blocks largest_capacity
-  formed = record { magic_is = refl; version_is = refl; some = omega arith; small = omega arith; length_is = refl; state = inl refl; used = omega arith }
+  formed = record {
+    magic_is = refl;
+    version_is = refl;
+    some = omega arith;
+    small = omega arith;
+    length_is = refl;
+    state = inl refl;
+    used =
+        omega arith;
+  }
 
   kinds_fit : HasKindsBelow (Some kind_count) (four_blocks eighth ninth)
   unfolding four_blocks
   kinds_fit i less = few_kinds ((8, 1) ∷ (1064, 20) ∷ (1065, anchor_of partial_state 1 2) ∷ (2864, 6448) ∷ (48, eighth) ∷ (49, ninth) ∷ []) i (
     λ e. absurd (omega arith),
-    (λ e. absurd (omega arith), (λ e. absurd (omega arith), (λ e. absurd (omega arith), (λ e. absurd (omega arith), (λ e. absurd (omega arith), tt))))),
+    (
+      λ e. absurd (omega arith),
+      (
+        λ e. absurd (omega arith),
+        (λ e. absurd (omega arith), (λ e. absurd (omega arith), (λ e. absurd (omega arith), tt))),
+      ),
+    ),
   )
 
   maps_are : (shard : ℕ) → shard < shards → (map : Map) × MapOf (four_blocks eighth ninth) shard map
@@ -120,7 +136,8 @@ module _ (eighth ninth : ℕ) where
   in_chain : (b : ℕ) → Contains (2864 ∷ 6448 ∷ []) b → (2864 ≡ b) ⊎ (6448 ≡ b)
   in_chain b p = elim (head_or_rest 2864 b (6448 ∷ []) p) as (λ _. (2864 ≡ b) ⊎ (6448 ≡ b)) [
     | inl first ↦ inl first
-    | inr later ↦ elim (head_or_rest 6448 b [] later) as (λ _. (2864 ≡ b) ⊎ (6448 ≡ b)) [ inl second ↦ inr second | inr none ↦ absurd (in_none b none) ]
+    | inr later ↦ elim (head_or_rest 6448 b [] later) as
+        (λ _. (2864 ≡ b) ⊎ (6448 ≡ b)) [ inl second ↦ inr second | inr none ↦ absurd (in_none b none) ]
   ]
 
   two_differ : AllPairs {X = ℕ} (λ a b. a ≢ b) (2864 ∷ 6448 ∷ [])
@@ -164,9 +181,11 @@ module _ (eighth ninth : ℕ) where
   }
 
   -- blocks 0 and 2 are held, and no others
-  held_by : (index : ℕ) → index < 4 → ((p : Contains (2864 ∷ 6448 ∷ []) (1072 + index * 1792)) → ⊥) → IsHeldByAnchors (four_blocks eighth ninth) (quarter index)
+  held_by : (index : ℕ) → index < 4 → ((p : Contains (2864 ∷ 6448 ∷ []) (1072 + index * 1792)) → ⊥)
+      → IsHeldByAnchors (four_blocks eighth ninth) (quarter index)
   unfolding four_blocks
-  held_by index below out = in_partial [] (2864 ∷ 6448 ∷ []) 20 0 index (record { taken = omega arith; listed = refl; outside = in_none 0 }) is_class refl chain (is_quarter index below) out
+  held_by index below out = in_partial [] (2864 ∷ 6448 ∷ []) 20 0 index
+      (record { taken = omega arith; listed = refl; outside = in_none 0 }) is_class refl chain (is_quarter index below) out
 
   first_held : IsHeldByAnchors (four_blocks eighth ninth) (quarter 0)
   first_held = held_by 0 (omega arith) (λ p. elim (in_chain 1072 p) as (λ _. ⊥) [ inl same ↦ omega arith | inr same ↦ omega arith ])
@@ -180,10 +199,14 @@ module _ (eighth ninth : ℕ) where
   chain_has (x ∷ []) is = absurd (let two : ◌≡◌ {A = ℕ} 2 1 = is.count in omega arith)
   chain_has (x ∷ y ∷ bs) is =
       let first : 2864 ≡ x = is.linked.walks.0 in
-      let second : 6448 ≡ y = subst (λ w. four_blocks eighth ninth w ≡ y) (sym first) is.linked.walks.1.0 in
-      (subst (λ w. Contains (x ∷ y ∷ bs) w) (sym first) (in_head x (y ∷ bs)), subst (λ w. Contains (x ∷ y ∷ bs) w) (sym second) (in_rest x y (y ∷ bs) (in_head y bs)))
+      let second : 6448 ≡ y = subst (λ w. four_blocks eighth ninth w ≡ y) (sym first) is.linked.walks.1.0 in (
+        subst (λ w. Contains (x ∷ y ∷ bs) w) (sym first) (in_head x (y ∷ bs)),
+        subst (λ w. Contains (x ∷ y ∷ bs) w) (sym second)
+            (in_rest x y (y ∷ bs) (in_head y bs)),
+      )
 
-  of_index : (index : ℕ) (b : Block) (bs : List ℕ) → IsBlockOfClass 1 20 0 index b → HasPartialChain (four_blocks eighth ninth) 20 0 bs → (Contains bs b.first_word → ⊥)
+  of_index : (index : ℕ) (b : Block) (bs : List ℕ) → IsBlockOfClass 1 20 0 index b → HasPartialChain (four_blocks eighth ninth) 20 0 bs
+      → (Contains bs b.first_word → ⊥)
       → (quarter 0 ≡ b) ⊎ (quarter 2 ≡ b)
   unfolding words_of_class blocks_of class_sizes
   of_index zero b bs of chained out = inl (same_index 1 20 0 0 0 (quarter 0) b refl (is_quarter 0 (omega arith)) of)
@@ -212,11 +235,13 @@ module _ (eighth ninth : ℕ) where
       let only : d ≡ 0 = omega arith in
       let twenty : class ≡ 20 = sym info ∙ subst (λ e. four_blocks eighth ninth (1064 + 8 * e) ≡ 20) (sym only) refl in
       of_index index b bs (subst (λ e. IsBlockOfClass 1 20 e index b) only (subst (λ c. IsBlockOfClass 1 c d index b) twenty of))
-      (subst (λ e. HasPartialChain (four_blocks eighth ninth) 20 e bs) only (subst (λ c. HasPartialChain (four_blocks eighth ninth) c d bs) twenty chained)) unchained
+      (subst (λ e. HasPartialChain (four_blocks eighth ninth) 20 e bs) only
+      (subst (λ c. HasPartialChain (four_blocks eighth ninth) c d bs) twenty chained)) unchained
   held_cases b (as_large free listed large) =
       let is = large.block.is_of in
       let taken = is.taken in
-      absurd (not_large b large.block.superblock large.block.words large.block.count (omega arith) is.begins (let size = is.size in let long = large.large in omega arith))
+      absurd (not_large b large.block.superblock large.block.words large.block.count (omega arith) is.begins
+      (let size = is.size in let long = large.large in omega arith))
 
   -- a root is the eighth, or the ninth, or null
   data IsRootWord (root word : ℕ) : Type 0 where
@@ -226,11 +251,8 @@ module _ (eighth ninth : ℕ) where
 
   root_is : (root : ℕ) → root < roots → IsRootWord root (four_blocks eighth ninth (40 + root))
   unfolding four_blocks
-  root_is root below = set_each (IsRootWord root) (set_words ((8, 1) ∷ (1064, 20) ∷ (1065, anchor_of partial_state 1 2) ∷ (2864, 6448) ∷ (48, eighth) ∷ (49, ninth) ∷ [])) (40 + root) (
-    λ e. absurd (omega arith),
-    (
-      λ e. absurd (omega arith),
-      (
+  root_is root below = set_each (IsRootWord root)
+      (set_words ((8, 1) ∷ (1064, 20) ∷ (1065, anchor_of partial_state 1 2) ∷ (2864, 6448) ∷ (48, eighth) ∷ (49, ninth) ∷ [])) (40 + root) (
         λ e. absurd (omega arith),
         (
           λ e. absurd (omega arith),
@@ -258,7 +280,13 @@ module _ (eighth ninth : ℕ) where
                                 λ e. absurd (omega arith),
                                 (
                                   λ e. absurd (omega arith),
-                                  (λ e. is_eighth (omega arith) refl, (λ e. is_ninth (omega arith) refl, tt)),
+                                  (
+                                    λ e. absurd (omega arith),
+                                    (
+                                      λ e. absurd (omega arith),
+                                      (λ e. is_eighth (omega arith) refl, (λ e. is_ninth (omega arith) refl, tt)),
+                                    ),
+                                  ),
                                 ),
                               ),
                             ),
@@ -272,16 +300,15 @@ module _ (eighth ninth : ℕ) where
             ),
           ),
         ),
-      ),
-    ),
-  ) (is_null refl)
+      ) (is_null refl)
 
   -- so what is reached has kind 0, and one of the two roots leads there
   record IsLedTo (b : Block) (kind : ℕ) : Type 0 where
     no_links : kind ≡ 0
     leads : Leads (four_blocks eighth ninth) eighth b ⊎ Leads (four_blocks eighth ninth) ninth b
 
-  led_from : (root word kind : ℕ) (b : Block) → IsRootWord root word → kind ≡ kinds_of (four_blocks eighth ninth) root → Leads (four_blocks eighth ninth) word b → IsLedTo b kind
+  led_from : (root word kind : ℕ) (b : Block) → IsRootWord root word → kind ≡ kinds_of (four_blocks eighth ninth) root
+      → Leads (four_blocks eighth ninth) word b → IsLedTo b kind
   unfolding four_blocks
   led_from root word kind b (is_eighth at is) kind_is leads = record {
     no_links = kind_is ∙ subst (λ r. kinds_of (four_blocks eighth ninth) r ≡ 0) (sym at) refl;
@@ -298,11 +325,13 @@ module _ (eighth ninth : ℕ) where
 
   led_to : (b : Block) (kind : ℕ) → ReachIn (four_blocks eighth ninth) dict_links b kind → IsLedTo b kind
   led_to = closure_least IsLedTo
-      (λ b kind start. led_from start.root (four_blocks eighth ninth (40 + start.root)) kind b (root_is start.root start.below) start.kind_is start.leads)
+      (λ b kind start. led_from start.root (four_blocks eighth ninth (40 + start.root)) kind b
+      (root_is start.root start.below) start.kind_is start.leads)
       (λ a b from kind reached led link. absurd (no_link from link.position kind (words_in (four_blocks eighth ninth) a) led.no_links link.listed))
 
 -- Roots lead to the blocks 0 and 2: it is a dictionary that its anchors show.
-leads_to : (eighth ninth index word : ℕ) → index < 4 → word ≡ 0x5250000000000000 + 8 * (1072 + index * 1792) → Leads (four_blocks eighth ninth) word (quarter index)
+leads_to : (eighth ninth index word : ℕ) → index < 4 → word ≡ 0x5250000000000000 + 8 * (1072 + index * 1792)
+    → Leads (four_blocks eighth ninth) word (quarter index)
 unfolding four_blocks words_of_class blocks_of class_sizes
 leads_to eighth ninth index word below is = record {
   pointer = record { tagged = is; short = omega arith };
@@ -313,7 +342,14 @@ leads_to eighth ninth index word below is = record {
       index = index;
       words = 1792;
       count = 4;
-      is_of = record { taken = omega arith; begins = begins_class 20 refl (record { some = omega arith; last = omega arith }); below = below; at = refl; size = refl };
+      is_of = record {
+        taken = omega arith;
+        begins = begins_class 20 refl (record { some = omega arith; last = omega arith });
+        below = below;
+        at =
+            refl;
+        size = refl;
+      };
     };
   };
 }
@@ -349,8 +385,10 @@ root_inside root word (is_ninth at is) out = out.nowhere (quarter 2) (subst (λ 
 root_inside root word (is_null is) out = out.not_null is
 
 none_outside : (at : ℕ) → IsTraced shown (kinds_of shown) dict_links at → LeadsOutside shown (shown at) → ⊥
-none_outside _ (is_root root at below chosen is) out = root_inside root (shown (40 + root)) (root_is to_first to_third root below) (subst (λ w. LeadsOutside shown (shown w)) is out)
-none_outside _ (is_linked a from position kind at reached listed is) out = no_link to_first to_third from position kind (words_in shown a) (led_to to_first to_third a from reached).no_links listed
+none_outside _ (is_root root at below chosen is) out = root_inside root (shown (40 + root)) (root_is to_first to_third root below)
+    (subst (λ w. LeadsOutside shown (shown w)) is out)
+none_outside _ (is_linked a from position kind at reached listed is) out = no_link to_first to_third from position kind (words_in shown a)
+    (led_to to_first to_third a from reached).no_links listed
 
 shown_is_orderly : IsOrderlyDictionary 82304 shown
 shown_is_orderly = record {
@@ -359,7 +397,11 @@ shown_is_orderly = record {
   dictionary = record {
     nothing_outside = λ at out. none_outside at out.traced out.outside;
     maps = record { kinds = kinds_fit to_first to_third; each = maps_are to_first to_third };
-    exact = λ b. (λ held. held_reached b (held_cases to_first to_third b held), λ reached. led_held b (led_to to_first to_third b reached.kind reached.reach).leads);
+    exact = λ b. (
+      λ held. held_reached b (held_cases to_first to_third b held),
+      λ reached. led_held b
+          (led_to to_first to_third b reached.kind reached.reach).leads,
+    );
   };
 }
 
@@ -372,13 +414,15 @@ freed_is_orderly = is_orderly to_first to_second
 
 second_reached : ReachIn freed dict_links (quarter 1) 0
 unfolding four_blocks
-second_reached = by_start (quarter 1) 0 (record { root = 9; below = omega arith; is_chosen = tt; kind_is = refl; leads = leads_to to_first to_second 1 to_second (omega arith) refl })
+second_reached = by_start (quarter 1) 0
+    (record { root = 9; below = omega arith; is_chosen = tt; kind_is = refl; leads = leads_to to_first to_second 1 to_second (omega arith) refl })
 
 freed_is_none : IsOrderlyDictionary 82304 freed → ⊥
-freed_is_none is = elim (held_cases to_first to_second (quarter 1) ((is.dictionary.exact (quarter 1)).1 (record { kind = 0; reach = second_reached }))) as (λ _. ⊥) [
-  | inl same ↦ let firsts : ◌≡◌ {A = ℕ} 1072 2864 = ap (λ (b : Block). b.first_word) same in omega arith
-  | inr same ↦ let firsts : ◌≡◌ {A = ℕ} 4656 2864 = ap (λ (b : Block). b.first_word) same in omega arith
-]
+freed_is_none is = elim (held_cases to_first to_second (quarter 1)
+    ((is.dictionary.exact (quarter 1)).1 (record { kind = 0; reach = second_reached }))) as (λ _. ⊥) [
+      | inl same ↦ let firsts : ◌≡◌ {A = ℕ} 1072 2864 = ap (λ (b : Block). b.first_word) same in omega arith
+      | inr same ↦ let firsts : ◌≡◌ {A = ℕ} 4656 2864 = ap (λ (b : Block). b.first_word) same in omega arith
+    ]
 
 -- No root leads to block 2, which is held.
 abbrev pub lost : Image
