@@ -18,8 +18,9 @@ ghost use Rattle.quick_dictionary.specs.OrderlyDictionary.{IsOrderlyDictionary};
 /// reached blocks held. So the heap may be read by `read_maps` and `MappedHeap`, and asked through
 /// any seat that is opened over it (`an_opened_dictionary_has_its_shards` of `dictionary_heap`).
 ///
-/// Whether the anchors hold what the roots reach is a premise: only a trace of the roots tells it,
-/// which is what recovery takes most of its time for. So no call here decides it.
+/// That the anchors hold what the roots reach is a premise, and only a trace of the roots tells it.
+/// That is most of a recovery, so a call that looks before it opens quickly would gain nothing, and
+/// there is none.
 pub fn what_is_opened_quickly_is_a_dictionary()
     ensures alike { (words : List ℕ) (quick : Recovered)
         → IsOrderlyDictionary (8 * length words) (slice_index words)
