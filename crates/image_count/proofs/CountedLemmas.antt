@@ -1,10 +1,10 @@
 -- Where the anchors hold what is reached, what is told of an image that was opened by them is what is told of the recovered one.
-use Rattle.std.proofs.Common.{◌≡◌, ◌↔◌, ◌++◌, ℕ, zero, suc, ◌+◌, ◌<◌, ◌≤◌, Bool, List, [], length, slice_index, refl, ap, sym, subst, ◌∙◌, arith}
+use Rattle.std.proofs.Common.{◌≡◌, ◌↔◌, ◌++◌, ℕ, zero, suc, ◌+◌, ◌*◌, ◌<◌, ◌≤◌, Bool, false, Some, List, [], length, slice_index, refl, ap, sym, subst, ◌∙◌, arith}
 use Rattle.std.specs.Prelude.{◌==◌, ◌-◌, if◌then◌else◌, codes, decimal, nat_eq}
 use Rattle.std.specs.List.{flat_map, range_with_len, list_any}
 use Rattle.heap_model.specs.declared.block.Block.{Block}
 use Rattle.heap_model.specs.Geometry.{clean, info_word}
-use Rattle.heap_model.specs.Header.{capacity_of, state_of, used_of}
+use Rattle.heap_model.specs.Header.{capacity_of, state_of, used_of, first_kinds}
 use Rattle.heap_model.specs.Image.{Image}
 use Rattle.heap_model.specs.Blocks.{layout_of}
 use Rattle.heap_model.specs.Recovered.{IsFreeSuperblock, AreAscending}
@@ -12,13 +12,20 @@ use Rattle.heap_model.specs.Recovery.{HoldsKept, IsPartial, IsFullyKept, IsInLar
 use Rattle.heap_model.specs.Words.{large_count, is_large_info}
 use Rattle.heap_at_rest.proofs.RecoveredLemmas.{same_capacity, same_used}
 use Rattle.heap_at_rest.proofs.StandingLemmas.{Standing, is_untaken, is_free, is_partial, is_fully_kept, is_in_large, cases_superblock}
-use Rattle.orderly_image.specs.Orderly.{IsHeldByAnchors}
+use Rattle.orderly_image.specs.Orderly.{IsOrderly, IsHeldByAnchors}
 use Rattle.heap_recover.proofs.AscendingLemmas.{ascending_one}
+use Rattle.region_header.specs.Migration.{current_words}
+use Rattle.region_header.proofs.MigrationLemmas.{current_of_new}
 use Rattle.quick_recover.specs.declared.open.Path.TheVariants.{Quick as ByAnchors}
 use Rattle.quick_recover.specs.Reopened.{IsReopened}
+use Rattle.dict_model.specs.Links.{kind_count}
+use Rattle.dict_model.specs.Requests.{Request}
+use Rattle.run_model.specs.Opened.{HasMaps}
 use Rattle.trace_text.specs.Report.{line_feed, report_of}
 use Rattle.trace_text.specs.HeapMap.{class_use, first_of, inside_use, is_class, large_use, line_of, map_of, superblock_line, used_line}
-use Rattle.image_run.specs.Reporting.{IsKept, Recovers, shown_text}
+use Rattle.image_run.specs.Reporting.{IsKept, Recovers, image_in, shown_text, words_in_bytes}
+use Rattle.image_run.specs.Running.{Options, RunsRequests}
+use Rattle.image_run.proofs.PutLemmas.{left_again, put_orderly, words_are_in}
 use Rattle.image_count.specs.Telling.{IsOrderlyImage, TellsOpened, by_anchors, traced, way_line}
 
 -- lines of numbers that are the same each are the same together
@@ -137,3 +144,22 @@ module _ (words : List ℕ) (with_map : Bool) (text : List ℕ) (orderly : IsOrd
       let are = subst (AreAscending (λ (b : Block). b.first_word) (IsHeldByAnchors image)) one_held told.held_are in
       told.text_is ∙ ap (λ report. way_line ByAnchors ++ report) (one_text told.held told.free told.words one_held one_free are told.words_are)
   told_as_recovered (traced not_orderly inside told) = absurd (not_orderly orderly)
+
+-- and so it is of what a run closes
+module _ (image : Image) (requests : List Request) (options : Options) (put told : List ℕ) (have : HasMaps image) (run : RunsRequests image requests options put told)
+    (closed : run.stopped ≡ false) where
+  abbrev words : List ℕ
+  words = current_words (words_in_bytes put) first_kinds
+
+  closed_orderly : IsOrderlyImage (current_words (words_in_bytes put) first_kinds)
+  closed_orderly =
+      let is_left : words ≡ run.left = ap (λ ws. current_words ws first_kinds) (words_are_in run.left put run.words_are)
+      ∙ current_of_new run.left first_kinds (left_again image requests options put told have run).version_is in
+      let long : length put ≡ 8 * length words = let count = run.words_are.count in let same = ap length is_left in omega arith in
+      subst (λ n. IsOrderly (Some kind_count) n (image_in put)) long (put_orderly image requests options put told have run closed).0
+
+  pub told_of_run : (with_map : Bool) (text : List ℕ) → TellsOpened (current_words (words_in_bytes put) first_kinds) with_map text
+      → (held : List Block) (free : List ℕ) (left : Image) → Recovers (image_in put) held free left
+      → text ≡ way_line ByAnchors ++ shown_text (image_in put) with_map [] held free left
+  told_of_run with_map text tells held free left recovers =
+      told_as_recovered words with_map text closed_orderly (put_orderly image requests options put told have run closed).1 held free left recovers tells

@@ -42,7 +42,7 @@ image_in_words words bytes are is_new =
     ap (λ (ws : List ℕ). slice_index (current_words ws first_kinds)) (words_are_in words bytes are) ∙ ap slice_index (current_of_new words first_kinds is_new)
 
 module _ (image : Image) (requests : List Request) (options : Options) (put text : List ℕ) (have : HasMaps image) (runs : RunsRequests image requests options put text) where
-  left_again : CanBeRun (length runs.left) (slice_index runs.left)
+  pub left_again : CanBeRun (length runs.left) (slice_index runs.left)
   left_again =
       can_be_run image (slice_index runs.left) options.workers requests (replies_of runs.told) runs.stopped (length runs.left) have
       runs.leaves.maps runs.leaves.header runs.leaves.others
