@@ -281,6 +281,62 @@ $ count h
 > heap 2 clean
 ";
 
+/// A closed image, made by hand, whose anchors tell of all blocks and are wrong: superblock 0 has
+/// no free block, and the chain of superblock 1 runs through block 1, which root 8 reaches, to the
+/// node of key 0. A count believes them. A run by N workers looks at the roots: it gives neither
+/// block away, and frees what nothing reaches.
+const CHAINED: &str = "
+@+ table: root:8 @9276, anchor:0 2, anchor:1 17179869189, 9276 9272
+$ count h --map
+> quick
+> heap 2 clean
+> held 32 2046
+> held 1024 64
+> used 2 free 0 fresh 0
+> sb 0 class 12 held 0-63
+> sb 1 class 2 held 2-2047
+$ show h --map
+> heap 2 clean
+> key 0 -
+> held 32 2
+> held 1024 1
+> used 2 free 0 fresh 0
+> sb 0 class 12 held 0
+> sb 1 class 2 held 0-1
+$ run h --workers N
+< get 0
+< put 8 bb
+< get 0
+< get 8
+> -
+> ok
+> -
+> bb
+> run closed
+> heap 2 clean
+> key 0 -
+> key 8 bb
+> held 32 3
+> held 1024 1
+$ show h --map
+> heap 2 clean
+> key 0 -
+> key 8 bb
+> held 32 3
+> held 1024 1
+> used 2 free 0 fresh 0
+> sb 0 class 12 held 0
+> sb 1 class 2 held 0-2
+$ count h --map
+> quick
+> heap 2 clean
+> held 32 3
+> held 1024 1
+> used 2 free 0 fresh 0
+> sb 0 class 12 held 0
+> sb 1 class 2 held 0-2
+";
+
 /// Images of version 1 stay as they are.
 const OLD: &str = "
 @ table: 1 1, anchor:0 2; 139712
@@ -378,7 +434,7 @@ $ count h
 > read fault
 ";
 
-const TABLES: [Table; 12] = [
+const TABLES: [Table; 14] = [
     (LEFT, &[]),
     (CLOSED, &BY_ONE),
     (CLOSED, &BY_TWO),
@@ -387,6 +443,8 @@ const TABLES: [Table; 12] = [
     (FULL, &BY_TWO),
     (FULL, &BY_EIGHT),
     (BELIEVED, &[]),
+    (CHAINED, &BY_ONE),
+    (CHAINED, &BY_TWO),
     (OLD, &[]),
     (OUTSIDE, &[]),
     (HEADERS, &COUNTED),
