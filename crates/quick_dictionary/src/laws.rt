@@ -8,7 +8,7 @@ ghost use Rattle.heap_recover.specs.Answer.{IsMadeOf};
 ghost use Rattle.heap_recover.specs.InPlace.{RecoversAlike};
 ghost use Rattle.quick_recover.specs.Reopened.{IsReopenedAs};
 ghost use Rattle.dict_model.specs.Links.{dict_links, kind_count, shards};
-ghost use Rattle.dict_model.specs.Shards.{Map, MapOf, BadShard};
+ghost use Rattle.dict_model.specs.Shards.{Map, MapOf};
 ghost use Rattle.run_model.specs.Opened.{IsDictionary};
 ghost use Rattle.quick_dictionary.specs.OrderlyDictionary.{IsOrderlyDictionary};
 
