@@ -14,6 +14,8 @@ import matplotlib
 matplotlib.use("svg")
 import matplotlib.pyplot as plt
 
+from ticks import label_plainly
+
 # The same figures give the same file.
 matplotlib.rcParams.update({"svg.hashsalt": "heap_tool", "svg.fonttype": "none"})
 WORKLOAD, OURS = "gen100000", "heap_tool"
@@ -53,6 +55,7 @@ def draw_peers(axes, path, small):
         label.set_fontweight("bold" if label.get_text().startswith(OURS) else "normal")
     axes.set(title="gen 100000 7, one worker", xlabel="ns a request, median", xscale="log")
     axes.set_xlim(100, 4 * max(whole.values()))
+    label_plainly(axes.xaxis)
     axes.legend()
 
 

@@ -14,6 +14,8 @@ import matplotlib
 matplotlib.use("svg")
 import matplotlib.pyplot as plt
 
+from ticks import label_plainly
+
 # The same figures give the same file.
 matplotlib.rcParams.update({"svg.hashsalt": "heap_tool", "svg.fonttype": "none"})
 METRICS = {"whole": "whole process", "requests": "the requests alone"}
@@ -27,7 +29,8 @@ def draw(axes, rows, size, metric):
     axes.set(title=f"{METRICS[metric]}, {size} superblocks", xlabel="workers", ylabel="million requests a second")
     axes.set(xscale="log", yscale="log")
     axes.set_xticks(workers, workers)
-    axes.minorticks_off()
+    axes.tick_params(axis="x", which="minor", bottom=False)
+    label_plainly(axes.yaxis)
     axes.grid(alpha=0.3)
 
 
