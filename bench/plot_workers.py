@@ -14,7 +14,7 @@ import matplotlib
 matplotlib.use("svg")
 import matplotlib.pyplot as plt
 
-from ticks import label_plainly
+from ticks import label_each, label_plainly
 
 # The same figures give the same file.
 matplotlib.rcParams.update({"svg.hashsalt": "heap_tool", "svg.fonttype": "none"})
@@ -28,8 +28,7 @@ def draw(axes, rows, size, metric):
     workers = sorted({int(row[2]) for row in rows})
     axes.set(title=f"{METRICS[metric]}, {size} superblocks", xlabel="workers", ylabel="million requests a second")
     axes.set(xscale="log", yscale="log")
-    axes.set_xticks(workers, workers)
-    axes.tick_params(axis="x", which="minor", bottom=False)
+    label_each(axes.xaxis, workers)
     label_plainly(axes.yaxis)
     axes.grid(alpha=0.3)
 
@@ -42,7 +41,8 @@ def main(path, out):
     for line, size in zip(grid, sizes):
         for axes, metric in zip(line, METRICS):
             draw(axes, rows, size, metric)
-    grid[0][0].legend()
+    # (where no line is)
+    grid[0][-1].legend(loc="center", bbox_to_anchor=(0.5, 0.72), ncol=2)
     figure.savefig(out, metadata={"Date": None})
 
 

@@ -12,3 +12,9 @@ def label_plainly(axis, steps=(1, 2, 5)):
     axis.set_major_locator(LogLocator(base=10, subs=steps))
     axis.set_major_formatter(FuncFormatter(plain))
     axis.set_minor_locator(NullLocator())
+
+
+def label_each(axis, values):
+    """Labels these values alone."""
+    axis.set_ticks(values, labels=[plain(value) for value in values])
+    axis.set_minor_locator(NullLocator())
