@@ -1,7 +1,7 @@
 #!/usr/bin/env python3
 """Builds the programs that measure what heap_tool cannot. A text timed_NAME.txt takes the place of heap_tool's main in a
-scratch clone, of what is committed; rt proves it there and builds it. What rt has checked in this checkout, it need not
-check again.
+scratch clone, of what is committed; a folder timed_NAME takes that of the whole crate, each FILE.txt as FILE. rt proves it
+there and builds it. What rt has checked in this checkout, it need not check again.
 
 They are kept in bench/out/built, and built again where the text or the code of a crate has changed. So they can be there
 before a machine is quiet. With JOBS in the environment rt has so many jobs.
@@ -29,12 +29,20 @@ CRATES = {
     "timed_parallel.txt": "file_ports tool_ports dictionary par_recover heap_recover filter_trace region_header super_block",
     "timed_recovery.txt": "file_ports tool_ports dictionary heap_recover filter_trace region_header super_block",
     "timed_requests.txt": "dictionary_tests block_heap region_header heap_model",
+    "timed_workloads": "thread_cache seat_view seat_rows heap_rule heap_table seat_notes core_model dictionary heap_recover"
+    " heap_seat line_memory region_header super_block heap_model crossbeam_queue atomic_table",
 }
 
 
 def proofs_of(text):
     """What is written of its proofs: TEXT.F.Answers.txt is of its function F."""
     return sorted(HERE.glob(f"{pathlib.Path(text).stem}.*.*.txt"))
+
+
+def files_of(text):
+    """The text and its proofs, or the files of the folder."""
+    path = HERE / text
+    return sorted(path.rglob("*.txt")) if path.is_dir() else [path, *proofs_of(text)]
 
 
 def below(text):
@@ -54,12 +62,23 @@ def kept(text):
     """Where the program is kept, by a checksum of the text, of the code of the crates and of which toolchain there is."""
     said = ["git", "-C", TOP, "rev-parse", *(f"HEAD:crates/{crate}/src" for crate in below(text))], ["rt", "version"]
     told = "".join(subprocess.run(words, check=True, capture_output=True, text=True).stdout for words in said)
-    whole = b"\0".join([told.encode(), *(path.read_bytes() for path in (HERE / text, *proofs_of(text)))])
+    whole = b"\0".join([told.encode(), *(path.read_bytes() for path in files_of(text))])
     return KEPT / f"{pathlib.Path(text).stem}-{hashlib.sha256(whole).hexdigest()[:12]}"
+
+
+def put_folder(crate, folder):
+    """Puts the files of a folder into a crate's folder."""
+    for file in folder.rglob("*.txt"):
+        to = crate / file.relative_to(folder).with_suffix("")
+        to.parent.mkdir(parents=True, exist_ok=True)
+        shutil.copy(file, to)
 
 
 def put_text(crate, text):
     """Puts the text into a crate's folder, and what is written of its proofs."""
+    if (HERE / text).is_dir():
+        put_folder(crate, HERE / text)
+        return
     (crate / "src").mkdir(parents=True)
     shutil.copy(HERE / text, crate / "src" / "main.rt")
     for proof in proofs_of(text):
