@@ -1,10 +1,12 @@
 //! A store of images in files: a name is a path.
-ghost use Rattle.std.specs.Prelude.{◌≡◌, ◌↔◌, ◌<◌, ◌≤◌, ◌+◌, [], None, false, length, IfOk, IsOkAnd, IfSome, OnOk, IsErrOf, IsErrAnd, take};
+ghost use Rattle.std.specs.Prelude.{◌≡◌, ◌↔◌, ◌<◌, ◌≤◌, ◌+◌, [], Ok, None, false, length, IfOk, IsOkAnd, IfSome, OnOk, IsErrAnd, take};
 ghost use Rattle.std.specs.IoError.{error_kind};
 ghost use Rattle.std.specs.Io.KnownBytes.{IsAtEnd};
 ghost use Rattle.file_ports.specs.Reading.{ReadsPiece};
 ghost use Rattle.tool_ports.specs.Calls.{no_calls};
+ghost use Rattle.tool_ports.specs.Causes.{one_more};
 
+use crate::file_fault::FileFault;
 use crate::replacing::put_file;
 use std::alloc::{AllocError, Global};
 use std::fs::OpenFile;
@@ -22,6 +24,7 @@ pub struct FileStore<'a, R: Files> {
     rt: &'a R,
     faults: FaultCount,
     calls: StoreCalls,
+    failure: Option<String>,
 }
 
 impl<'a, R: Files> FileStore<'a, R> {
@@ -36,7 +39,23 @@ impl<'a, R: Files> FileStore<'a, R> {
             rt,
             faults: FaultCount::new(),
             calls: StoreCalls::new(),
+            failure: None,
         }
+    }
+
+    /// Of the last call that failed, if one has: which file, and what the system said. It is left
+    /// out where there was no memory for it.
+    pub fn failure(&self) -> Option<&str> {
+        self.failure.as_deref()
+    }
+
+    // Counts a failure, and keeps what the system said of it.
+    fn fail(&mut self, alloc: Global, name: &str, error: io::Error)
+        ensures count { fault_count self.new ≡ one_more (fault_count self.old) }
+        ensures calls { calls_of self.new ≡ calls_of self.old }
+    {
+        self.faults.rise();
+        self.failure = format!(in alloc; "{name}: {error}").ok();
     }
 }
 
@@ -53,44 +72,52 @@ impl<'a, R: Files> ImageStore for FileStore<'a, R> {
 
     fn get(&mut self, alloc: Global, name: &str, most: usize) -> Result<Vec<u8>, GetFault> {
         self.calls.count_get(most);
-        let result = read_opened(alloc, fs::open(self.rt, name), most);
-        if let Err(GetFault::Failed) = &result {
-            self.faults.rise();
+        match read_opened(alloc, fs::open(self.rt, name), most) {
+            Ok(Some(image)) => Ok(image),
+            Ok(None) => Err(GetFault::Absent),
+            Err(FileFault::Memory) => Err(GetFault::Memory),
+            Err(FileFault::Failed(error)) => {
+                self.fail(alloc, name, error);
+                Err(GetFault::Failed)
+            }
         }
-        result
     }
 
     fn put(&mut self, alloc: Global, name: &str, bytes: &[u8]) -> Result<(), PutImageFault> {
-        let result = put_file(self.rt, alloc, name, bytes);
-        if let Err(PutImageFault::Failed) = &result {
-            self.faults.rise();
+        match put_file(self.rt, alloc, name, bytes) {
+            Ok(()) => {
+                self.calls.count_put();
+                Ok(())
+            }
+            Err(FileFault::Memory) => Err(PutImageFault::Memory),
+            Err(FileFault::Failed(error)) => {
+                self.calls.count_put();
+                self.fail(alloc, name, error);
+                Err(PutImageFault::Failed)
+            }
         }
-        if result != Err(PutImageFault::Memory) {
-            self.calls.count_put();
-        }
-        result
     }
 }
 
-// The first `most` bytes of a file that was to be opened, or all.
+// The first `most` bytes of a file that was to be opened, or all; none where there is no such file.
 fn read_opened<F: Read + OpenFile + Drop>(
     alloc: Global,
     opened: io::Result<F>,
     most: usize,
-) -> Result<Vec<u8>, GetFault>
-    ensures ok { IfOk result (λ v. IsOkAnd opened (λ file.
-        IfSome (F.remaining file) (λ left. v.items ≡ take most left))) }
-    ensures short { IfOk result (λ v. length v.items ≤ most) }
-    ensures absent { IsErrOf result GetFault.Absent ↔
+) -> Result<Option<Vec<u8>>, FileFault>
+    ensures ok { IfOk result (λ found. IfSome found (λ v. IsOkAnd opened (λ file.
+        IfSome (F.remaining file) (λ left. v.items ≡ take most left)))) }
+    ensures short { IfOk result (λ found. IfSome found (λ v. length v.items ≤ most)) }
+    ensures absent { result ≡ Ok None ↔
         IsErrAnd opened (λ e. error_kind e ≡ ErrorKind.NotFound) }
 {
     match opened {
         Ok(mut file) => {
             let size = file.metadata().map_or(0, |metadata| metadata.len());
-            read_first(alloc, &mut file, most, size)
+            Ok(Some(read_first(alloc, &mut file, most, size)?))
         }
-        Err(e) if e.kind() == ErrorKind::NotFound => Err(GetFault::Absent),
-        Err(_) => Err(GetFault::Failed),
+        Err(e) if e.kind() == ErrorKind::NotFound => Ok(None),
+        Err(e) => Err(FileFault::Failed(e)),
     }
 }
 
@@ -101,11 +128,10 @@ fn read_first<F: Read>(
     file: &mut F,
     most: usize,
     size: u64,
-) -> Result<Vec<u8>, GetFault>
+) -> Result<Vec<u8>, FileFault>
     ensures ok { IfOk result (λ v.
         IfSome (F.remaining file.old) (λ left. v.items ≡ take most left)) }
     ensures short { IfOk result (λ v. length v.items ≤ most) }
-    ensures none { IsErrOf result GetFault.Absent → ⊥ }
 {
     let mut piece = new_piece(alloc)?;
     let image = Vec::with_capacity(alloc, size.min(most as u64) as usize)?;
@@ -125,13 +151,12 @@ fn read_pieces<F: Read>(
     piece: &mut [u8],
     mut image: Vec<u8>,
     most: usize,
-) -> Result<Vec<u8>, GetFault>
+) -> Result<Vec<u8>, FileFault>
     requires piece { 0 < length piece.old }
     requires empty { image.items ≡ [] }
     ensures ok { IfOk result (λ v.
         IfSome (F.remaining file.old) (λ left. v.items ≡ take most left)) }
     ensures short { IfOk result (λ v. length v.items ≤ most) }
-    ensures none { IsErrOf result GetFault.Absent → ⊥ }
 {
     for _ in 0..u64::MAX {
         let room = most - image.len();
@@ -139,7 +164,7 @@ fn read_pieces<F: Read>(
             return Ok(image);
         }
     }
-    Err(GetFault::Failed)
+    Err(FileFault::Failed(io::Error::from(ErrorKind::Interrupted)))
 }
 
 // One read more, of at most `room` bytes. It answers false at the end.
@@ -148,21 +173,20 @@ fn read_piece<F: Read>(
     piece: &mut [u8],
     image: &mut Vec<u8>,
     room: usize,
-) -> Result<bool, GetFault>
+) -> Result<bool, FileFault>
     requires room { 0 < room }
     requires piece { 0 < length piece.old }
     ensures ok { OnOk result (ReadsPiece room (F.remaining file.old) (F.remaining file.new)
         image.old.items image.new.items) }
     ensures short { OnOk result (length image.new.items ≤ length image.old.items + room) }
     ensures end { result ≡ Ok false → IsAtEnd (F.remaining file.new) }
-    ensures none { IsErrOf result GetFault.Absent → ⊥ }
 {
     let most = room.min(piece.len());
     let part = &mut piece[..most];
     let count = match file.read(part) {
         Ok(count) => count,
         Err(e) if e.kind() == ErrorKind::Interrupted => return Ok(true),
-        Err(_) => return Err(GetFault::Failed),
+        Err(e) => return Err(FileFault::Failed(e)),
     };
     image.extend_from_slice(&part[..count])?;
     Ok(count > 0)

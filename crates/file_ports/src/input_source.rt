@@ -1,10 +1,11 @@
 //! The tool's input, as a source.
-ghost use Rattle.std.specs.Prelude.{◌≡◌, ◌<◌, ◌≤◌, false, length, take, true, IfOk, IsErr, OnErr};
+ghost use Rattle.std.specs.Prelude.{◌≡◌, ◌<◌, ◌≤◌, false, length, take, true, None, IfOk, IsErr, IsSome, OnErr, OnOk};
 ghost use Rattle.std.specs.Io.{ReadsAtMost};
 ghost use Rattle.std.specs.Io.KnownBytes.{ReadConsumes};
 ghost use Rattle.tool_ports.specs.Causes.{HasCause};
 ghost use Rattle.tool_ports.specs.Left.{left_before, IsAtEnd};
 
+use std::io;
 use std::io::{ErrorKind, Read};
 use tool_ports::{Failed, FaultCount, Source};
 
@@ -15,6 +16,7 @@ use tool_ports::{Failed, FaultCount, Source};
 pub struct InputSource<R: Read> {
     reader: R,
     faults: FaultCount,
+    failure: Option<io::Error>,
     ended: bool,
 }
 
@@ -25,12 +27,21 @@ impl<R: Read> InputSource<R> {
         ensures faults { fault_count result ≡ 0 }
         ensures reader { result.reader ≡ reader }
         ensures goes_on { result.ended ≡ false }
+        ensures no_failure { result.failure ≡ None }
     {
         InputSource {
             reader,
             faults: FaultCount::new(),
+            failure: None,
             ended: false,
         }
+    }
+
+    /// What the system said of the last read that failed, if one has.
+    pub fn failure(&self) -> Option<io::Error>
+        ensures { result ≡ self.now.failure }
+    {
+        self.failure
     }
 }
 
@@ -69,21 +80,30 @@ impl<R: Read> Source for InputSource<R> {
 
         // once ended, it isn't read, and nothing is counted
         ensures unread { self.old.ended ≡ true → self.new ≡ self.old }
+
+        // what the system said of a failed read is kept, and none is told that didn't fail
+        ensures told { OnErr result (IsSome self.new.failure) }
+        ensures not_told { OnOk result (self.new.failure ≡ self.old.failure) }
     {
         if self.ended {
             return Ok(0);
         }
-        let result = read_retrying(&mut self.reader, buf);
-        match &result {
-            Ok(count) => self.ended = *count == 0,
-            Err(_) => self.faults.rise(),
+        match read_retrying(&mut self.reader, buf) {
+            Ok(count) => {
+                self.ended = count == 0;
+                Ok(count)
+            }
+            Err(error) => {
+                self.faults.rise();
+                self.failure = Some(error);
+                Err(Failed)
+            }
         }
-        result
     }
 }
 
 // One read of a reader, again where a signal came between.
-fn read_retrying<R: Read>(reader: &mut R, buf: &mut [u8]) -> Result<usize, Failed>
+fn read_retrying<R: Read>(reader: &mut R, buf: &mut [u8]) -> io::Result<usize>
     ensures bound { ReadsAtMost result buf.new }
     ensures bytes { ReadConsumes (R.remaining reader.old) (R.remaining reader.new)
         result buf.new }
@@ -92,8 +112,8 @@ fn read_retrying<R: Read>(reader: &mut R, buf: &mut [u8]) -> Result<usize, Faile
         match reader.read(buf) {
             Ok(count) => return Ok(count),
             Err(e) if e.kind() == ErrorKind::Interrupted => {}
-            Err(_) => return Err(Failed),
+            Err(e) => return Err(e),
         }
     }
-    Err(Failed)
+    Err(io::Error::from(ErrorKind::Interrupted))
 }

@@ -1,6 +1,7 @@
 //! The outside of the tool as it really is: images in files, and its input and output.
 #![tactic(auto)]
 
+mod file_fault;
 mod file_store;
 mod input_source;
 mod output_sink;

@@ -1,17 +1,17 @@
 //! Puts a file in the place of another, which stays whole until the new one is.
-ghost use Rattle.std.specs.Prelude.{◌≡◌, ◌↔◌, Ok, None, bit_and, IsOk, IsOkAnd, IfOk, IfSome, OnOk, IsErrAnd, IsOkUnless};
+ghost use Rattle.std.specs.Prelude.{◌≡◌, ◌↔◌, Ok, None, bit_and, IsOk, IsOkAnd, IfOk, IfSome, OnOk, IsErrAnd};
 ghost use Rattle.std.specs.Fs.{metadata_mode};
 ghost use Rattle.std.specs.Io.KnownBytes.{Appends};
 ghost use Rattle.std.specs.IoError.{error_kind};
 ghost use Rattle.file_ports.specs.Folders.{IsFolderOf};
 
+use crate::file_fault::FileFault;
 use std::alloc::Global;
 use std::fs::{Metadata, OpenFile, OpenOptions, Permissions};
 use std::io::{ErrorKind, Write};
 use std::os::unix::fs::{OpenOptionsExt, PermissionsExt};
 use std::rt::Files;
 use std::{fs, io};
-use tool_ports::PutImageFault;
 
 /// A file of this ending and a number is written beside the named one before it takes its place.
 const TEMPORARY: &str = ".new";
@@ -29,48 +29,43 @@ pub fn put_file<R: Files>(
     alloc: Global,
     name: &str,
     bytes: &[u8],
-) -> Result<(), PutImageFault> {
+) -> Result<(), FileFault> {
     match rt.canonicalize(alloc, name) {
         Ok(target) => put_beside(rt, alloc, target.as_str(), bytes),
-        Err(e) if e.kind() == ErrorKind::OutOfMemory => Err(PutImageFault::Memory),
+        Err(e) if e.kind() == ErrorKind::OutOfMemory => Err(FileFault::Memory),
         Err(_) => put_beside(rt, alloc, name, bytes),
     }
 }
 
 // Writes a file of its own first, under a name that is free: no other file is touched.
-fn put_beside<R: Files>(
-    rt: &R,
-    alloc: Global,
-    name: &str,
-    bytes: &[u8],
-) -> Result<(), PutImageFault> {
+fn put_beside<R: Files>(rt: &R, alloc: Global, name: &str, bytes: &[u8]) -> Result<(), FileFault> {
     let mode = mode_of(fs::metadata(rt, name))?;
     for number in 0..TRIES {
         let temporary = format!(in alloc; "{name}{TEMPORARY}{number}")?;
         match create_new(rt, temporary.as_str(), mode) {
             Ok(mut file) => {
                 let written = write_file(&mut file, mode, bytes);
-                return move_file(rt, written, temporary.as_str(), name);
+                move_file(rt, written, temporary.as_str(), name)?;
+                return Ok(());
             }
             Err(e) if e.kind() == ErrorKind::AlreadyExists => {}
-            Err(_) => return Err(PutImageFault::Failed),
+            Err(e) => return Err(FileFault::Failed(e)),
         }
     }
-    Err(PutImageFault::Failed)
+    Err(FileFault::Failed(io::Error::from(ErrorKind::AlreadyExists)))
 }
 
 // The mode of the file that is to be replaced, if there is one. A file whose mode can't be told is
 // not replaced: somebody might read the new one who may not read it.
-fn mode_of(found: io::Result<Metadata>) -> Result<Option<u32>, PutImageFault>
+fn mode_of(found: io::Result<Metadata>) -> io::Result<Option<u32>>
     ensures mode { IfOk result (λ mode. IfSome mode (λ bits. IsOkAnd found (λ metadata.
         bits ≡ bit_and (metadata_mode metadata) MODE_BITS))) }
     ensures none { result ≡ Ok None ↔ IsErrAnd found (λ e. error_kind e ≡ ErrorKind.NotFound) }
-    ensures err { IsOkUnless result PutImageFault.Failed }
 {
     match found {
         Ok(metadata) => Ok(Some(metadata.permissions().mode() & MODE_BITS)),
         Err(e) if e.kind() == ErrorKind::NotFound => Ok(None),
-        Err(_) => Err(PutImageFault::Failed),
+        Err(e) => Err(e),
     }
 }
 
@@ -102,14 +97,18 @@ fn move_file<R: Files>(
     written: io::Result<()>,
     temporary: &str,
     name: &str,
-) -> Result<(), PutImageFault>
+) -> io::Result<()>
     ensures { OnOk result (IsOk written) }
 {
-    if written.is_ok() && fs::rename(rt, temporary, name).is_ok() {
-        return sync_folder(rt, name).map_err(|_| PutImageFault::Failed);
-    }
+    let error = match written {
+        Ok(()) => match fs::rename(rt, temporary, name) {
+            Ok(()) => return sync_folder(rt, name),
+            Err(error) => error,
+        },
+        Err(error) => error,
+    };
     let _ = fs::remove_file(rt, temporary);
-    Err(PutImageFault::Failed)
+    Err(error)
 }
 
 // Waits until the name of a file is on the disk. A folder that can't be opened, for any cause,
