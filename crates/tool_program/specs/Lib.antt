@@ -1,4 +1,6 @@
 pub mod Calls
 pub mod Ending
+pub mod Errors
 pub mod Help
+pub mod Seeds
 pub mod Words

@@ -2,7 +2,9 @@
 //! command line, and ends with the status.
 #![tactic(auto)]
 
+mod complaint;
 mod ending;
+mod ports;
 mod usage;
 mod words;
 
@@ -12,32 +14,53 @@ ghost use Rattle.tool_run.specs.Status.{statuses};
 
 pub use ending::run_line;
 use file_ports::{FileStore, InputSource, OutputSink};
+pub use ports::run_ports;
 use std::io::Print;
 use std::process::ExitCode;
 use std::rt::Runtime;
 use std::sync::Wait;
 use std::thread::Threads;
 use std::{env, io};
-use tool_ports::{OpenGate, SeededChances};
 pub use usage::USAGE;
 
-/// Does what the words of the process ask for: `run_line` over files, standard input and output.
-/// `err` is the standard error.
+/// Does what the words of the process ask for: `run_ports` over files, standard input and output.
+/// `err` is the standard error, which is told too what the system said of a call that failed.
 pub fn run_program<R: Runtime + AllocGlobal + Threads + Wait + Sync, E: Print>(
     rt: &R,
     err: &E,
 ) -> ExitCode
     ensures { Contains statuses (exit_status result) }
 {
-    run_line(
+    let mut images = FileStore::new(rt);
+    let mut trace = InputSource::new(rt.reader());
+    let mut out = OutputSink::new(io::writer(rt));
+    let status = run_ports(
         rt,
         rt.alloc(),
         env::args(rt),
-        &mut FileStore::new(rt),
-        &mut InputSource::new(rt.reader()),
-        &mut OutputSink::new(io::writer(rt)),
+        &mut images,
+        &mut trace,
+        &mut out,
         &mut OutputSink::new(io::writer(err)),
-        &OpenGate,
-        &mut SeededChances::new(),
-    )
+    );
+    tell_failures(err, images.failure(), trace.failure(), out.failure());
+    status
+}
+
+// Says of which file, or of which stream, a call failed, and why. What can't be written is lost.
+fn tell_failures<E: Print>(
+    err: &E,
+    file: Option<&str>,
+    input: Option<io::Error>,
+    output: Option<io::Error>,
+) {
+    if let Some(failure) = file {
+        let _ = println!(err; "heap_tool: {failure}");
+    }
+    if let Some(error) = input {
+        let _ = println!(err; "heap_tool: standard input: {error}");
+    }
+    if let Some(error) = output {
+        let _ = println!(err; "heap_tool: standard output: {error}");
+    }
 }

@@ -1,9 +1,11 @@
 //! The help on the command line.
 
-/// Every command with a line of its own, the options with their ranges, and an example.
+/// Every command with a line of its own, the options with their ranges, what each status says, and
+/// an example.
 pub const USAGE: &str = "\
 usage: heap_tool COMMAND
-  format IMAGE S       put an empty heap of S superblocks of 64 KiB (1 to 4096)
+  format IMAGE S       put an empty heap of S superblocks of 64 KiB (1 to 4096), in place of
+                       what IMAGE holds: a heap with keys is replaced unasked
   show IMAGE [--map] [--par]
                        recover the heap and print a report; with --map its superblocks too;
                        with --par by threads, and the same report
@@ -30,8 +32,12 @@ usage: heap_tool COMMAND
   drain IMAGE CLASS    recover the heap, allocate in the class (1 to 20) until it is full,
                        and print the offsets; the image stays as it is
   gen N SEED           print a trace of N requests (0 to 100000) from SEED (0 to 1000000)
-IMAGE is the path of a file. Fault lines go to standard output.
-A request is a line: put KEY HEX, get KEY or del KEY; the value - has no bytes.
+IMAGE is the path of a file. A pipe is none: a read waits, and a put makes it a file.
+Fault lines go to standard output, and what the system said to standard error.
+A request is a line: put KEY HEX, get KEY, del KEY or move KEY KEY; - is a value of no bytes.
 A schedule is a line seats N (1 to 8), and then a seat and its step in each line.
+status: 0 done, 2 usage, 3 out of memory, 4 read fault, 5 write fault, 6 no image,
+  7 bad header, 8 pointer outside, 9 bad shard, 10 bad trace or schedule
+docs/GUIDE.md has a first session, and what each status says.
 example: heap_tool format heap.img 4 && heap_tool gen 9 1 | heap_tool run heap.img --workers 1
 ";

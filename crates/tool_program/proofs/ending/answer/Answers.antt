@@ -1,5 +1,5 @@
-use Rattle.std.proofs.Common.{ℕ, List, refl, sym, ap, subst, ◌∙◌}
-use Rattle.tool_command.specs.Command.{texts}
+use Rattle.std.proofs.Common.{ℕ, List, refl, sym, ap, subst, ◌∙◌, arith}
+use Rattle.tool_command.specs.Command.{Asks, texts}
 use Rattle.tool_run.specs.Outcome.{AsksForSource}
 use Rattle.tool_program.proofs.CallsLemmas.{store_by_words, store_uncalled, source_by_words, source_unread, chances_by_words, chances_unasked}
 use Rattle.tool_program.proofs.EndingLemmas.{told_memory, by_words}
@@ -7,7 +7,7 @@ use Rattle.tool_program.proofs.ending.answer.Goals as goal
 
 pub returns-in-Ok-clause-status : goal.returns-in-Ok-clause-status
 returns-in-Ok-clause-status g c =
-    let did = c.run_tool.ensures in
+    let did = c.run_tool-status.ensures in
     by_words _ _ _ _ _ (ap texts c.deref.ensures.value ∙ c.in-Ok.ensures.ok) (record {
       known = did.known;
       ok = did.ok;
@@ -34,11 +34,11 @@ returns-in-Err-clause-status g c = told_memory _ _ _ _ c.tell_out_of_memory.ensu
 
 pub returns-in-Ok-clause-has_ended : goal.returns-in-Ok-clause-has_ended
 returns-in-Ok-clause-has_ended g c name asks =
-    c.run_tool.ensures.has_ended name (subst (λ (ws : List (List ℕ)). AsksForSource ws name) (sym (ap texts c.deref.ensures.value ∙ c.in-Ok.ensures.ok)) asks)
+    c.run_tool-status.ensures.has_ended name (subst (λ (ws : List (List ℕ)). AsksForSource ws name) (sym (ap texts c.deref.ensures.value ∙ c.in-Ok.ensures.ok)) asks)
 
 pub returns-in-Ok-clause-calls : goal.returns-in-Ok-clause-calls
 returns-in-Ok-clause-calls g c =
-    let did = c.run_tool.ensures in
+    let did = c.run_tool-status.ensures in
     store_by_words _ _ _ _ _ (ap texts c.deref.ensures.value ∙ c.in-Ok.ensures.ok) (record {
       no_call = did.no_call;
       no_call_for_a_trace = did.no_call_for_a_trace;
@@ -55,7 +55,7 @@ returns-in-Err-clause-calls g c = store_uncalled _ _ _ c.tell_out_of_memory.ensu
 
 pub returns-in-Ok-clause-reading : goal.returns-in-Ok-clause-reading
 returns-in-Ok-clause-reading g c =
-    let did = c.run_tool.ensures in
+    let did = c.run_tool-status.ensures in
     source_by_words _ _ _ _ _ _ _ (ap texts c.deref.ensures.value ∙ c.in-Ok.ensures.ok) (record {
       unread = did.unread;
       not_yet_read = did.not_yet_read;
@@ -68,10 +68,17 @@ returns-in-Err-clause-reading g c = source_unread _ _ _ _ _ c.tell_out_of_memory
 
 pub returns-in-Ok-clause-chances : goal.returns-in-Ok-clause-chances
 returns-in-Ok-clause-chances g c =
-    let did = c.run_tool.ensures in
-    chances_by_words g.C.Chances.seed_gives g.C.Chances.chance_gives g.C.Chances.word_gives _ _ _ c.args.chances.now c.run_tool.new.chances
+    let did = c.run_tool-status.ensures in
+    chances_by_words g.C.Chances.seed_gives g.C.Chances.chance_gives g.C.Chances.word_gives _ _ _ c.args.chances.now c.run_tool-status.new.chances
     (ap texts c.deref.ensures.value ∙ c.in-Ok.ensures.ok) (record { seeded = did.seeded; no_chance = did.no_chance; never_asked = did.never_asked })
 
 pub returns-in-Err-clause-chances : goal.returns-in-Err-clause-chances
 returns-in-Err-clause-chances g c =
     chances_unasked g.C.Chances.seed_gives g.C.Chances.chance_gives g.C.Chances.word_gives _ _ c.args.chances.now c.tell_out_of_memory.ensures.status
+
+pub returns-in-Ok-clause-asked : goal.returns-in-Ok-clause-asked
+returns-in-Ok-clause-asked g c command asks =
+    c.run_tool-status.ensures.asked command (subst (λ (ws : List (List ℕ)). Asks ws command) (sym (ap texts c.deref.ensures.value ∙ c.in-Ok.ensures.ok)) asks)
+
+pub returns-in-Err-clause-asked : goal.returns-in-Err-clause-asked
+returns-in-Err-clause-asked g c command asks done = absurd (omega (arith, c.tell_out_of_memory.ensures.status, done))

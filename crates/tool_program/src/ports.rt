@@ -1,0 +1,82 @@
+//! What the program does over any store, source and sinks.
+ghost use Rattle.std.specs.Prelude.{◌≡◌, ◌≢◌, ℕ, List, IsErrAnd};
+ghost use Rattle.std.specs.IoError.{error_kind};
+ghost use Rattle.std.specs.Process.{exit_status};
+ghost use Rattle.tool_command.specs.Command.{Command, Asks, image_name};
+ghost use Rattle.tool_program.specs.Calls.{CallsStore, ReadsSourceInTurn};
+ghost use Rattle.tool_program.specs.Ending.{IsStatusOf};
+ghost use Rattle.tool_program.specs.Errors.{TellsHelp};
+ghost use Rattle.tool_program.specs.Seeds.{IsMadeBySeed};
+ghost use Rattle.tool_program.specs.Words.{words_behind};
+ghost use Rattle.tool_run.specs.Asking.{IsDoneWith};
+ghost use Rattle.tool_run.specs.Outcome.{AsksForSource};
+ghost use Rattle.tool_run.specs.Status.{done, out_of_memory, usage};
+
+use crate::ending::run_line;
+use std::alloc::Global;
+use std::env::Args;
+use std::io;
+use std::process::ExitCode;
+use std::sync::Wait;
+use std::thread::Threads;
+use tool_ports::{ImageStore, OpenGate, SeededChances, Sink, Source};
+
+/// What `run_line` does, with a gate that holds nobody back, and with the numbers that the seed of
+/// the command line gives: nothing that it does is left to the caller but what lies outside.
+pub fn run_ports<R: Threads + Wait + Sync, I: ImageStore, T: Source, O: Sink, H: Sink>(
+    rt: &R,
+    alloc: Global,
+    args: io::Result<Args>,
+    images: &mut I,
+    trace: &mut T,
+    out: &mut O,
+    help: &mut H,
+) -> ExitCode
+    ensures status { IsStatusOf (words_behind args)
+        (record {
+          contents = I.contents images.old;
+          left = T.left trace.old;
+          taken = O.taken out.old;
+          store_faults = I.faults images.old;
+          source_faults = T.faults trace.old;
+          sink_faults = O.faults out.old;
+        })
+        (record {
+          contents = I.contents images.new;
+          left = T.left trace.new;
+          taken = O.taken out.new;
+          store_faults = I.faults images.new;
+          source_faults = T.faults trace.new;
+          sink_faults = O.faults out.new;
+        })
+        (exit_status result) }
+    ensures has_ended { (name : List ℕ) → AsksForSource (words_behind args) name
+        → exit_status result ≡ done → T.has_ended trace.new }
+    ensures calls { CallsStore (words_behind args) (exit_status result)
+        (I.calls images.old) (I.calls images.new) }
+    ensures reading { ReadsSourceInTurn (words_behind args) (exit_status result)
+        (I.contents images.old) (T.left trace.new) trace.old trace.new }
+    ensures by_seed { (command : Command) → Asks (words_behind args) command
+        → exit_status result ≡ done
+        → IsDoneWith (image_name command) (I.contents images.old) (I.contents images.new)
+        (O.taken out.old) (O.taken out.new)
+        (IsMadeBySeed command (I.contents images.old) (T.left trace.old)) }
+    ensures no_memory { IsErrAnd args (λ e. error_kind e ≡ ErrorKind.OutOfMemory)
+        → exit_status result ≡ out_of_memory }
+    ensures help { exit_status result ≡ usage → TellsHelp
+        (H.faults help.old) (H.faults help.new) (H.taken help.old) (H.taken help.new) }
+    ensures no_help { exit_status result ≢ usage → help.new ≡ help.old }
+{
+    let mut chances = SeededChances::new();
+    run_line(
+        rt,
+        alloc,
+        args,
+        images,
+        trace,
+        out,
+        help,
+        &OpenGate,
+        &mut chances,
+    )
+}
