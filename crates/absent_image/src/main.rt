@@ -1,5 +1,4 @@
-//! The tool once more, for a stored run that ends with another status than 0: it is asked for an
-//! image that is not there.
+//! The command-line tool over heap images.
 #![tactic(auto)]
 
 use std::process::ExitCode;
