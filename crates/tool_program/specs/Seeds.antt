@@ -1,5 +1,5 @@
 -- What a command makes of the numbers that its seed gives.
-use Rattle.std.specs.Prelude.{◌≡◌, ℕ, List, Option}
+use Rattle.std.specs.Prelude.{ℕ, List, Option}
 use Rattle.tool_command.specs.Command.{Command}
 use Rattle.tool_ports.specs.Contents.{Contents}
 use Rattle.tool_ports.specs.Seeded.{generator_of, GivesNext, BeginsBy, GivesChance, GivesWord}

@@ -16,6 +16,7 @@ use crate::ending::run_line;
 use std::alloc::Global;
 use std::env::Args;
 use std::io;
+use std::io::ErrorKind;
 use std::process::ExitCode;
 use std::sync::Wait;
 use std::thread::Threads;
