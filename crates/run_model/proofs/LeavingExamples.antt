@@ -18,8 +18,9 @@ use Rattle.dict_model.specs.Shards.{Map, MapOf, no_keys, is_empty}
 use Rattle.dict_model.proofs.ShardLemmas.{one_map_of}
 use Rattle.run_model.specs.Arrivals.{arrivals}
 use Rattle.run_model.specs.Examples.{moved_once}
+use Rattle.run_model.specs.Needs.{is_to}
 use Rattle.run_model.specs.Workers.{worker_of}
-use Rattle.run_model.specs.Runs.{of_shard, worker_unanswered, HaveArrived, IsOtherRoot, StopsRightly, IsFullRightly, RepliesRightly, LeavesMaps, LeavesHeader, LeavesOthers, LeavesUsed, LeavesState}
+use Rattle.run_model.specs.Runs.{of_shard, worker_unanswered, HaveArrived, IsAfterFirst, IsOtherRoot, StopsRightly, IsFullRightly, RepliesRightly, LeavesMaps, LeavesHeader, LeavesOthers, LeavesUsed, LeavesState}
 use Rattle.run_model.proofs.ExampleLemmas.{bare, no_keys_at_all}
 
 -- an empty image of so many superblocks, of which so many are taken
@@ -107,6 +108,13 @@ no_other_is_done left m is there none leaves = elim (leaves.each no_keys no_keys
       let done_first = subst (λ xs. MapOf left 5 (after_one (after no_keys (of_shard 5 xs)) (put 5 []) done)) (take-nil {A = Request × Reply} (leaves.arrived 0)) as_first in
       let e : Some [] ≡ None = sym there ∙ one_map_of left 5 m (after_one no_keys (put 5 []) done) is done_first 13 in absurd (cc)
 ]
+
+-- nor may a request to another shard, which changes nothing in this one
+pub not_to_another_shard : (left : Image) (map : Map) (rest : List Request) → IsAfterFirst left 5 map (get 6 ∷ rest) → ⊥
+not_to_another_shard left map rest is =
+    let same : get 6 ≡ is.request = let first = is.first in cc in
+    let e : false ≡ true = subst (λ q. is_to 5 q ≡ true) (sym same) is.to_shard in
+    absurd (cc)
 
 -- the capacity, a word without a meaning and the kind of a root that is no shard's are as they were
 pub header_stays : (image left : Image) (words : ℕ) → LeavesHeader image words left
