@@ -1,6 +1,6 @@
--- Worked examples by computation: what is a worker's of a trace and of its replies, what traces need, bounds of steps, runs that answer a first part, what workers took, what one map answers, what a put asks the heap for, the room for a get, and what arrives by moves.
+-- Worked examples by computation: what is a worker's of a trace and of its replies, what traces need, bounds of steps, runs that answer a first part, what workers took, what one map answers, the room for a get, and what arrives by moves.
 use Rattle.std.specs.Prelude.{◌≡◌, List, [], ◌∷◌, ◌++◌, length, map, sum_by, None, Some, refl}
-use Rattle.std.proofs.Common.{arith, inl, inr}
+use Rattle.std.proofs.Common.{arith}
 use Rattle.heap_model.specs.Image.{Image}
 use Rattle.heap_model.specs.Sizes.{span_of}
 use Rattle.dict_model.specs.Nodes.{node_bytes}
@@ -10,7 +10,7 @@ use Rattle.run_model.specs.Arrivals.{arrivals, worker_arrivals, arrived_for}
 use Rattle.run_model.specs.Needs.{superblocks_needed, tables_needed, step_bound}
 use Rattle.run_model.specs.Runs.{answered, unanswered, of_shard, AnswersInOrder, span_taken, first_span, worker_answered, worker_unanswered, worker_span, spans_beside}
 use Rattle.run_model.specs.Workers.{Replies, root_owner, worker_requests, worker_replies, worker_numbers}
-use Rattle.run_model.specs.Working.{AsksFor, IsLengthFor, of_trace}
+use Rattle.run_model.specs.Working.{IsLengthFor, of_trace}
 
 -- a put, a get, a del and a get of one key
 abbrev pub four : List Request
@@ -141,10 +141,6 @@ one_map = (put_done 5 (97 ∷ 98 ∷ []), (get_none 6 refl, (put_done 14 [], (de
 -- and that map after it, which has keys of both shards
 both_shards : map (after no_keys (answered mixed all_told)) (5 ∷ 14 ∷ 13 ∷ []) ≡ Some (97 ∷ 98 ∷ []) ∷ Some [] ∷ None ∷ []
 both_shards = refl
-
--- a put of two bytes asks for the four words of its node, or for a table of 128 words
-asked_by_put : AsksFor (put 5 (97 ∷ 98 ∷ [])) 32 × AsksFor (put 5 (97 ∷ 98 ∷ [])) 1024
-asked_by_put = (inl refl, inr refl)
 
 -- a trace that puts two values under one key; a get of it may answer the longer one
 abbrev pub two_puts : List Request

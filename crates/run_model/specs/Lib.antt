@@ -11,3 +11,4 @@ pub mod Spending
 pub mod Stands
 pub mod Workers
 pub mod Working
+pub mod WorkingExamples

@@ -1,5 +1,6 @@
 -- How far a run has come in its trace, where it was stopped, the room that there is for the values that it reads, and what each request did.
 use Rattle.std.specs.Prelude.{◌≡◌, ℕ, ◌+◌, ◌*◌, ◌<◌, ◌≤◌, ◌⊎◌, Bool, true, List, [], ◌∷◌, ◌++◌, length, map, Option, Some, Contains}
+use Rattle.heap_model.specs.Geometry.{root_word}
 use Rattle.heap_model.specs.Image.{Image}
 use Rattle.heap_seat.specs.declared.fault.Looks.{Looks}
 use Rattle.heap_seat.specs.View.{View}
@@ -13,7 +14,7 @@ use Rattle.dict_model.specs.Requests.{Request, put, get, del, move, Reply, full}
 use Rattle.dict_model.specs.Shards.{Map, MapOf}
 use Rattle.dict_seat.specs.Gets.{words_of}
 use Rattle.dict_seat.specs.Maps.{GivesMap}
-use Rattle.dict_seat.specs.Puts.{WasTurnedDown}
+use Rattle.dict_seat.specs.Puts.{RootIsSet, WasTurnedDown}
 use Rattle.dict_seat.specs.Walks.{ListsKeys}
 use Rattle.run_model.specs.Workers.{Replies, shard_asked}
 use Rattle.run_model.specs.Progress.{Answers, MayAnswer, HasAnswered}
@@ -107,17 +108,18 @@ abbrev pub IsUnderWay : List Request → View → View → Type 0
 IsUnderWay [] v w = w ≡ v
 IsUnderWay (request ∷ others) v w = MayAnswer request v w × MakesCalls request v w
 
--- a request may ask the heap for so many bytes: those of its put's node, or of a table
-abbrev pub AsksFor : Request → ℕ → Type 0
-AsksFor (put key value) bytes = (bytes ≡ node_bytes (length value)) ⊎ (bytes ≡ table_bytes)
-AsksFor (get key) bytes = ⊥
-AsksFor (del key) bytes = ⊥
-AsksFor (move key to) bytes = ⊥
+-- a request asked the heap for so many bytes: those of its put's node where loads see that its shard has a table, and those of a table where they see that it has none
+abbrev pub AsksFor : Request → ℕ → View → Type 0
+AsksFor (put key value) bytes w =
+    (RootIsSet w (shard_of key) × (bytes ≡ node_bytes (length value))) ⊎ ((w.volatile (root_word (shard_of key)) ≡ Some 0) × (bytes ≡ table_bytes))
+AsksFor (get key) bytes w = ⊥
+AsksFor (del key) bytes w = ⊥
+AsksFor (move key to) bytes w = ⊥
 
 -- the heap turned down one request for a block that this request made to it, and no other
 pub record WasRefused {S : Type 0} (view : S → View) (keeps : S → S → Type 0) (has_none : S → S → ℕ → Looks → Type 0) (request : Request) (s t : S) : Type 0 where
   pub once : (view t).refusals ≡ (view s).refusals + 1
-  pub asked : AsksFor request (view t).refused_bytes
+  pub asked : AsksFor request (view t).refused_bytes (view t)
   pub none : WasTurnedDown keeps has_none (view t).refused_bytes (view t).refused_looks s t
 
 -- A request went from one state of a seat to the next. Its reply is right, its tickets are below the budget, its calls are few, and what every call keeps

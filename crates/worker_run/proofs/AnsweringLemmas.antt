@@ -58,11 +58,11 @@ refused_once bytes shard looks v w (of_node set refused) = refused.count
 refused_once bytes shard looks v w (of_node_behind_table null set refused) = refused.count
 refused_once bytes shard looks v w (of_table null refused) = refused.count
 
--- of the bytes of its node, or of a table
-asks_for : (key : ℕ) (value : List ℕ) (looks : Looks) (v w : View) → PutRefused (node_bytes (length value)) (shard_of key) looks v w → AsksFor (put key value) w.refused_bytes
-asks_for key value looks v w (of_node set refused) = inl refused.bytes_are
-asks_for key value looks v w (of_node_behind_table null set refused) = inl refused.bytes_are
-asks_for key value looks v w (of_table null refused) = inr refused.bytes_are
+-- of the bytes of its node where its shard has a table, and of a table where it has none
+asks_for : (key : ℕ) (value : List ℕ) (looks : Looks) (v w : View) → PutRefused (node_bytes (length value)) (shard_of key) looks v w → AsksFor (put key value) w.refused_bytes w
+asks_for key value looks v w (of_node set refused) = inl (set, refused.bytes_are)
+asks_for key value looks v w (of_node_behind_table null set refused) = inl (set, refused.bytes_are)
+asks_for key value looks v w (of_table null refused) = inr (null, refused.bytes_are)
 
 pub was_refused : {S : Type 0} (view : S → View) (keeps : S → S → Type 0) (has_none : S → S → ℕ → Looks → Type 0) (key : ℕ) (value : List ℕ) (looks : Looks) (s t : S)
     → PutRefused (node_bytes (length value)) (shard_of key) looks (view s) (view t) → WasTurnedDown keeps has_none (view t).refused_bytes (view t).refused_looks s t
