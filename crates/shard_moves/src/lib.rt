@@ -12,4 +12,4 @@ pub use arriving::bring_in;
 pub use away::{MoveAnswer, move_away};
 pub use inbox::Inbox;
 pub use outbox::Outbox;
-pub use tables::make_tables;
+pub use tables::{ShardFlags, make_tables};

@@ -22,6 +22,10 @@ use dict_seat::{PutFault, Shard};
 use heap_seat::HeapSeat;
 use line_memory::Stopped;
 
+/// Of each shard whether it is one of those that something is said of: that values are moved to
+/// them, or that they have a table.
+pub type ShardFlags = [bool; 8];
+
 /// Whether the shard has a table in the end: one is made if there is room for it.
 fn have_table<H: HeapSeat>(seat: &mut H, number: u64) -> Result<bool, Stopped>
     requires number { number < 8 }
@@ -53,8 +57,8 @@ fn have_table<H: HeapSeat>(seat: &mut H, number: u64) -> Result<bool, Stopped>
 /// `tables` whether it has one. The maps are as before, wherever this ends.
 pub fn make_tables<H: HeapSeat>(
     seat: &mut H,
-    wanted: &[bool; 8],
-    tables: &mut [bool; 8],
+    wanted: &ShardFlags,
+    tables: &mut ShardFlags,
 ) -> Result<(), Stopped>
     requires shards { (shard : ℕ) → shard < shards → is_flagged wanted.now shard ≡ true
         → IsShard (H.view seat.old) shard }

@@ -21,7 +21,7 @@ use dict_seat::Shard;
 use heap_seat::{AllocFault, HeapSeat};
 use line_memory::Stopped;
 use region_header::Bytes;
-use shard_moves::{MoveAnswer, Outbox, move_away};
+use shard_moves::{MoveAnswer, Outbox, ShardFlags, move_away};
 use trace_text::{Reply, Request};
 
 /// Sets a key, and tells that it is done or that there is no room.
@@ -114,7 +114,7 @@ fn move_reply<H: HeapSeat, O: Outbox<H>>(
     number: usize,
     key: u64,
     to: u64,
-    tables: &[bool; 8],
+    tables: &ShardFlags,
 ) -> Result<Reply, Stopped>
     requires shard { IsShard (H.view seat.old) (shard_of key) }
     requires ready { O.ready outbox.old seat.old }
@@ -156,7 +156,7 @@ pub(crate) fn answer<H: HeapSeat, O: Outbox<H>>(
     outbox: &mut O,
     number: usize,
     request: &Request,
-    tables: &[bool; 8],
+    tables: &ShardFlags,
     room: Vec<u8>,
 ) -> Result<Reply, Stopped>
     requires shard { IsShard (H.view seat.old) (shard_asked (request_of request.now)) }

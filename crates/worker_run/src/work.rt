@@ -25,7 +25,7 @@ use crate::answer::answer;
 use crate::worker::Worker;
 use heap_seat::HeapSeat;
 use region_header::Bytes;
-use shard_moves::Outbox;
+use shard_moves::{Outbox, ShardFlags};
 use std::collections::VecDeque;
 use tool_ports::Gate;
 use trace_text::{Reply, Request};
@@ -37,7 +37,7 @@ pub fn work_off<H: HeapSeat, G: Gate, O: Outbox<H>>(
     seat: &mut H,
     worker: Worker,
     requests: &[Request],
-    tables: &[bool; 8],
+    tables: &ShardFlags,
     mut rooms: VecDeque<Bytes>,
     outbox: &mut O,
     replies: &mut Vec<Reply>,
