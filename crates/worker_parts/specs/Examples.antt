@@ -1,6 +1,7 @@
 -- Worked examples: where a worker ended, what was done behind its last answer, which calls are few, which values are left, and which keys have a table.
-use Rattle.std.specs.Prelude.{◌≡◌, ◌≢◌, ℕ, ◌+◌, ◌≤◌, Bool, true, false, nat_eq, List, [], ◌∷◌, length, map, None, Some, refl}
+use Rattle.std.specs.Prelude.{◌≡◌, ◌≢◌, ℕ, ◌+◌, ◌≤◌, Bool, true, false, nat_eq, List, [], ◌∷◌, length, map, None, Some, Contains, refl}
 use Rattle.std.proofs.Common.{arith, ap, subst, sym, inl, inr, ◌∙◌}
+use Rattle.heap_model.specs.declared.block.Block.{Block}
 use Rattle.heap_model.specs.Geometry.{root_word}
 use Rattle.heap_model.specs.Image.{Image}
 use Rattle.core_model.specs.View.{Setup}
@@ -111,6 +112,21 @@ settles_all left later s t settles = by_case (settles.settled refl) where
   by_case (had_stopped was is same) = let e : false ≡ true = is in absurd (cc)
   by_case (is_empty was is empty going quieted) = (settles.all refl was).0
   by_case (stops_now was is ticket at quieted) = let e : false ≡ true = is in absurd (cc)
+
+-- where nothing is left, no block is freed or allocated behind the last answer, also where its caches are emptied
+settles_held : (after : Bool) (s t : CacheState) → SettlesBehind [] [] false after s t → (heap_view t).held ≡ (heap_view s).held
+settles_held after s t settles = by_case (settles.settled refl) where
+  as_worked : (heap_view settles.worked).held ≡ (heap_view s).held
+  as_worked = ap (λ (v : View). v.held) (settles.under_way refl)
+
+  by_case : HasSettled settles.before after settles.worked t → (heap_view t).held ≡ (heap_view s).held
+  by_case (had_stopped was is same) = ap (λ (x : CacheState). (heap_view x).held) same ∙ as_worked
+  by_case (is_empty was is empty going quieted) = quieted.own.held ∙ as_worked
+  by_case (stops_now was is ticket at quieted) = quieted.own.held ∙ as_worked
+
+frees_behind : (b : Block) (after : Bool) (s t : CacheState) → Contains (heap_view s).held b → (Contains (heap_view t).held b → ⊥)
+    → SettlesBehind [] [] false after s t → ⊥
+frees_behind b after s t held freed settles = freed (subst (λ bs. Contains bs b) (sym (settles_held after s t settles)) held)
 
 -- a shard with a table in the image doesn't lack one; nor does one of a heap whose mark was never seen above 0, over which the seat took nothing
 lacks_not : (shard tables : ℕ) (s t : CacheState) → LacksTable (λ word. 9) tables shard s t → ⊥
