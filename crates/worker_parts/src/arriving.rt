@@ -13,7 +13,7 @@ use crate::asking::Asked;
 use crate::beginning::Begun;
 use heap_rule::{Seat, Shared};
 use line_memory::Chance;
-use shard_moves::{Inbox, bring_in};
+use shard_moves::{Inbox, ShardFlags, bring_in};
 use thread_cache::CacheSeat;
 use trace_text::{Reply, Request};
 use worker_run::Worker;
@@ -42,7 +42,7 @@ pub fn arrive<'a, C: Chance, I: Inbox<CacheSeat<'a, C>>>(
     inbox: &mut I,
     _shared: &Shared,
     _requests: &[Request],
-    _tables: &[bool; 8],
+    _tables: &ShardFlags,
 ) -> Worked
     requires asked { IsAskedOf _shared.now (requests_of _requests.now) (is_flagged _tables.now) asked }
     requires going { asked.stopped ≡ false }
@@ -80,7 +80,7 @@ pub fn leave<C: Chance>(
     asked: Asked<'_, C>,
     _shared: &Shared,
     _requests: &[Request],
-    _tables: &[bool; 8],
+    _tables: &ShardFlags,
 ) -> Worked
     requires asked { IsAskedOf _shared.now (requests_of _requests.now) (is_flagged _tables.now) asked }
     requires stopped { asked.stopped ≡ true }

@@ -27,7 +27,7 @@ use heap_rule::Shared;
 use heap_seat::HeapSeat;
 use line_memory::Chance;
 use region_header::Bytes;
-use shard_moves::Outbox;
+use shard_moves::{Outbox, ShardFlags};
 use std::collections::VecDeque;
 use thread_cache::CacheSeat;
 use tool_ports::Gate;
@@ -49,7 +49,7 @@ pub fn ask<'a, C: Chance, G: Gate, O: Outbox<CacheSeat<'a, C>>>(
     begun: Begun<'a, C>,
     _shared: &Shared,
     requests: &[Request],
-    tables: &[bool; 8],
+    tables: &ShardFlags,
     outbox: &mut O,
     gate: &G,
 ) -> Asked<'a, C>
@@ -112,7 +112,7 @@ fn ask_seat<H: HeapSeat + Opened, G: Gate, O: Outbox<H>>(
     seat: &mut H,
     worker: Worker,
     requests: &[Request],
-    tables: &[bool; 8],
+    tables: &ShardFlags,
     rooms: VecDeque<Bytes>,
     outbox: &mut O,
     replies: &mut Vec<Reply>,

@@ -11,7 +11,7 @@ use crate::targets::own_targets;
 use heap_rule::{Seat, Shared};
 use line_memory::Chance;
 use region_header::Bytes;
-use shard_moves::make_tables;
+use shard_moves::{ShardFlags, make_tables};
 use std::collections::VecDeque;
 use thread_cache::CacheSeat;
 use trace_text::{Reply, Request};
@@ -36,7 +36,7 @@ pub struct Begun<'a, C> {
     pub seat: CacheSeat<'a, C>,
     pub rooms: VecDeque<Bytes>,
     pub replies: Vec<Reply>,
-    pub tables: [bool; 8],
+    pub tables: ShardFlags,
     pub stopped: bool,
 }
 
@@ -45,7 +45,7 @@ pub fn begin<'a, C: Chance>(
     job: Job<C>,
     shared: &'a Shared,
     _requests: &[Request],
-    targets: &[bool; 8],
+    targets: &ShardFlags,
 ) -> Begun<'a, C>
     requires job { IsJobOf shared.now (requests_of _requests.now) job }
     requires targets { (shard : ℕ) → shard < shards

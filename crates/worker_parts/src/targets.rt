@@ -8,11 +8,12 @@ ghost use Rattle.shard_moves.specs.Tables.{is_flagged};
 ghost use Rattle.worker_run.specs.Said.{requests_of};
 
 use dict_model::SHARDS;
+use shard_moves::ShardFlags;
 use trace_text::Request;
 use worker_run::Worker;
 
 /// The shards that the moves of a trace bring values to.
-pub fn targets_of_moves(requests: &[Request]) -> [bool; 8]
+pub fn targets_of_moves(requests: &[Request]) -> ShardFlags
     ensures { (shard : ℕ) → shard < shards
         → is_flagged result shard ≡ is_moved_to (requests_of requests.now) shard }
 {
@@ -26,7 +27,7 @@ pub fn targets_of_moves(requests: &[Request]) -> [bool; 8]
 }
 
 /// Those of them that are the worker's.
-pub(crate) fn own_targets(worker: Worker, targets: &[bool; 8]) -> [bool; 8]
+pub(crate) fn own_targets(worker: Worker, targets: &ShardFlags) -> ShardFlags
     requires { 1 ≤ worker.workers }
     ensures { (requests : List RequestView)
         → ((shard : ℕ) → shard < shards → is_flagged targets.now shard ≡ is_moved_to requests shard)
