@@ -1,5 +1,5 @@
 # make         builds the proved heap_tool and says where it lies
-# make test    runs the tests and the stored runs but those of slow_tests, absent_image and stopped_run, and proves nothing
+# make test    runs the tests and the stored runs but those of slow_tests and stopped_run, and proves nothing
 # make demo    a first session with a program that was not proved, in a minute or two
 # make check   every check: the gate
 # make bench   times the program beside the system's tools and other stores, runs of traces, and the heaps, and draws it
