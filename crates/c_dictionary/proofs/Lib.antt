@@ -1,0 +1,4 @@
+pub mod HandleValues
+pub mod Numbers
+pub mod Passing
+pub mod Values

@@ -1,0 +1,21 @@
+use Rattle.std.proofs.Common.{inr, Some, None, true, false}
+use Rattle.dict_model.specs.Nodes.{shard_of}
+use Rattle.dict_model.specs.Requests.{with_key, without_key}
+use Rattle.dict_seat.specs.Changes.{MayChange, Changes}
+use Rattle.dict_seat.specs.Gets.{Gets}
+use Rattle.dict_seat.specs.Answers.{Deletes}
+use Rattle.c_dictionary.proofs.Numbers.{not_zero, not_one, not_eleven}
+use Rattle.c_dictionary.proofs.Passing.{passes}
+use Rattle.c_dictionary.proofs.calls.heap_get.Goals as goal
+
+pub returns-then-state-ne-GOING-clause-found : goal.returns-then-state-ne-GOING-clause-found
+returns-then-state-ne-GOING-clause-found c = λ e. absurd (not_zero c.refusal.result c.refusal.ensures e)
+
+pub returns-clause-found : goal.returns-clause-found
+returns-clause-found c = λ e. passes (Gets c.args.key (Some c.get-status.new.length) c.args.room.now c.get-status.new.room) c.args.handle.now.value c.state-state.new.self.value c.set.new.self.value c.take.result.value c.into_box-store.result.value c.deref_mut.result.now c.get-status.new.store c.of.result.value c.state-state.ensures.1 c.take.ensures.0 c.into_box-store.ensures c.deref_mut.ensures.value c.set.ensures c.of.ensures (c.get-status.ensures.found e)
+
+pub returns-then-state-ne-GOING-clause-absent : goal.returns-then-state-ne-GOING-clause-absent
+returns-then-state-ne-GOING-clause-absent c = λ e. absurd (not_one c.refusal.result c.refusal.ensures e)
+
+pub returns-clause-absent : goal.returns-clause-absent
+returns-clause-absent c = λ e. passes (Gets c.args.key None c.args.room.now c.get-status.new.room) c.args.handle.now.value c.state-state.new.self.value c.set.new.self.value c.take.result.value c.into_box-store.result.value c.deref_mut.result.now c.get-status.new.store c.of.result.value c.state-state.ensures.1 c.take.ensures.0 c.into_box-store.ensures c.deref_mut.ensures.value c.set.ensures c.of.ensures (c.get-status.ensures.absent e)

@@ -1,0 +1,11 @@
+//! The dictionary for programs in C: an image in bytes is opened and closed, and keys are put, read
+//! and taken out.
+#![tactic(auto)]
+
+mod calls;
+mod handle;
+mod images;
+mod loose;
+mod requests;
+mod status;
+mod store;
