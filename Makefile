@@ -1,4 +1,5 @@
 # make         builds the proved heap_tool and says where it lies
+# make library  builds the dictionary's library for C and Python, proved: bin/libheap.a, libheap.so, heap.h, heap.py and heap.pc (docs/C.md)
 # make test    runs the tests and the stored runs but those of slow_tests and stopped_run, and proves nothing
 # make demo    a first session with a program that was not proved, in a minute or two
 # make check   every check: the gate
@@ -12,7 +13,7 @@
 # make explore  makes out/explore.html: the put of docs/GUIDE.md that is cut off, with a slider over its stops, and why each leaves what it leaves
 # make explore-test  opens such a page in chromium, where there is one, and holds it against what the program prints
 # make clean   removes what these made
-.PHONY: all test demo check bench faults schedules readings compare kills soak explore explore-test clean
+.PHONY: all library test demo check bench faults schedules readings compare kills soak explore explore-test clean
 
 all: bin/heap_tool
 
@@ -23,8 +24,15 @@ bin/heap_tool: crates.txt $(wildcard crates/*/src/*.rt crates/*/specs/*.antt cra
 	cp crates/heap_tool/out/heap_tool bin/heap_tool
 	@echo "the program is bin/heap_tool"
 
+library: bin/libheap.a
+
+bin/libheap.a: crates.txt $(wildcard library/* crates/*/src/*.rt crates/*/specs/*.antt crates/*/proofs/*.antt)
+	cd crates/c_dictionary && rt lib
+	tools/c_library
+
 test:
 	tools/run_tests
+	tools/c_door
 
 demo:
 	tools/demo
