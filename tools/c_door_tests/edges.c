@@ -47,7 +47,7 @@ static void try_values(void) {
     heap_dict dict = {0};
     heap_fault fault = {0};
     uint64_t length = 7;
-    expect("format", heap_format(4, &dict, &fault), HEAP_DONE);
+    expect("format", heap_format(8, &dict, &fault), HEAP_DONE);
     expect("no key yet", heap_get(&dict, 0, room, 1, &length), HEAP_ABSENT);
     memset(value, 5, sizeof value);
     expect("the longest value", heap_put(&dict, UINT64_MAX, value, HEAP_LONGEST_VALUE), HEAP_DONE);

@@ -36,7 +36,7 @@ def told_by_tool(image):
 class Trial:
     def __init__(self, seed):
         self.random = random.Random(seed)
-        self.heap, self.model, self.counts = Heap(superblocks=2), {}, Counter()
+        self.heap, self.model, self.counts = Heap(superblocks=24), {}, Counter()
         self.keys = sorted({0, 2**64 - 1, *(self.random.getrandbits(64) for _ in range(20)), *range(20)})
 
     def holds(self, heap):
