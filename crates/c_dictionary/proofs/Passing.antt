@@ -5,10 +5,10 @@ use Rattle.block_heap.specs.SeqState.{seat_of}
 use Rattle.c_dictionary.specs.declared.store.Store.{Store}
 use Rattle.c_dictionary.specs.Passing.{Passes}
 
-pub passes : (how : View → View → Type 0) (args told done : Option Store) (taken boxed lent after last : Store)
-    → told ≡ args → told ≡ Some taken → boxed ≡ taken → lent ≡ boxed → done ≡ Some last → last ≡ after
-    → how (seat_of lent.heap) (seat_of after.heap) → Passes args done how
-passes how args told done taken boxed lent after last same held box lend set of is = record {
+pub passes : (how : View → View → Type 0) (args told left : Option Store) (taken boxed lent after last : Store)
+    → told ≡ args → told ≡ Some taken → boxed ≡ taken → lent ≡ boxed → left ≡ Some last → last ≡ after
+    → how (seat_of lent.heap) (seat_of after.heap) → Passes args left how
+passes how args told left taken boxed lent after last same held box lend set of is = record {
   before = lent;
   after = after;
   had = sym same ∙ held ∙ ap Some (sym box ∙ sym lend);
