@@ -1,10 +1,6 @@
-use Rattle.std.proofs.Common.{inr, Some, None, true, false}
-use Rattle.dict_model.specs.Nodes.{shard_of}
-use Rattle.dict_model.specs.Requests.{with_key, without_key}
-use Rattle.dict_seat.specs.Changes.{MayChange, Changes}
+use Rattle.std.proofs.Common.{Some, None}
 use Rattle.dict_seat.specs.Gets.{Gets}
-use Rattle.dict_seat.specs.Answers.{Deletes}
-use Rattle.c_dictionary.proofs.Numbers.{not_zero, not_one, not_eleven}
+use Rattle.c_dictionary.proofs.Numbers.{not_zero, not_one}
 use Rattle.c_dictionary.proofs.Passing.{passes}
 use Rattle.c_dictionary.proofs.calls.heap_get.Goals as goal
 

@@ -1,5 +1,5 @@
--- A handle may go to another thread: what it owns names no key, where a a dictionary may go.
-use Rattle.std.proofs.Common.{ℕ, Option, None, Some, List, []}
+-- A handle may go to another thread: what it owns names no key, where a dictionary may go.
+use Rattle.std.proofs.Common.{ℕ, Option, None, Some}
 use mir.Raw.{raw}
 use base.Shift.{Keyless}
 use denote.Memory.{lone}
