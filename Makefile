@@ -8,12 +8,14 @@
 # make schedules  runs the schedules of docs/ALGORITHM.md, and compares their answers
 # make compare  holds the program against a second reading of the format, over damaged images, random traces and schedules, for a minute
 # make readings  checks the second readings of traces and runs by small cases that were worked out by hand; make compare and make soak begin with it
+# make pages   types the commands of README, docs/GUIDE.md and docs/IMAGE.md, and holds what is printed against these pages
+# make stops   stops a short run with moves at every step, and judges each image by the second reading (ten minutes)
 # make kills   kills the program at random moments of a run, and counts which images and temporaries that leaves
 # make soak    runs random traces with one to eight workers for ten minutes (MINUTES), and holds each answer against a second reading; then threads that allocate and free at random, and threads that hand blocks round, for one minute each
 # make explore  makes out/explore.html: the put of docs/GUIDE.md that is cut off, with a slider over its stops, and why each leaves what it leaves
 # make explore-test  opens such a page in chromium, where there is one, and holds it against what the program prints
 # make clean   removes what these made
-.PHONY: all library test demo check bench faults schedules readings compare kills soak explore explore-test clean
+.PHONY: all library test demo check bench faults schedules readings compare pages stops kills soak explore explore-test clean
 
 all: bin/heap_tool
 
@@ -54,6 +56,12 @@ readings:
 
 compare: bin/heap_tool readings
 	tools/compare
+
+pages: bin/heap_tool
+	tools/check_pages
+
+stops: bin/heap_tool readings
+	tools/stops
 
 kills: bin/heap_tool
 	tools/kills
