@@ -1,23 +1,9 @@
-use Rattle.std.proofs.Common.{◌≡◌, ap, arith, length, refl, subst, ◌∙◌, rules}
+use Rattle.std.proofs.Common.{◌≡◌, ap, arith, length, refl, rules}
 use Rattle.std.specs.Vec.{vec_len}
 use Rattle.shard_moves.specs.Tables.{is_flagged}
-use Rattle.seat_parcels.specs.Boxes.{ArePutRightly}
-use Rattle.run_rows.proofs.SendLemmas.{begun_in_step, empty_of, goes_offering, none_sent}
+use Rattle.run_rows.proofs.SendLemmas.{begun_in_step, goes_offering, none_sent}
 use Rattle.post_tests.proofs.FirstLemmas.{all_short, no_target, one_room}
 use Rattle.post_tests.proofs.early.send.Goals as goal
-
-pub new-outbox-requires : goal.new-outbox-requires
-new-outbox-requires g c =
-    let are = c.requires.passes in
-    record {
-      workers = omega arith;
-      queues = c.requires.queues;
-      each = are.two;
-      passes = are.to_them.passes_are;
-      parts = are.to_them.parts_are;
-      rightly = subst (λ n. ArePutRightly n 0 c.args.passes.items) are.two are.to_them.rightly;
-      kept = empty_of _ c.in_ok-kept.kept.items c.in_ok-kept.ensures.items;
-    }
 
 pub ask-asked-requires : goal.ask-asked-requires
 ask-asked-requires g c =

@@ -1,7 +1,7 @@
 use Rattle.std.proofs.Common.{◌≡◌, ◌<◌, ◌∙◌, ℕ, List, [], ◌∷◌, length, get_or, slice_index, ap, sym, subst, refl, arith}
 use Rattle.std.specs.BTreeMap.{BTreeMap}
 use Rattle.super_block.specs.Contents.{Contents}
-use Rattle.core_model.specs.Opening.{AreOwners, opened_view, setup_of}
+use Rattle.core_model.specs.Opening.{opened_view, setup_of}
 use Rattle.heap_table.specs.Rule.{Opening, opening_of, setup_for}
 use Rattle.heap_rule.specs.Seated.{IsSeatOf, SeatView}
 use Rattle.heap_rule.specs.Seats.{AreOpenedSeats}
@@ -12,15 +12,8 @@ use Rattle.run_model.specs.Working.{HaveRoom}
 use Rattle.worker_parts.specs.Begun.{IsOpenedFor}
 use Rattle.worker_run.specs.Said.{requests_of}
 use Rattle.shared_run.proofs.OpeningLemmas.{opened_fresh}
-use Rattle.post_tests.proofs.FirstLemmas.{all_short, three_requests}
+use Rattle.post_tests.proofs.FirstLemmas.{three_requests}
 use Rattle.post_tests.proofs.opening.open.Goals as goal
-
-pub longest_puts-requires : goal.longest_puts-requires
-longest_puts-requires c = all_short _ c.requires.trace
-
-pub open_shared-requires-clause-owners : goal.open_shared-requires-clause-owners
-open_shared-requires-clause-owners c =
-    subst (λ (heap : Contents). AreOwners heap.held 2 c.in_ok-owners.owners.held c.in_ok-owners.owners.roots) (sym c.into_parts-heap.ensures.heap) c.in_ok-owners.ensures.fits
 
 pub returns-clause-job : goal.returns-clause-job
 returns-clause-job c =
