@@ -1,4 +1,5 @@
 use Rattle.std.proofs.Common.{◌≡◌, ◌<◌, ◌∙◌, ℕ, List, [], ◌∷◌, length, get_or, slice_index, ap, sym, subst, refl, arith}
+use Rattle.std.proofs.lemmas.List.{length-map}
 use Rattle.std.specs.BTreeMap.{BTreeMap}
 use Rattle.super_block.specs.Contents.{Contents}
 use Rattle.core_model.specs.Opening.{opened_view, setup_of}
@@ -10,7 +11,7 @@ use Rattle.dictionary.specs.Reading.{AreMaps}
 use Rattle.run_model.specs.Workers.{worker_requests}
 use Rattle.run_model.specs.Working.{HaveRoom}
 use Rattle.worker_parts.specs.Begun.{IsOpenedFor}
-use Rattle.worker_run.specs.Said.{requests_of}
+use Rattle.worker_run.specs.Said.{request_of, requests_of}
 use Rattle.shared_run.proofs.OpeningLemmas.{opened_fresh}
 use Rattle.post_tests.proofs.FirstLemmas.{three_requests}
 use Rattle.post_tests.proofs.opening.open.Goals as goal
@@ -28,18 +29,20 @@ returns-clause-job c =
     let opened = subst (λ (heap : Contents). AreOpenedSeats shared (opened_view (setup_of heap.words 1000000 2) heap.held owners.held owners.roots) seats) c.into_parts-heap.ensures.heap c.in_ok-shared.ensures.seats in
     let fresh = opened_fresh words held 2 1000000 owners.held owners.roots c.into_parts-heap.ensures.ready c.requires.dictionary c.in_ok-owners.ensures shared seats opening opened in
     let two : length seats ≡ 2 = opened.count ∙ c.in_ok-shared.ensures.count in
-    let split = sym c.from_vec-seats.ensures ∙ c.in-Some.ensures.items in
+    let split = sym c.from_vec-seats.ensures.items ∙ c.in-Some.ensures.items in
     let at = ap (λ (l : List SeatView). get_or l 0 seat) split in
     let first : IsSeatOf shared seat × IsOpenedFor shared.opening 2 0 seat.view = subst (λ n. IsSeatOf shared seat × IsOpenedFor shared.opening n 0 seat.view) two
     (subst (λ (s : SeatView). IsSeatOf shared s × IsOpenedFor shared.opening (length seats) 0 s.view) at (fresh.each 0 seat (omega (arith, two)))) in
     let same : seat.view.setup.opened ≡ words = ap (λ k. k.opened) first.0.setup ∙ ap (λ (o : Opening). (setup_for o).opened) opening in
     let read = subst (λ (ms : List (BTreeMap ℕ (List ℕ))). AreMaps (slice_index words) shards ms) (sym c.deref.ensures.value) c.into_parts-heap.ensures.maps in
     let rooms = c.in_ok-rooms.ensures (slice_index words) c.requires.dictionary.maps read c.in_ok-longest.ensures in
+    let lines : length c.args.requests.now ≡ 3 = sym (length-map c.args.requests.now request_of) ∙ ap length c.requires.trace in
+    let longest : length (worker_requests 2 0 qs) ≡ 3 = three_requests 2 0 qs refl refl c.requires.trace in
     record {
       below = omega arith;
       seat = first.0;
       fresh = first.1;
       rooms = subst (λ (ws : List ℕ). HaveRoom (slice_index ws) qs (worker_requests 2 0 qs) c.in_ok-rooms.rooms.items) (sym same) rooms;
       empty = c.in_ok-replies.ensures.items;
-      reserved = (let n = three_requests 2 0 qs refl refl c.requires.trace in let exact = c.in_ok-replies.ensures.exact in let room = c.in_ok-replies.ensures.capacity in omega (arith, n, exact, room));
+      reserved = (let room = c.in_ok-replies.ensures.capacity in omega (arith, longest, lines, room));
     }
