@@ -1,4 +1,4 @@
-use Rattle.std.proofs.Common.{◌≡◌, ◌∙◌}
+use Rattle.std.proofs.Common.{◌∙◌}
 use Rattle.post_tests.proofs.FirstLemmas.{new_pair}
 use Rattle.post_tests.proofs.early.run_over.Goals as goal
 

@@ -1,4 +1,4 @@
-use Rattle.std.proofs.Common.{◌≡◌, ◌<◌, ◌∙◌, ℕ, List, [], ◌∷◌, length, get_or, slice_index, ap, sym, subst, refl, arith}
+use Rattle.std.proofs.Common.{◌≡◌, ◌∙◌, ℕ, List, length, get_or, slice_index, ap, sym, subst, refl, arith}
 use Rattle.std.proofs.lemmas.List.{length-map}
 use Rattle.std.specs.BTreeMap.{BTreeMap}
 use Rattle.super_block.specs.Contents.{Contents}
