@@ -72,13 +72,15 @@ pub all_short : (requests : List Request) → requests ≡ move_among_others →
 all_short requests trace = subst ValuesAreShort (sym trace) (record { each = each_short })
 
 -- a pass to each of two queues, as it was made
-module _ (one two : QueueView) (p q : PassView Parcel) (to_one : p.queue ≡ one.queue) (new_one : p.account ≡ unused 1) (to_two : q.queue ≡ two.queue) (new_two : q.account ≡ unused 1) where
+module _ (one two : QueueView) (p q : PassView Parcel) (to_one : p.queue ≡ one.queue) (new_one : p.account ≡ unused 1)
+    (to_two : q.queue ≡ two.queue) (new_two : q.account ≡ unused 1) where
   are_new : p ∷ q ∷ [] ≡ map with_a_part (p ∷ q ∷ [])
   are_new =
       ap (λ (a : Account Parcel). record p { account = a } ∷ q ∷ []) new_one
       ∙ ap (λ (a : Account Parcel). with_a_part p ∷ record q { account = a } ∷ []) new_two
 
-  pub new_pair : (queues : List QueueView) (passes : List (PassView Parcel)) → queues ≡ one ∷ two ∷ [] → passes ≡ p ∷ q ∷ [] → AreUnused queues passes
+  pub new_pair : (queues : List QueueView) (passes : List (PassView Parcel)) → queues ≡ one ∷ two ∷ []
+      → passes ≡ p ∷ q ∷ [] → AreUnused queues passes
   new_pair queues passes queues_are passes_are =
       let are = passes_are ∙ are_new in
       let part_one : p.account.parts ≡ 1 = ap (λ (a : Account Parcel). a.parts) new_one in

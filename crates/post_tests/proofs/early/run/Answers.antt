@@ -9,4 +9,6 @@ use Rattle.post_tests.proofs.early.run.Goals as goal
 pub begin-begun-requires-clause-targets : goal.begin-begun-requires-clause-targets
 begin-begun-requires-clause-targets g c =
     let same = ap requests_of (c.deref-3.ensures.value ∙ sym c.deref-2.ensures.value) in
-    subst (λ (requests : List Request). (shard : ℕ) → shard < shards → is_flagged c.targets_of_moves.result shard ≡ is_moved_to requests shard) same c.targets_of_moves.ensures
+    let targets = c.targets_of_moves.result in
+    subst (λ (requests : List Request). (shard : ℕ) → shard < shards → is_flagged targets shard ≡ is_moved_to requests shard) same
+    c.targets_of_moves.ensures

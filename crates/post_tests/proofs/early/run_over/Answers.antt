@@ -6,7 +6,8 @@ pub send_and_take-requires-clause-passes : goal.send_and_take-requires-clause-pa
 send_and_take-requires-clause-passes g c κs within =
     let first = c.in_ok-first.first in
     let second = c.in_ok-second.second in
-    let to_first = c.another.ensures in
-    let to_second = c.another-2.ensures in
-    new_pair first second c.another.result c.another-2.result to_first.queue.1 to_first.fresh to_second.queue.1 to_second.fresh c.deref.result.now c.in_ok-passes.passes.items
-        (c.deref.ensures.value ∙ c.in_ok-queues.ensures.items) c.in_ok-passes.ensures.items
+    let one = c.another.ensures in
+    let two = c.another-2.ensures in
+    let queues_are = c.deref.ensures.value ∙ c.in_ok-queues.ensures.items in
+    new_pair first second c.another.result c.another-2.result one.queue.1 one.fresh two.queue.1 two.fresh
+    c.deref.result.now c.in_ok-passes.passes.items queues_are c.in_ok-passes.ensures.items

@@ -10,6 +10,7 @@ ask-asked-requires g c =
     let is = c.requires.begun in
     let begun = c.args.begun in
     let w = begun.worker in
+    let was = is.begun_of in
     let box = c.new-outbox.result in
     let spare = c.new-outbox.ensures.spare in
     let kept = c.in_ok-kept.kept in
@@ -17,6 +18,8 @@ ask-asked-requires g c =
     let none = ap length c.in_ok-kept.ensures.items in
     let exact = c.in_ok-kept.ensures.exact in
     let room = c.in_ok-kept.ensures.capacity in
+    let unsent = none_sent box c.args.passes.items kept.items c.new-outbox.ensures.passes c.new-outbox.ensures.kept
+    c.requires.passes.nothing c.in_ok-kept.ensures.items in
     let need = one_room w.workers w.number _ is.workers is.number is.trace in
     λ k. (
       (refl, tt),
@@ -31,8 +34,8 @@ ask-asked-requires g c =
               (
                 (λ s t on. goes_offering _ s t on),
                 (
-                  begun_in_step c.args.shared.now w.workers w.number _ (is_flagged begun.tables) begun.stopped is.begun_of.first begun.seat.state is.begun_of.is_first is.begun_of.part _ box c.requires.heap
-                      (none_sent box c.args.passes.items kept.items c.new-outbox.ensures.passes c.new-outbox.ensures.kept c.requires.passes.nothing c.in_ok-kept.ensures.items),
+                  begun_in_step c.args.shared.now w.workers w.number _ (is_flagged begun.tables) begun.stopped was.first begun.seat.state
+                      was.is_first was.part _ box c.requires.heap unsent,
                   omega (arith, spare, long, none, exact, room, need),
                 ),
               ),

@@ -25,16 +25,22 @@ returns-clause-job c =
     let seats = c.in_ok-shared.seats.items in
     let seat = c.in-Some.seat in
     let qs = requests_of c.args.requests.now in
-    let opening = c.in_ok-shared.ensures.opening ∙ ap (λ (heap : Contents). opening_of heap owners 2 1000000) c.into_parts-heap.ensures.heap in
-    let opened = subst (λ (heap : Contents). AreOpenedSeats shared (opened_view (setup_of heap.words 1000000 2) heap.held owners.held owners.roots) seats) c.into_parts-heap.ensures.heap c.in_ok-shared.ensures.seats in
-    let fresh = opened_fresh words held 2 1000000 owners.held owners.roots c.into_parts-heap.ensures.ready c.requires.dictionary c.in_ok-owners.ensures shared seats opening opened in
+    let parts = c.into_parts-heap.ensures in
+    let opening = c.in_ok-shared.ensures.opening ∙ ap (λ (heap : Contents). opening_of heap owners 2 1000000) parts.heap in
+    let opened = subst
+    (λ (heap : Contents). AreOpenedSeats shared (opened_view (setup_of heap.words 1000000 2) heap.held owners.held owners.roots) seats)
+    parts.heap c.in_ok-shared.ensures.seats in
+    let fresh = opened_fresh words held 2 1000000 owners.held owners.roots parts.ready c.requires.dictionary c.in_ok-owners.ensures
+    shared seats opening opened in
     let two : length seats ≡ 2 = opened.count ∙ c.in_ok-shared.ensures.count in
     let split = sym c.from_vec-seats.ensures.items ∙ c.in-Some.ensures.items in
     let at = ap (λ (l : List SeatView). get_or l 0 seat) split in
-    let first : IsSeatOf shared seat × IsOpenedFor shared.opening 2 0 seat.view = subst (λ n. IsSeatOf shared seat × IsOpenedFor shared.opening n 0 seat.view) two
-    (subst (λ (s : SeatView). IsSeatOf shared s × IsOpenedFor shared.opening (length seats) 0 s.view) at (fresh.each 0 seat (omega (arith, two)))) in
+    let first : IsSeatOf shared seat × IsOpenedFor shared.opening 2 0 seat.view =
+    subst (λ n. IsSeatOf shared seat × IsOpenedFor shared.opening n 0 seat.view) two
+    (subst (λ (s : SeatView). IsSeatOf shared s × IsOpenedFor shared.opening (length seats) 0 s.view) at
+    (fresh.each 0 seat (omega (arith, two)))) in
     let same : seat.view.setup.opened ≡ words = ap (λ k. k.opened) first.0.setup ∙ ap (λ (o : Opening). (setup_for o).opened) opening in
-    let read = subst (λ (ms : List (BTreeMap ℕ (List ℕ))). AreMaps (slice_index words) shards ms) (sym c.deref.ensures.value) c.into_parts-heap.ensures.maps in
+    let read = subst (λ (ms : List (BTreeMap ℕ (List ℕ))). AreMaps (slice_index words) shards ms) (sym c.deref.ensures.value) parts.maps in
     let rooms = c.in_ok-rooms.ensures (slice_index words) c.requires.dictionary.maps read c.in_ok-longest.ensures in
     let lines : length c.args.requests.now ≡ 3 = sym (length-map c.args.requests.now request_of) ∙ ap length c.requires.trace in
     let longest : length (worker_requests 2 0 qs) ≡ 3 = three_requests 2 0 qs refl refl c.requires.trace in
