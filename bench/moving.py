@@ -51,10 +51,14 @@ def in_traces(requests):
     return [requests[at : at + most] for at in range(0, len(requests), most)]
 
 
+def format_whole(image):
+    """The largest heap there is, for each length: so all are opened over as much memory."""
+    subprocess.run([TOOL, "format", str(image), "4096"], check=True, stdout=subprocess.DEVNULL)
+
+
 def fill(image, count, asked):
     """A heap with all keys, of which each was put, replaced, taken out and put again."""
-    superblocks = 64 + 8 * count
-    subprocess.run([TOOL, "format", str(image), str(min(superblocks, 4096))], check=True, stdout=subprocess.DEVNULL)
+    format_whole(image)
     for name in ("put", "put", "del", "put"):
         for requests in in_traces(asked[name]):
             run(image, "".join(requests))
@@ -62,7 +66,7 @@ def fill(image, count, asked):
 
 def fill_apart(image, count, asked):
     """The same keys, each of which had others put behind it that are gone again."""
-    subprocess.run([TOOL, "format", str(image), "256"], check=True, stdout=subprocess.DEVNULL)
+    format_whole(image)
     mixed, gone = [], []
     for key, put in enumerate(asked["put"]):
         others = [FIRST_BETWEEN + BETWEEN * key + i for i in range(BETWEEN)]
@@ -95,14 +99,14 @@ def main(runs="5", count="500"):
     print("|---|---|" + "---|" * len(WORKERS))
     with tempfile.TemporaryDirectory(dir=shared_memory()) as folder:
         room = pathlib.Path(folder)
-        for length, filled, name_of_row in ROWS:
+        for length, filled, title in ROWS:
             asked = lines(count, length)
             filled(room / "filled", count, asked)
             empty = {n: time_of(places, room, "", n, runs) for n in WORKERS}
             for name, requests in asked.items():
                 first = in_traces(requests)[0]
                 cells = [(time_of(places, room, "".join(first), n, runs) - empty[n]) / len(first) for n in WORKERS]
-                print(f"| {name_of_row} | {name} | " + " | ".join(f"{cell:,.0f}" for cell in cells) + " |", flush=True)
+                print(f"| {title} | {name} | " + " | ".join(f"{cell:,.0f}" for cell in cells) + " |", flush=True)
 
 
 if __name__ == "__main__":
