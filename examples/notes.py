@@ -14,7 +14,7 @@ def keep_notes(path):
         heap[3] = b"three"
         del heap[3]
     with Heap(path) as heap:
-        print("notes:", heap[1], len(heap[70]), 3 in heap)
+        print("notes:", list(heap), heap[1], len(heap[70]), 3 in heap)
 
 
 def crash_after_a_put(path):

@@ -14,7 +14,7 @@ extern "C" {
 /* What a call answers. Up to 10 these are the numbers with which heap_tool ends. */
 enum {
     HEAP_DONE = 0,
-    HEAP_ABSENT = 1,   /* the key is not there */
+    HEAP_ABSENT = 1,   /* the key, or a greater one, is not there */
     HEAP_USAGE = 2,    /* an argument is out of range, or the dictionary is not open (or is, where
                           it is to be opened): nothing was done */
     HEAP_MEMORY = 3,   /* malloc refused */
@@ -64,6 +64,10 @@ uint32_t heap_get(heap_dict *dict, uint64_t key, uint8_t *room, size_t size, uin
 
 /* Takes a key out. */
 uint32_t heap_del(heap_dict *dict, uint64_t key);
+
+/* The least key, and the least key above this one, go into *found. */
+uint32_t heap_first(heap_dict *dict, uint64_t *found);
+uint32_t heap_next(heap_dict *dict, uint64_t key, uint64_t *found);
 
 /* How many bytes its image has; 0 where it is closed. */
 uint64_t heap_length(heap_dict *dict);

@@ -2,12 +2,13 @@
 
     with Heap("my.img") as heap:      # leaving it saves it
         heap[1] = b"one"
-        print(heap.get(1), 2 in heap)
+        print(heap.get(1), 2 in heap, list(heap))
 
 It needs libheap.so beside this file, or its path in the variable LIBHEAP.
 """
 import ctypes
 import os
+from collections.abc import MutableMapping
 
 DONE, ABSENT, USAGE, MEMORY, READ, WRITE, NO_IMAGE, HEADER, OUTSIDE, SHARD = range(10)
 FULL, STOPPED, ROOM = 11, 12, 13
@@ -36,6 +37,8 @@ def _load_library():
         "heap_put": [handle, word, ctypes.c_char_p, size],
         "heap_get": [handle, word, room, size, number],
         "heap_del": [handle, word],
+        "heap_first": [handle, number],
+        "heap_next": [handle, word, number],
         "heap_length": [handle],
         "heap_image": [handle, room, size, fault],
         "heap_close": [handle, room, size],
@@ -71,11 +74,8 @@ def _as_key(key):
     return key
 
 
-class Heap:
-    """A dictionary over the image in a file, if there is one, or over an empty one; `image` opens these bytes instead.
-
-    It has no walk over its keys.
-    """
+class Heap(MutableMapping):
+    """A dictionary over the image in a file, if there is one, or over an empty one; `image` opens these bytes instead."""
 
     def __init__(self, path=None, superblocks=16, image=None):
         self._dict, self._room, self.path = Dict(), ctypes.create_string_buffer(256), path
@@ -116,15 +116,16 @@ class Heap:
         if not self._call("heap_del", _as_key(key)):
             raise KeyError(key)
 
-    def get(self, key, default=None):
-        """The value of the key, or the default."""
-        try:
-            return self[key]
-        except KeyError:
-            return default
+    def __iter__(self):
+        """The keys, from the least on."""
+        key = ctypes.c_uint64()
+        there = self._call("heap_first", key)
+        while there:
+            yield key.value
+            there = self._call("heap_next", key.value, key)
 
-    def __contains__(self, key):
-        return self.get(key) is not None
+    def __len__(self):
+        return sum(1 for _ in self)
 
     def _write(self, name, fault=None):
         room = ctypes.create_string_buffer(_library.heap_length(self._dict) or 1)

@@ -25,6 +25,8 @@ static void try_closed(void) {
     expect("put on a closed one", heap_put(&dict, 1, value, 1), HEAP_USAGE);
     expect("get on a closed one", heap_get(&dict, 1, room, 1, &word), HEAP_USAGE);
     expect("del on a closed one", heap_del(&dict, 1), HEAP_USAGE);
+    expect("first on a closed one", heap_first(&dict, &word), HEAP_USAGE);
+    expect("next on a closed one", heap_next(&dict, 0, &word), HEAP_USAGE);
     expect("length of a closed one", heap_length(&dict), 0);
     expect("image of a closed one", heap_image(&dict, room, 1, &fault), HEAP_USAGE);
     expect("close of a closed one", heap_close(&dict, room, 1), HEAP_USAGE);
@@ -46,9 +48,9 @@ static void try_capacities(void) {
 static void try_values(void) {
     heap_dict dict = {0};
     heap_fault fault = {0};
-    uint64_t length = 7;
+    uint64_t length = 7, key = 0;
     expect("format", heap_format(8, &dict, &fault), HEAP_DONE);
-    expect("no key yet", heap_get(&dict, 0, room, 1, &length), HEAP_ABSENT);
+    expect("no key yet", heap_first(&dict, &key), HEAP_ABSENT);
     memset(value, 5, sizeof value);
     expect("the longest value", heap_put(&dict, UINT64_MAX, value, HEAP_LONGEST_VALUE), HEAP_DONE);
     expect("a longer value", heap_put(&dict, 1, value, HEAP_LONGEST_VALUE + 1), HEAP_USAGE);
@@ -59,6 +61,11 @@ static void try_values(void) {
     expect("the whole length", length, HEAP_LONGEST_VALUE);
     expect("get", heap_get(&dict, UINT64_MAX, room, sizeof room, &length), HEAP_DONE);
     expect("the value", (uint64_t)memcmp(room, value, HEAP_LONGEST_VALUE), 0);
+    expect("first", heap_first(&dict, &key), HEAP_DONE);
+    expect("the least key", key, 0);
+    expect("next", heap_next(&dict, 0, &key), HEAP_DONE);
+    expect("the key above", key, UINT64_MAX);
+    expect("next of the greatest", heap_next(&dict, UINT64_MAX, &key), HEAP_ABSENT);
     expect("a room too short", heap_close(&dict, room, 8), HEAP_ROOM);
     expect("the same for an image", heap_image(&dict, room, 8, &fault), HEAP_ROOM);
     expect("the same for a crash", heap_crash(&dict, room, 8), HEAP_ROOM);

@@ -21,7 +21,8 @@ def refusal(image):
         other = Heap(image=image)
     except HeapError as error:
         return error.status, str(error)
-    other.get(0)
+    for key in other:
+        other[key]
     return 0, ""
 
 
@@ -42,6 +43,7 @@ class Trial:
     def holds(self, heap):
         for key in self.keys:
             assert heap.get(key) == self.model.get(key), key
+        assert list(heap) == sorted(self.model)
 
     def request(self):
         key, what = self.random.choice(self.keys), self.random.random()
@@ -55,10 +57,7 @@ class Trial:
                 assert error.status == FULL, error
                 self.counts["full"] += 1
         elif what < 0.8:
-            there = key in self.heap
-            assert there == (self.model.pop(key, None) is not None)
-            if there:
-                del self.heap[key]
+            assert (self.heap.pop(key, None) is None) == (self.model.pop(key, None) is None)
         else:
             assert self.heap.get(key) == self.model.get(key)
 

@@ -24,3 +24,28 @@ not_one r (inr a) e = omega arith
 pub not_eleven : (r : ℕ) → (r ≡ 2) ⊎ (r ≡ 12) → r ≡ 11 → ⊥
 not_eleven r (inl a) e = omega arith
 not_eleven r (inr a) e = omega arith
+
+pub not_three : (r : ℕ) → (r ≡ 2) ⊎ (r ≡ 12) → r ≡ 3 → ⊥
+not_three r (inl a) e = omega arith
+not_three r (inr a) e = omega arith
+
+-- an answered request is not refused, and has not stopped
+pub not_low : (r : ℕ) → (r ≡ 2) ⊎ (r ≡ 12) → (r ≡ 0) ⊎ (r ≡ 1) → ⊥
+not_low r refused (inl e) = not_zero r refused e
+not_low r refused (inr e) = not_one r refused e
+
+pub low_goes : (r : ℕ) → (r ≡ 0) ⊎ (r ≡ 1) → r ≡ 12 → ⊥
+low_goes r (inl a) e = omega arith
+low_goes r (inr a) e = omega arith
+
+pub zero_three : ◌≡◌ {A = ℕ} 0 3 → ⊥
+zero_three e = omega arith
+
+pub three_zero : ◌≡◌ {A = ℕ} 3 0 → ⊥
+three_zero e = omega arith
+
+pub three_eleven : ◌≡◌ {A = ℕ} 3 11 → ⊥
+three_eleven e = omega arith
+
+pub eleven_three : ◌≡◌ {A = ℕ} 11 3 → ⊥
+eleven_three e = omega arith

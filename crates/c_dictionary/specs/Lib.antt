@@ -1,3 +1,5 @@
+pub mod Dictionary
+pub mod Keys
 pub mod Owning
 pub mod Passing
 pub mod Ready

@@ -1,18 +1,20 @@
 //! Opening and closing.
 
-ghost use Rattle.std.specs.Prelude.{◌≡◌, ◌≢◌};
-ghost use Rattle.c_dictionary.specs.Passing.{OpensWords, OpensBytes};
+ghost use Rattle.std.specs.Prelude.{◌≡◌, ◌≢◌, IfOk};
+ghost use Rattle.c_dictionary.specs.Passing.{IsMapOf, OpensWords, OpensBytes};
+ghost use Rattle.c_dictionary.specs.Ready.{IsReady};
 
 use crate::handle::{CLOSED, GOING, HALTED, Handle};
+use crate::keys::keys_of;
 use crate::loose::Loose;
 use crate::status::{DONE, HEADER, MEMORY, OUTSIDE, ROOM, SHARD, USAGE};
 use crate::store::{BUDGET, Store};
 use block_heap::{Closed, SeqHeap};
 use byteorder::{ByteOrder, LittleEndian};
-use dictionary_heap::{OpenFault, open_dictionary};
+use dictionary_heap::{OpenFault, recover_dictionary};
 use line_memory::ConstantChance;
 use region_header::{BadHeader, bytes_to_words, check_bytes, format};
-use std::alloc::Global;
+use std::alloc::{AllocError, Global};
 use super_block::{CLEAN, LARGEST_CAPACITY, OLD_VERSION, ROOTS, STATE_WORD, VERSION_WORD};
 
 /// Why an image was not opened.
@@ -74,19 +76,30 @@ fn image_length(words: &[u64]) -> u64 {
     }
 }
 
+// A dictionary of the image of these words.
+fn open_store(alloc: Global, words: &[u64], length: u64) -> Result<Box<Store>, OpenFault>
+    ensures ready { IfOk result (λ store. IsReady store.value) }
+    ensures opens { IfOk result (λ store. IsMapOf words.now store.value) }
+{
+    let found = recover_dictionary(alloc, words)?;
+    let keys = keys_of(alloc, &found.maps)?;
+    let heap = SeqHeap::new(alloc, found.heap, BUDGET, ConstantChance(0))?;
+    match Box::new(alloc, Store { heap, keys, length }) {
+        Ok(store) => Ok(store),
+        Err(e) => Err(AllocError::from(e).into()),
+    }
+}
+
 // Opens the image of these words.
 fn open_words(alloc: Global, words: &[u64], handle: &mut Handle, fault: &mut Fault) -> u32
     ensures opened { result ≡ 0 → OpensWords words.now handle.new.value }
 {
     let length = image_length(words);
-    match open_dictionary(alloc, words, BUDGET, ConstantChance(0)) {
-        Ok(heap) => match Box::new(alloc, Store { heap, length }) {
-            Ok(store) => {
-                handle.set(Loose::of(store), GOING);
-                DONE
-            }
-            Err(_) => MEMORY,
-        },
+    match open_store(alloc, words, length) {
+        Ok(store) => {
+            handle.set(Loose::of(store), GOING);
+            DONE
+        }
         Err(cause) => tell(cause, fault),
     }
 }
@@ -183,7 +196,7 @@ pub extern "C" fn heap_close(alloc: Global, handle: &mut Handle, room: &mut [u8]
         handle.set(Loose::of(store), state);
         return ROOM;
     }
-    let Store { heap, length: _ } = Box::into_inner(store);
+    let Store { heap, .. } = Box::into_inner(store);
     write_words(&words_left(heap, state), room)
 }
 
@@ -204,7 +217,7 @@ pub extern "C" fn heap_image(
         handle.set(Loose::of(store), state);
         return ROOM;
     }
-    let Store { heap, length: _ } = Box::into_inner(store);
+    let Store { heap, .. } = Box::into_inner(store);
     let words = words_left(heap, state);
     let written = write_words(&words, room);
     let opened = open_words(alloc, &words, handle, fault);
@@ -223,7 +236,7 @@ pub extern "C" fn heap_crash(alloc: Global, handle: &mut Handle, room: &mut [u8]
         handle.set(Loose::of(store), state);
         return ROOM;
     }
-    let Store { heap, length: _ } = Box::into_inner(store);
+    let Store { heap, .. } = Box::into_inner(store);
     write_words(&words_left(heap, HALTED), room)
 }
 

@@ -5,6 +5,7 @@
 mod calls;
 mod handle;
 mod images;
+mod keys;
 mod loose;
 mod requests;
 mod status;

@@ -1,36 +1,49 @@
-use Rattle.std.proofs.Common.{◌<◌, ◌%◌, Bool, subst, arith}
-use Rattle.block_heap.specs.Laws.{seat_law}
+use Rattle.std.proofs.Common.{Bool, true, false, subst}
 use Rattle.block_heap.specs.SeqState.{seat_of}
 use Rattle.dict_model.specs.Nodes.{shard_of}
 use Rattle.dict_model.specs.Requests.{without_key}
+use Rattle.dict_model.specs.Shards.{Map}
 use Rattle.dict_seat.specs.Answers.{Deletes}
+use Rattle.dict_seat.specs.Changes.{Changes}
+use Rattle.c_dictionary.specs.Dictionary.{Holds}
+use Rattle.c_dictionary.specs.declared.store.Store.{Store}
+use Rattle.c_dictionary.proofs.KeyLemmas.{lists_absent}
 use Rattle.c_dictionary.proofs.Numbers.{zero_one, one_zero}
+use Rattle.c_dictionary.proofs.ReadyLemmas.{turns_after, ready_after}
+use Rattle.c_dictionary.proofs.TurnLemmas.{without_local, was_absent}
 use Rattle.c_dictionary.proofs.requests.del.Goals as goal
 
 pub returns-in-Ok-true : goal.returns-in-Ok-true
 returns-in-Ok-true c =
-    let low : c.args.key % 8 < 8 = omega arith in
-    let told : Deletes c.args.key c.in-Ok-true.field-0 (seat_of c.args.store.now.heap) (seat_of c.del.new.seat) = c.in-Ok-true.ensures.ok in
+    let s = c.args.store.now in
+    let t : Store = record s { heap = c.del.new.seat; keys = c.take_key.new.keys } in
+    let key = c.args.key in
+    let made : Map → Map = λ map. without_key map key in
+    let told : Deletes key true (seat_of s.heap) (seat_of t.heap) = subst (λ (found : Bool). Deletes key found (seat_of s.heap) (seat_of t.heap)) c.in-Ok-true.field-0-test c.in-Ok-true.ensures.ok in
+    let changes : Changes (shard_of key) made (seat_of s.heap) (seat_of t.heap) = record { gives = told.gives } in
+    let lists = λ (map : Map) (h : Holds map s). c.take_key.ensures map h.listed in
     record {
-      ready = λ _. record {
-        shards = c.requests_go_on_from_shard_to_shard.ensures.goes_on (seat_of c.args.store.now.heap) (seat_of c.del.new.seat) (shard_of c.args.key) _ (λ map. without_key map c.args.key)
-            (seat_law c.args.store.now.heap) c.in-Ok-true.ensures.crash low c.requires.ready.shards (record { gives = told.gives });
-      };
-      found = λ _. subst (λ (found : Bool). Deletes c.args.key found (seat_of c.args.store.now.heap) (seat_of c.del.new.seat)) c.in-Ok-true.field-0-test told;
+      ready = λ _. ready_after s t c.requires.ready key made made c.in-Ok-true.ensures.crash (without_local key) changes lists;
+      found = λ _. told;
       absent = λ e. absurd (zero_one e);
+      gone = λ _. turns_after s t c.requires.ready key made made c.in-Ok-true.ensures.crash (without_local key) changes lists;
       crash = c.in-Ok-true.ensures.crash;
     }
 
+-- a key that was not there is not listed
 pub returns-in-Ok-false : goal.returns-in-Ok-false
 returns-in-Ok-false c =
-    let low : c.args.key % 8 < 8 = omega arith in
-    let told : Deletes c.args.key c.in-Ok-false.field-0 (seat_of c.args.store.now.heap) (seat_of c.del.new.seat) = c.in-Ok-false.ensures.ok in
+    let s = c.args.store.now in
+    let t : Store = record s { heap = c.del.new.seat } in
+    let key = c.args.key in
+    let made : Map → Map = λ map. without_key map key in
+    let told : Deletes key false (seat_of s.heap) (seat_of t.heap) = subst (λ (found : Bool). Deletes key found (seat_of s.heap) (seat_of t.heap)) c.in-Ok-false.field-0-test c.in-Ok-false.ensures.ok in
+    let changes : Changes (shard_of key) made (seat_of s.heap) (seat_of t.heap) = record { gives = told.gives } in
+    let lists = λ (map : Map) (h : Holds map s). lists_absent s.keys map key (was_absent key (seat_of s.heap) (seat_of t.heap) told map h.gives) h.listed in
     record {
-      ready = λ _. record {
-        shards = c.requests_go_on_from_shard_to_shard.ensures.goes_on (seat_of c.args.store.now.heap) (seat_of c.del.new.seat) (shard_of c.args.key) _ (λ map. without_key map c.args.key)
-            (seat_law c.args.store.now.heap) c.in-Ok-false.ensures.crash low c.requires.ready.shards (record { gives = told.gives });
-      };
+      ready = λ _. ready_after s t c.requires.ready key made made c.in-Ok-false.ensures.crash (without_local key) changes lists;
       found = λ e. absurd (one_zero e);
-      absent = λ _. subst (λ (found : Bool). Deletes c.args.key found (seat_of c.args.store.now.heap) (seat_of c.del.new.seat)) c.in-Ok-false.field-0-test told;
+      absent = λ _. told;
+      gone = λ _. turns_after s t c.requires.ready key made made c.in-Ok-false.ensures.crash (without_local key) changes lists;
       crash = c.in-Ok-false.ensures.crash;
     }

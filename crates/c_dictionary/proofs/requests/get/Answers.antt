@@ -1,31 +1,36 @@
-use Rattle.std.proofs.Common.{◌<◌, ◌%◌, ℕ, Option, subst, arith}
-use Rattle.block_heap.specs.Laws.{seat_law}
+use Rattle.std.proofs.Common.{ℕ, Option, Some, None, subst}
 use Rattle.block_heap.specs.SeqState.{seat_of}
-use Rattle.dict_model.specs.Nodes.{shard_of}
+use Rattle.dict_model.specs.Shards.{Map}
 use Rattle.dict_seat.specs.Gets.{Gets}
+use Rattle.c_dictionary.specs.Dictionary.{Holds}
+use Rattle.c_dictionary.specs.declared.store.Store.{Store}
 use Rattle.c_dictionary.proofs.Numbers.{zero_one, one_zero}
+use Rattle.c_dictionary.proofs.ReadyLemmas.{turns_after, ready_after}
+use Rattle.c_dictionary.proofs.TurnLemmas.{same_local}
 use Rattle.c_dictionary.proofs.requests.get.Goals as goal
 
 pub returns-in-Ok-Some : goal.returns-in-Ok-Some
 returns-in-Ok-Some c =
-    let low : c.args.key % 8 < 8 = omega arith in
+    let s = c.args.store.now in
+    let t : Store = record s { heap = c.get.new.seat } in
+    let key = c.args.key in
+    let lists = λ (map : Map) (h : Holds map s). h.listed in
     record {
-      ready = λ _. record {
-        shards = c.requests_go_on_from_shard_to_shard.ensures.goes_on (seat_of c.args.store.now.heap) (seat_of c.get.new.seat) (shard_of c.args.key) _ _
-            (seat_law c.args.store.now.heap) c.in-Ok-Some.ensures.crash low c.requires.ready.shards c.in-Ok-Some.ensures.maps;
-      };
-      found = λ _. subst (λ (answer : Option ℕ). Gets c.args.key answer c.args.room.now c.get.new.out (seat_of c.args.store.now.heap) (seat_of c.get.new.seat)) c.in-Ok-Some.field-0-is c.in-Ok-Some.ensures.ok;
+      ready = λ _. ready_after s t c.requires.ready key (λ map. map) (λ map. map) c.in-Ok-Some.ensures.crash (same_local key) c.in-Ok-Some.ensures.maps lists;
+      found = λ _. subst (λ (answer : Option ℕ). Gets key answer c.args.room.now c.get.new.out (seat_of s.heap) (seat_of t.heap)) c.in-Ok-Some.field-0-is c.in-Ok-Some.ensures.ok;
       absent = λ e. absurd (zero_one e);
+      same = λ _. turns_after s t c.requires.ready key (λ map. map) (λ map. map) c.in-Ok-Some.ensures.crash (same_local key) c.in-Ok-Some.ensures.maps lists;
     }
 
 pub returns-in-Ok-None : goal.returns-in-Ok-None
 returns-in-Ok-None c =
-    let low : c.args.key % 8 < 8 = omega arith in
+    let s = c.args.store.now in
+    let t : Store = record s { heap = c.get.new.seat } in
+    let key = c.args.key in
+    let lists = λ (map : Map) (h : Holds map s). h.listed in
     record {
-      ready = λ _. record {
-        shards = c.requests_go_on_from_shard_to_shard.ensures.goes_on (seat_of c.args.store.now.heap) (seat_of c.get.new.seat) (shard_of c.args.key) _ _
-            (seat_law c.args.store.now.heap) c.in-Ok-None.ensures.crash low c.requires.ready.shards c.in-Ok-None.ensures.maps;
-      };
+      ready = λ _. ready_after s t c.requires.ready key (λ map. map) (λ map. map) c.in-Ok-None.ensures.crash (same_local key) c.in-Ok-None.ensures.maps lists;
       found = λ e. absurd (one_zero e);
-      absent = λ _. subst (λ (answer : Option ℕ). Gets c.args.key answer c.args.room.now c.get.new.out (seat_of c.args.store.now.heap) (seat_of c.get.new.seat)) c.in-Ok-None.field-0-is c.in-Ok-None.ensures.ok;
+      absent = λ _. subst (λ (answer : Option ℕ). Gets key answer c.args.room.now c.get.new.out (seat_of s.heap) (seat_of t.heap)) c.in-Ok-None.field-0-is c.in-Ok-None.ensures.ok;
+      same = λ _. turns_after s t c.requires.ready key (λ map. map) (λ map. map) c.in-Ok-None.ensures.crash (same_local key) c.in-Ok-None.ensures.maps lists;
     }

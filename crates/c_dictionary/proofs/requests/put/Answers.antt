@@ -1,37 +1,72 @@
-use Rattle.std.proofs.Common.{◌<◌, ◌%◌, length, subst, arith}
-use Rattle.block_heap.specs.Laws.{seat_law}
+use Rattle.std.proofs.Common.{◌≡◌, ℕ, inl, inr, List, [], Option, Some, None, true, false, length, refl, sym, ap, subst, ◌∙◌}
+use Rattle.std.specs.Prelude.{is_some, not}
+use Rattle.std.specs.BTreeSet.{BTreeSet}
+use Rattle.std.proofs.lemmas.Bool.{not-true}
 use Rattle.block_heap.specs.SeqState.{seat_of}
 use Rattle.dict_model.specs.Nodes.{shard_of, node_bytes}
+use Rattle.dict_model.specs.Requests.{with_key}
+use Rattle.dict_model.specs.Shards.{Map}
 use Rattle.dict_seat.specs.Puts.{PutAnswers}
 use Rattle.heap_seat.specs.declared.fault.AllocFault.{AllocFault}
 use Rattle.heap_seat.specs.declared.fault.AllocFault.TheVariants.{Full}
-use Rattle.c_dictionary.proofs.Numbers.{zero_eleven, eleven_zero}
+use Rattle.c_dictionary.specs.Dictionary.{Holds}
+use Rattle.c_dictionary.specs.Ready.{IsReady}
+use Rattle.c_dictionary.specs.declared.store.Store.{Store}
+use Rattle.c_dictionary.proofs.Numbers.{zero_three, zero_eleven, three_zero, three_eleven, eleven_zero, eleven_three}
+use Rattle.c_dictionary.proofs.ReadyLemmas.{turns_after, ready_after, lists_undone}
+use Rattle.c_dictionary.proofs.TurnLemmas.{with_local, same_local}
 use Rattle.c_dictionary.proofs.requests.put.Goals as goal
 
-pub returns-in-Ok : goal.returns-in-Ok
-returns-in-Ok c =
-    let low : c.args.key % 8 < 8 = omega arith in
+pub returns-in-Ok-put : goal.returns-in-Ok-put
+returns-in-Ok-put c =
+    let s = c.args.store.now in
+    let t : Store = record s { heap = c.put.new.seat; keys = c.add_key.new.keys } in
+    let key = c.args.key in let value = c.args.value.now in
+    let made : Map → Map = λ map. with_key map key value in
+    let lists = λ (map : Map) (h : Holds map s). c.in-Ok.ensures.set map value h.listed in
     record {
-      ready = λ _. record {
-        shards = c.requests_go_on_from_shard_to_shard.ensures.goes_on (seat_of c.args.store.now.heap) (seat_of c.put.new.seat) (shard_of c.args.key) _ _
-            (seat_law c.args.store.now.heap) c.in-Ok.ensures.crash low c.requires.ready.shards c.in-Ok.ensures.ok;
-      };
-      done = λ _. c.in-Ok.ensures.ok;
+      ready = λ _. ready_after s t c.requires.ready key made made c.in-Ok-put.ensures.crash (with_local key value) c.in-Ok-put.ensures.ok lists;
+      done = λ _. c.in-Ok-put.ensures.ok;
+      set = λ _. turns_after s t c.requires.ready key made made c.in-Ok-put.ensures.crash (with_local key value) c.in-Ok-put.ensures.ok lists;
       full = λ e. absurd (zero_eleven e);
-      crash = c.in-Ok.ensures.crash;
+      refused = λ e. absurd (zero_eleven e);
+      memory = λ e. absurd (zero_three e);
+      crash = inr c.in-Ok-put.ensures.crash;
     }
 
+-- where there was no room, the key that was added is taken out again
 pub returns-in-Err-Full : goal.returns-in-Err-Full
 returns-in-Err-Full c =
-    let low : c.args.key % 8 < 8 = omega arith in
-    let told : PutAnswers (node_bytes (length c.args.value.now)) (shard_of c.args.key) (Full c.in-Err-Full.field-0-0) (seat_of c.args.store.now.heap) (seat_of c.put.new.seat)
-    = subst (λ (fault : AllocFault). PutAnswers (node_bytes (length c.args.value.now)) (shard_of c.args.key) fault (seat_of c.args.store.now.heap) (seat_of c.put.new.seat)) c.in-Err-Full.field-0-is c.in-Err-Full.ensures.cause in
+    let s = c.args.store.now in
+    let t : Store = record s { heap = c.put.new.seat; keys = c.undo_add.new.keys } in
+    let key = c.args.key in let value = c.args.value.now in
+    let made : Map → Map = λ map. with_key map key value in
+    let told : PutAnswers (node_bytes (length value)) (shard_of key) (Full c.in-Err-Full.field-0-0) (seat_of s.heap) (seat_of t.heap)
+    = subst (λ (fault : AllocFault). PutAnswers (node_bytes (length value)) (shard_of key) fault (seat_of s.heap) (seat_of t.heap)) c.in-Err-Full.field-0-is c.in-Err-Full.ensures.cause in
+    let lists = λ (map : Map) (h : Holds map s). lists_undone s.keys c.add_key.new.keys t.keys key c.in-Ok.added map h.listed
+    (λ is. not-true (is_some (map key)) (sym (c.in-Ok.ensures.added map h.listed) ∙ is)) (c.in-Ok.ensures.set map [] h.listed) (λ no. c.in-Ok.ensures.same no map h.listed)
+    (λ is. c.undo_add.ensures.taken is (with_key map key [])) (λ no. c.undo_add.ensures.same no) in
     record {
-      ready = λ _. record {
-        shards = c.requests_go_on_from_shard_to_shard.ensures.goes_on (seat_of c.args.store.now.heap) (seat_of c.put.new.seat) (shard_of c.args.key) _ (λ map. map)
-            (seat_law c.args.store.now.heap) c.in-Err-Full.ensures.crash low c.requires.ready.shards (record { gives = told.1 });
-      };
+      ready = λ _. ready_after s t c.requires.ready key made (λ map. map) c.in-Err-Full.ensures.crash (same_local key) (record { gives = told.1 }) lists;
       done = λ e. absurd (eleven_zero e);
+      set = λ e. absurd (eleven_zero e);
       full = λ _. record { gives = told.1 };
-      crash = c.in-Err-Full.ensures.crash;
+      refused = λ _. turns_after s t c.requires.ready key made (λ map. map) c.in-Err-Full.ensures.crash (same_local key) (record { gives = told.1 }) lists;
+      memory = λ e. absurd (eleven_three e);
+      crash = inr c.in-Err-Full.ensures.crash;
+    }
+
+-- where memory ran out nothing was done
+pub returns-in_default : goal.returns-in_default
+returns-in_default c =
+    let s = c.args.store.now in
+    let same : ◌≡◌ {A = Store} (record s { keys = c.add_key.new.keys }) s = ap (λ (ks : List ℕ). record s { keys = record { keys = ks } }) c.in_default.ensures.err in
+    record {
+      ready = λ _. subst IsReady (sym same) c.requires.ready;
+      done = λ e. absurd (three_zero e);
+      set = λ e. absurd (three_zero e);
+      full = λ e. absurd (three_eleven e);
+      refused = λ e. absurd (three_eleven e);
+      memory = λ _. same;
+      crash = inl same;
     }
