@@ -1,3 +1,4 @@
+pub mod ClosedLemmas
 pub mod HandleValues
 pub mod KeyLemmas
 pub mod Numbers

@@ -49,3 +49,15 @@ three_eleven e = omega arith
 
 pub eleven_three : ◌≡◌ {A = ℕ} 11 3 → ⊥
 eleven_three e = omega arith
+
+pub zero_two : ◌≡◌ {A = ℕ} 0 2 → ⊥
+zero_two e = omega arith
+
+pub one_two : ◌≡◌ {A = ℕ} 1 2 → ⊥
+one_two e = omega arith
+
+pub three_two : ◌≡◌ {A = ℕ} 3 2 → ⊥
+three_two e = omega arith
+
+pub eleven_two : ◌≡◌ {A = ℕ} 11 2 → ⊥
+eleven_two e = omega arith

@@ -23,7 +23,8 @@ const LONGEST_VALUE: usize = 131_072;
 
 /// Why no request is made of a handle in this state.
 fn refusal(state: u64) -> u32
-    ensures { (result ≡ 2) ⊎ (result ≡ 12) }
+    ensures refused { (result ≡ 2) ⊎ (result ≡ 12) }
+    ensures closed { state ≡ 0 → result ≡ 2 }
 {
     if state == CLOSED { USAGE } else { STOPPED }
 }
@@ -48,6 +49,8 @@ pub extern "C" fn heap_put(alloc: Global, handle: &mut Handle, key: u64, value: 
     ensures memory { result ≡ 3 → handle.new.value ≡ handle.old.value }
     ensures crash { MayPass handle.old.value handle.new.value
         (MayChange (shard_of key) (λ map. with_key map key value.now)) }
+    ensures usage { result ≡ 2 → handle.new.value ≡ handle.old.value }
+    ensures closed { handle.old.value ≡ None → result ≡ 2 }
 {
     let state = handle.state();
     if state != GOING {
@@ -77,6 +80,8 @@ pub extern "C" fn heap_get(
         (Gets key None room.old room.new) }
     ensures same { (result ≡ 0) ⊎ (result ≡ 1)
         → Becomes (λ map. map) handle.old.value handle.new.value }
+    ensures usage { result ≡ 2 → handle.new.value ≡ handle.old.value }
+    ensures closed { handle.old.value ≡ None → result ≡ 2 }
 {
     let state = handle.state();
     if state != GOING {
@@ -97,6 +102,8 @@ pub extern "C" fn heap_del(alloc: Global, handle: &mut Handle, key: u64) -> u32
         → Becomes (λ map. without_key map key) handle.old.value handle.new.value }
     ensures crash { MayPass handle.old.value handle.new.value
         (MayChange (shard_of key) (λ map. without_key map key)) }
+    ensures usage { result ≡ 2 → handle.new.value ≡ handle.old.value }
+    ensures closed { handle.old.value ≡ None → result ≡ 2 }
 {
     let state = handle.state();
     if state != GOING {
@@ -131,6 +138,8 @@ pub extern "C" fn heap_first(alloc: Global, handle: &mut Handle, found: &mut u64
         handle.old.value handle.new.value }
     ensures absent { result ≡ 1 → Tells (λ map. HasNoneFrom 0 map)
         handle.old.value handle.new.value }
+    ensures usage { result ≡ 2 → handle.new.value ≡ handle.old.value }
+    ensures closed { handle.old.value ≡ None → result ≡ 2 }
 {
     let state = handle.state();
     if state != GOING {
@@ -149,6 +158,8 @@ pub extern "C" fn heap_next(alloc: Global, handle: &mut Handle, key: u64, found:
         handle.old.value handle.new.value }
     ensures absent { result ≡ 1 → key ≢ 2 ^ 64 - 1 → Tells (λ map. HasNoneFrom (key + 1) map)
         handle.old.value handle.new.value }
+    ensures usage { result ≡ 2 → handle.new.value ≡ handle.old.value }
+    ensures closed { handle.old.value ≡ None → result ≡ 2 }
 {
     let state = handle.state();
     if state != GOING {

@@ -29,6 +29,7 @@ pub fn put(store: &mut Store, key: u64, value: &[u8]) -> u32
     ensures memory { result ≡ 3 → store.new ≡ store.old }
     ensures crash { (store.new ≡ store.old) ⊎ MayChange (shard_of key) (λ map. with_key map key value.now)
         (seat_of store.old.heap) (seat_of store.new.heap) }
+    ensures answers { result ≢ 2 }
 {
     let Ok(added) = add_key(&mut store.keys, key) else {
         return MEMORY;
@@ -52,6 +53,7 @@ pub fn get(store: &mut Store, key: u64, room: &mut [u8], length: &mut u64) -> u3
     ensures absent { result ≡ 1 → Gets key None room.old room.new
         (seat_of store.old.heap) (seat_of store.new.heap) }
     ensures same { result ≢ 12 → Turns (λ map. map) store.old store.new }
+    ensures answers { result ≢ 2 }
 {
     match Shard::at(key % 8).get(&mut store.heap, key, room) {
         Ok(Some(found)) => {
@@ -74,6 +76,7 @@ pub fn del(store: &mut Store, key: u64) -> u32
     ensures gone { result ≢ 12 → Turns (λ map. without_key map key) store.old store.new }
     ensures crash { MayChange (shard_of key) (λ map. without_key map key)
         (seat_of store.old.heap) (seat_of store.new.heap) }
+    ensures answers { result ≢ 2 }
 {
     match Shard::at(key % 8).del(&mut store.heap, key) {
         Ok(true) => {

@@ -8,7 +8,7 @@ use Rattle.dict_seat.specs.Changes.{Changes}
 use Rattle.c_dictionary.specs.Dictionary.{Holds}
 use Rattle.c_dictionary.specs.declared.store.Store.{Store}
 use Rattle.c_dictionary.proofs.KeyLemmas.{lists_absent}
-use Rattle.c_dictionary.proofs.Numbers.{zero_one, one_zero}
+use Rattle.c_dictionary.proofs.Numbers.{zero_two, one_two, zero_one, one_zero}
 use Rattle.c_dictionary.proofs.ReadyLemmas.{turns_after, ready_after}
 use Rattle.c_dictionary.proofs.TurnLemmas.{without_local, was_absent}
 use Rattle.c_dictionary.proofs.requests.del.Goals as goal
@@ -23,6 +23,7 @@ returns-in-Ok-true c =
     let changes : Changes (shard_of key) made (seat_of s.heap) (seat_of t.heap) = record { gives = told.gives } in
     let lists = λ (map : Map) (h : Holds map s). c.take_key.ensures map h.listed in
     record {
+      answers = zero_two;
       ready = λ _. ready_after s t c.requires.ready key made made c.in-Ok-true.ensures.crash (without_local key) changes lists;
       found = λ _. told;
       absent = λ e. absurd (zero_one e);
@@ -41,6 +42,7 @@ returns-in-Ok-false c =
     let changes : Changes (shard_of key) made (seat_of s.heap) (seat_of t.heap) = record { gives = told.gives } in
     let lists = λ (map : Map) (h : Holds map s). lists_absent s.keys map key (was_absent key (seat_of s.heap) (seat_of t.heap) told map h.gives) h.listed in
     record {
+      answers = one_two;
       ready = λ _. ready_after s t c.requires.ready key made made c.in-Ok-false.ensures.crash (without_local key) changes lists;
       found = λ e. absurd (one_zero e);
       absent = λ _. told;

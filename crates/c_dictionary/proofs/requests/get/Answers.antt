@@ -4,7 +4,7 @@ use Rattle.dict_model.specs.Shards.{Map}
 use Rattle.dict_seat.specs.Gets.{Gets}
 use Rattle.c_dictionary.specs.Dictionary.{Holds}
 use Rattle.c_dictionary.specs.declared.store.Store.{Store}
-use Rattle.c_dictionary.proofs.Numbers.{zero_one, one_zero}
+use Rattle.c_dictionary.proofs.Numbers.{zero_two, one_two, zero_one, one_zero}
 use Rattle.c_dictionary.proofs.ReadyLemmas.{turns_after, ready_after}
 use Rattle.c_dictionary.proofs.TurnLemmas.{same_local}
 use Rattle.c_dictionary.proofs.requests.get.Goals as goal
@@ -16,6 +16,7 @@ returns-in-Ok-Some c =
     let key = c.args.key in
     let lists = λ (map : Map) (h : Holds map s). h.listed in
     record {
+      answers = zero_two;
       ready = λ _. ready_after s t c.requires.ready key (λ map. map) (λ map. map) c.in-Ok-Some.ensures.crash (same_local key) c.in-Ok-Some.ensures.maps lists;
       found = λ _. subst (λ (answer : Option ℕ). Gets key answer c.args.room.now c.get.new.out (seat_of s.heap) (seat_of t.heap)) c.in-Ok-Some.field-0-is c.in-Ok-Some.ensures.ok;
       absent = λ e. absurd (zero_one e);
@@ -29,6 +30,7 @@ returns-in-Ok-None c =
     let key = c.args.key in
     let lists = λ (map : Map) (h : Holds map s). h.listed in
     record {
+      answers = one_two;
       ready = λ _. ready_after s t c.requires.ready key (λ map. map) (λ map. map) c.in-Ok-None.ensures.crash (same_local key) c.in-Ok-None.ensures.maps lists;
       found = λ e. absurd (one_zero e);
       absent = λ _. subst (λ (answer : Option ℕ). Gets key answer c.args.room.now c.get.new.out (seat_of s.heap) (seat_of t.heap)) c.in-Ok-None.field-0-is c.in-Ok-None.ensures.ok;

@@ -12,7 +12,7 @@ use Rattle.heap_seat.specs.declared.fault.AllocFault.TheVariants.{Full}
 use Rattle.c_dictionary.specs.Dictionary.{Holds}
 use Rattle.c_dictionary.specs.Ready.{IsReady}
 use Rattle.c_dictionary.specs.declared.store.Store.{Store}
-use Rattle.c_dictionary.proofs.Numbers.{zero_three, zero_eleven, three_zero, three_eleven, eleven_zero, eleven_three}
+use Rattle.c_dictionary.proofs.Numbers.{zero_two, three_two, eleven_two, zero_three, zero_eleven, three_zero, three_eleven, eleven_zero, eleven_three}
 use Rattle.c_dictionary.proofs.ReadyLemmas.{turns_after, ready_after, lists_undone}
 use Rattle.c_dictionary.proofs.TurnLemmas.{with_local, same_local}
 use Rattle.c_dictionary.proofs.requests.put.Goals as goal
@@ -26,6 +26,7 @@ returns-in-Ok-put c =
     let lists = λ (map : Map) (h : Holds map s). c.in-Ok.ensures.set map value h.listed in
     record {
       ready = λ _. ready_after s t c.requires.ready key made made c.in-Ok-put.ensures.crash (with_local key value) c.in-Ok-put.ensures.ok lists;
+      answers = zero_two;
       done = λ _. c.in-Ok-put.ensures.ok;
       set = λ _. turns_after s t c.requires.ready key made made c.in-Ok-put.ensures.crash (with_local key value) c.in-Ok-put.ensures.ok lists;
       full = λ e. absurd (zero_eleven e);
@@ -48,6 +49,7 @@ returns-in-Err-Full c =
     (λ is. c.undo_add.ensures.taken is (with_key map key [])) (λ no. c.undo_add.ensures.same no) in
     record {
       ready = λ _. ready_after s t c.requires.ready key made (λ map. map) c.in-Err-Full.ensures.crash (same_local key) (record { gives = told.1 }) lists;
+      answers = eleven_two;
       done = λ e. absurd (eleven_zero e);
       set = λ e. absurd (eleven_zero e);
       full = λ _. record { gives = told.1 };
@@ -63,6 +65,7 @@ returns-in_default c =
     let same : ◌≡◌ {A = Store} (record s { keys = c.add_key.new.keys }) s = ap (λ (ks : List ℕ). record s { keys = record { keys = ks } }) c.in_default.ensures.err in
     record {
       ready = λ _. subst IsReady (sym same) c.requires.ready;
+      answers = three_two;
       done = λ e. absurd (three_zero e);
       set = λ e. absurd (three_zero e);
       full = λ e. absurd (three_eleven e);
