@@ -16,9 +16,9 @@ use denote.RawPtr.{Ptr, block_ptr}
 use denote.Steps.{nothing, owned}
 use denote.Struct.Struct.{within}
 use denote.Struct.Owning.{shape}
-use Rattle.libc.specs.Heap.{chunk}
+use Rattle.std.specs.contracts.impls.GlobalAllocator.TheImpl.{ghosts as g}
 use Rattle.std_alloc.specs.Box.Ownership.{box_owns}
-use Rattle.c_dictionary.specs.Owning.{owned as owns_by}
+use Rattle.c_dictionary.specs.Owning.{global, owned as owns_by}
 use Rattle.c_dictionary.specs.declared.store.Store.{Store}
 use Rattle.c_dictionary.specs.contracts.store.Store.{the_row as R}
 use Rattle.c_dictionary.specs.contracts.handle.Handle as handle
@@ -46,7 +46,7 @@ module _ {M : Type 1} {𝓤 : Ura M} (𝓛 : Logic 𝓤) where
 
 module _ {M : Type 1} {𝓤 : Ura M} {𝓛 : Logic 𝓤} {K : Type 0} {Γ : List (Item 𝓤)} {G : Goal 𝓤 𝓛.H} where
   pub handle_in : K → (b o n : ℕ) (x : R.Denot) → n < 2 ^ 64 → (n ≡ 1 → IsReady x)
-      → Step K 𝓛 (‵ (handle.the_row.own_val (record { at = block_ptr b o; state = n; value = Some x }) (two n (vptr b o) ∷ [])) ∷ Γ) G (‵ (box_owns (λ ty p. chunk ty p) R (block_ptr b o) x) ∷ Γ) G
+      → Step K 𝓛 (‵ (handle.the_row.own_val (record { at = block_ptr b o; state = n; value = Some x }) (two n (vptr b o) ∷ [])) ∷ Γ) G (‵ (box_owns (g.dealloc_token global) R (block_ptr b o) x) ∷ Γ) G
   handle_in t b o n x fits good = step (λ s. let v : Val = two n (vptr b o) in
       nothing t $ fpack t (n ≡ 1 → IsReady x) (λ _. ftrue) good $ fjoin t $ nothing t $ owned t u64 (Is u64) (uint_Makes 𝓛 w64) n (vint w64 n ∷ []) (refl, fits) $ fjoin t $
       feq_i t (List Val) (vptr b o ∷ []) (vptr b o ∷ []) refl $ fjoin t $ feq_i t (List Val) (v ∷ []) (v ∷ []) refl $ fjoin t $

@@ -2,13 +2,18 @@
 use Rattle.std.specs.Prelude.{◌≡◌, ℕ, Option, None, Some}
 use base.Fml.{Fml, ftrue, feq, fex, fsep}
 use denote.RawPtr.{Ptr}
-use Rattle.libc.specs.Heap.{chunk}
+use Rattle.std.specs.declared.alloc.Global.{Global}
+use Rattle.std.specs.contracts.impls.GlobalAllocator.TheImpl.{ghosts}
 use Rattle.std_alloc.specs.Box.Ownership.{box_owns}
 use Rattle.c_dictionary.specs.declared.store.Store.{Store}
 use Rattle.c_dictionary.specs.contracts.store.Store.{the_row}
 use Rattle.c_dictionary.specs.Ready.{IsReady}
 
+-- the allocator that the box is of. Its type has one value
+abbrev pub global : Global
+global = record { memory = record { seal = tt } }
+
 -- at 0 it is none, and at 1 a request may be made
 abbrev pub owned : ℕ → Ptr → Option Store → Fml
 owned state p None = feq ℕ state 0
-owned state p (Some x) = fsep (fex (state ≡ 1 → IsReady x) (λ _. ftrue)) (box_owns (λ ty q. chunk ty q) the_row p x)
+owned state p (Some x) = fsep (fex (state ≡ 1 → IsReady x) (λ _. ftrue)) (box_owns (ghosts.dealloc_token global) the_row p x)

@@ -22,14 +22,13 @@ use denote.Ref.{mut_Tells}
 use denote.Signature.{types_at, plain}
 use denote.Steps.{nothing, heard, opens, closes, peeks}
 use denote.Triple.Walked.{Stays, stay_dropped, stay_ref, Goes-ref, walk_of}
-use Rattle.libc.specs.Heap.{chunk}
 use Rattle.core.proofs.alloc.Calls.{Goes-blank, handle_tells}
 use Rattle.std.proofs.raw_atomic.Walks.{proved_at, leaves}
 use Rattle.std.specs.contracts.alloc.Global.{the_row as Z}
 use Rattle.std.proofs.alloc.Global.TheLaws.{the_row_laws as LZ}
 use Rattle.std.specs.contracts.impls.GlobalAllocator.TheImpl.{ghosts as g}
 use Rattle.std_alloc.specs.Box.Ownership.{box_owns}
-use Rattle.c_dictionary.specs.Owning.{owned}
+use Rattle.c_dictionary.specs.Owning.{global, owned}
 use Rattle.c_dictionary.specs.declared.store.Store.{Store}
 use Rattle.c_dictionary.specs.contracts.store.Store.{the_row as R}
 use Rattle.c_dictionary.specs.contracts.handle.Handle.{the_row as Hd}
@@ -60,7 +59,7 @@ take_spec 𝓤 𝓛 𝓜 𝓡 wired =
     enter ! 𝓣.C 𝓣.Λ fn (r ∷ hv ∷ []) Post $ alloc_all ! (λ l. pass_all ! refl ((tt, tt), (fits, tt)) $
     opens ! tt Hd rb ro (λ ws. move ! (1 ∷ []) $ peeks ! Hd _ (shows 𝓛 Hd) h ws (λ is. fsplit ! $ move ! (1 ∷ []) $
     rewrite ! 0 (λ (m : Option Store). ‵ (owned h.state h.at m)) e refl $ fsplit ! $ drop ! $
-    in_a_block ! h.at (λ p. box_owns (λ ty q. chunk ty q) R p x) (fst∗ 𝓤 (never 𝓤) (sem 𝓛 (chunk (bare (lone R.mir)) null_ptr))) (λ b o eb.
+    in_a_block ! h.at (λ p. box_owns (g.dealloc_token global) R p x) (fst∗ 𝓤 (never 𝓤) (sem 𝓛 (g.dealloc_token global (bare (lone R.mir)) null_ptr))) (λ b o eb.
     let word = lowers.val_is h ws is ∙ ap (λ (p : Ptr). lowers.lowered (record h { at = p }) ∷ []) eb in
     let Cell = λ (vs : List Val). ‵ (cell_at full_share Hd.mir vs rb ro) in
     rewrite ! 2 Cell word refl $
