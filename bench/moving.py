@@ -65,15 +65,15 @@ def fill(image, count, asked):
 
 
 def fill_apart(image, count, asked):
-    """The same keys, each of which had others put behind it that are gone again."""
+    """The same, but each node had others of its size put behind it, which are taken out at the end."""
     format_whole(image)
     mixed, gone = [], []
     for key, put in enumerate(asked["put"]):
         others = [FIRST_BETWEEN + BETWEEN * key + i for i in range(BETWEEN)]
         mixed += [put, *(f"put {other} {'cd' * 64}\n" for other in others)]
         gone += [f"del {other}\n" for other in others]
-    for requests in (mixed, gone):
-        run(image, "".join(requests), 1)
+    for requests in (mixed, asked["put"], asked["del"], asked["put"], gone):
+        run(image, "".join(requests))
 
 
 def time_of(places, room, trace, workers, runs):
