@@ -2,7 +2,7 @@
 """Times the requests of heap_tool run by one worker beside the same trace over the heap for one thread, block_heap's SeqHeap.
 
 The program has no such run. scratch.py builds the text timed_one_worker.txt, which works a trace off by the same calls of
-worker_run and dict_seat over that heap, and looks at the clock at its first request and behind the last. Of heap_tool it is
+worker_run and dict_requests over that heap, and looks at the clock at its first request and behind the last. Of heap_tool it is
 the time of the call that has the worker do its work, as in workers.py; traces and images are the same. Replies that differ
 are refused.
 

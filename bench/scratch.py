@@ -22,14 +22,14 @@ TOP = HERE.parent
 KEPT = HERE / "out" / "built"
 # The crates that each text names.
 CRATES = {
-    "timed_caches.txt": "cache_scenes thread_cache seat_rows heap_rule seat_notes core_model dictionary heap_recover"
+    "timed_caches.txt": "thread_cache_tests thread_cache seat_costs heap_rule seat_state core_model dictionary heap_recover"
     " heap_seat line_memory region_header size_table super_block heap_model",
     "timed_one_worker.txt": "dictionary_tests trace_text tool_ports region_header super_block heap_model",
     "timed_pairs.txt": "block_heap region_header super_block size_table heap_model",
     "timed_parallel.txt": "file_ports tool_ports dictionary par_recover heap_recover filter_trace region_header super_block",
     "timed_recovery.txt": "file_ports tool_ports dictionary heap_recover filter_trace region_header super_block",
     "timed_requests.txt": "dictionary_tests block_heap region_header heap_model",
-    "timed_workloads": "thread_cache seat_view seat_rows heap_rule heap_table seat_notes core_model dictionary heap_recover"
+    "timed_workloads": "thread_cache seat_view seat_costs heap_rule heap_table seat_state core_model dictionary heap_recover"
     " heap_seat line_memory region_header super_block heap_model crossbeam_queue atomic_table",
 }
 

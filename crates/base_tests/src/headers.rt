@@ -2,7 +2,7 @@
 ghost use Rattle.std.specs.Prelude.{◌≤◌};
 
 use crate::asserts::{count_of, must_hold};
-use image_text::{image_of, old_image_of};
+use test_images::{image_of, old_image_of};
 use region_header::{
     BadHeader, Header, bytes_to_words, check_bytes, format, read_header, words_to_bytes,
 };

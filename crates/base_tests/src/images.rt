@@ -3,13 +3,13 @@ ghost use Rattle.std.specs.Prelude.{◌≤◌, ◌*◌, length, slice_index, IfO
 ghost use Rattle.heap_model.specs.Header.{IsWellFormed};
 
 use heap_model::Block;
-use image_text::{image_of, number};
+use test_images::{image_of, number};
 use region_header::read_header;
 use std::alloc::Global;
 use std::test::Fail;
 use super_block::VERSION;
 
-/// An empty image of up to four superblocks with these changes (`image_text`), whose header is good.
+/// An empty image of up to four superblocks with these changes (`test_images`), whose header is good.
 #[tactic(auto, unfolding(heap_model::specs::Geometry::largest_capacity))]
 pub fn good_image(alloc: Global, capacity: u64, changes: &str) -> Result<Vec<u64>, Fail>
     requires some { 1 ≤ capacity }

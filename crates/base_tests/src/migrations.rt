@@ -3,7 +3,7 @@ ghost use Rattle.std.specs.Prelude.{◌≡◌, length, IfOk};
 ghost use Rattle.heap_model.specs.Geometry.{roots};
 
 use crate::asserts::must_hold;
-use image_text::{image_of, old_image_of};
+use test_images::{image_of, old_image_of};
 use region_header::{migrate, migrate_owned, read_header};
 use std::alloc::{AllocError, Global};
 use std::process::Abort;

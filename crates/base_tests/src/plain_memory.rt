@@ -5,7 +5,7 @@ ghost use Rattle.line_memory.specs.View.{word_count};
 
 use crate::asserts::{count_of, must_hold, three_columns};
 use crate::images::two_numbers;
-use image_text::number;
+use test_images::number;
 use line_memory::{Chance, ConstantChance, LineMemory, PlainMemory, Stopped, persist};
 use std::alloc::{AllocError, Global};
 use std::process::Abort;

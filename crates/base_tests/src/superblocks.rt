@@ -4,7 +4,7 @@ ghost use Rattle.heap_model.specs.Geometry.{largest_capacity};
 
 use crate::asserts::{must_hold, three_columns};
 use crate::images::{block_of, good_image};
-use image_text::number;
+use test_images::number;
 use region_header::format;
 use size_table::{SizeClass, blocks_of};
 use std::alloc::Global;

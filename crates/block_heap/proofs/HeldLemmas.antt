@@ -4,7 +4,7 @@ use Rattle.std.proofs.lemmas.Bool.{cases_eq}
 use Rattle.heap_model.specs.declared.block.Block.{Block}
 use Rattle.heap_model.proofs.PartLemmas.{same_fields}
 use Rattle.heap_model.proofs.MemberLemmas.{in_none, in_head, in_rest, head_or_rest}
-use Rattle.line_memory.proofs.StepLemmas.{unmarked}
+use Rattle.line_memory.proofs.LineStepLemmas.{unmarked}
 use Rattle.line_memory.specs.Marks.{marked_words, IsMarked}
 use Rattle.line_memory.specs.Marked.{marked_words-has, marked_words-only, marked_words-none}
 use Rattle.block_heap.specs.Held.{block_of_mark, marked_blocks}

@@ -7,8 +7,8 @@ use Rattle.block_heap.specs.SeqState.{seat_of}
 use Rattle.dict_model.specs.Nodes.{shard_of}
 use Rattle.dict_model.specs.Requests.{with_key, without_key}
 use Rattle.dict_model.specs.Shards.{Map}
-use Rattle.dict_seat.specs.Changes.{MayChange, Changes}
-use Rattle.dict_seat.proofs.OthersLemmas.{shards_on}
+use Rattle.dict_requests.specs.Changes.{MayChange, Changes}
+use Rattle.dict_requests.proofs.OthersLemmas.{shards_on}
 use Rattle.c_dictionary.specs.Dictionary.{Holds, Turns}
 use Rattle.c_dictionary.specs.Keys.{Lists}
 use Rattle.c_dictionary.specs.Ready.{IsReady}

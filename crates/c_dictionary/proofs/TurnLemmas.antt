@@ -9,10 +9,10 @@ use Rattle.dict_model.specs.Links.{shards}
 use Rattle.dict_model.specs.Nodes.{shard_of}
 use Rattle.dict_model.specs.Requests.{with_key, without_key}
 use Rattle.dict_model.specs.Shards.{Map}
-use Rattle.dict_seat.specs.Answers.{Deletes}
-use Rattle.dict_seat.specs.Changes.{MayChange, Changes}
-use Rattle.dict_seat.specs.Shards.{HasShards}
-use Rattle.dict_seat.proofs.OthersLemmas.{others_give}
+use Rattle.dict_requests.specs.Answers.{Deletes}
+use Rattle.dict_requests.specs.Changes.{MayChange, Changes}
+use Rattle.dict_requests.specs.Shards.{HasShards}
+use Rattle.dict_requests.proofs.OthersLemmas.{others_give}
 use Rattle.c_dictionary.specs.Dictionary.{GivesPart, GivesWhole}
 
 -- what is made of a key depends on what the map has of it, and keys of other shards stay

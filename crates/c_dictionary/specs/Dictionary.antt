@@ -5,7 +5,7 @@ use Rattle.block_heap.specs.SeqState.{seat_of}
 use Rattle.dict_model.specs.Links.{shards}
 use Rattle.dict_model.specs.Nodes.{shard_of}
 use Rattle.dict_model.specs.Shards.{Map}
-use Rattle.dict_seat.specs.Maps.{GivesMap}
+use Rattle.dict_requests.specs.Maps.{GivesMap}
 use Rattle.c_dictionary.specs.declared.store.Store.{Store}
 use Rattle.c_dictionary.specs.Keys.{Lists}
 

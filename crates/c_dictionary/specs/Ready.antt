@@ -1,7 +1,7 @@
 -- What a going dictionary is.
 use Rattle.block_heap.specs.SeqState.{seat_of}
 use Rattle.dict_model.specs.Shards.{Map}
-use Rattle.dict_seat.specs.Shards.{HasShards}
+use Rattle.dict_requests.specs.Shards.{HasShards}
 use Rattle.c_dictionary.specs.declared.store.Store.{Store}
 use Rattle.c_dictionary.specs.Dictionary.{Holds}
 

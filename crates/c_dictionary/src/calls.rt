@@ -2,9 +2,9 @@
 ghost use Rattle.std.specs.Prelude.{◌≡◌, ◌≢◌, ◌⊎◌, ◌+◌, ◌^◌, ◌-◌, Some, None, true, false};
 ghost use Rattle.dict_model.specs.Nodes.{shard_of};
 ghost use Rattle.dict_model.specs.Requests.{with_key, without_key};
-ghost use Rattle.dict_seat.specs.Changes.{MayChange, Changes};
-ghost use Rattle.dict_seat.specs.Gets.{Gets};
-ghost use Rattle.dict_seat.specs.Answers.{Deletes};
+ghost use Rattle.dict_requests.specs.Changes.{MayChange, Changes};
+ghost use Rattle.dict_requests.specs.Gets.{Gets};
+ghost use Rattle.dict_requests.specs.Answers.{Deletes};
 ghost use Rattle.dict_model.specs.Shards.{Map};
 ghost use Rattle.c_dictionary.specs.Dictionary.{Holds};
 ghost use Rattle.c_dictionary.specs.Keys.{IsLeastFrom, HasNoneFrom};

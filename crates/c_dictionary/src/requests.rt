@@ -3,16 +3,16 @@ ghost use Rattle.std.specs.Prelude.{◌≡◌, ◌≢◌, ◌≤◌, ◌⊎◌, 
 ghost use Rattle.block_heap.specs.SeqState.{seat_of};
 ghost use Rattle.dict_model.specs.Nodes.{shard_of};
 ghost use Rattle.dict_model.specs.Requests.{with_key, without_key};
-ghost use Rattle.dict_seat.specs.Changes.{MayChange, Changes};
-ghost use Rattle.dict_seat.specs.Gets.{Gets};
-ghost use Rattle.dict_seat.specs.Answers.{Deletes};
+ghost use Rattle.dict_requests.specs.Changes.{MayChange, Changes};
+ghost use Rattle.dict_requests.specs.Gets.{Gets};
+ghost use Rattle.dict_requests.specs.Answers.{Deletes};
 ghost use Rattle.c_dictionary.specs.Dictionary.{Turns};
 ghost use Rattle.c_dictionary.specs.Ready.{IsReady};
 
 use crate::keys::{add_key, take_key, undo_add};
 use crate::status::{ABSENT, DONE, FULL, MEMORY, STOPPED};
 use crate::store::Store;
-use dict_seat::{PutFault, Shard};
+use dict_requests::{PutFault, Shard};
 
 /// Sets a key.
 pub fn put(store: &mut Store, key: u64, value: &[u8]) -> u32

@@ -2,7 +2,7 @@
 use Rattle.std.proofs.Common.{◌≡◌, ◌≤◌, [], ◌∷◌, Some, refl, arith}
 use Rattle.std.proofs.lemmas.Option.{same_Some}
 use Rattle.core_model.specs.View.{LastLook, View}
-use Rattle.seat_fill.specs.Refills.{HasSeenEmpty, HasSeenNone, IsFilledInOrder}
+use Rattle.cache_fill.specs.Refills.{HasSeenEmpty, HasSeenNone, IsFilledInOrder}
 use Rattle.cache_examples.specs.Seats.{before, look_at, with_cached, with_looks}
 
 -- both lists were found empty, that of the class by ticket 5 and that of the free ones by ticket 6

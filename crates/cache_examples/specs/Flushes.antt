@@ -3,7 +3,7 @@ use Rattle.std.proofs.Common.{◌≤◌, ◌≡◌, ◌<◌, ℕ, [], ◌∷◌,
 use Rattle.std.proofs.lemmas.List.{get_or-replicate}
 use Rattle.heap_model.specs.Sizes.{IsClass}
 use Rattle.core_model.specs.View.{Parts, View, of_class}
-use Rattle.seat_flush.specs.All.{GivesCaches, HasFlushedAll, cached, gave_cache, gave_no_cache}
+use Rattle.cache_flush.specs.All.{GivesCaches, HasFlushedAll, cached, gave_cache, gave_no_cache}
 use Rattle.cache_examples.specs.Runs.{all_given, full_cache, gives_both, gives_the_one, no_run, one_cached, one_listed, without_tickets}
 use Rattle.cache_examples.specs.Seats.{before, later, with_cached}
 

@@ -2,7 +2,7 @@
 use Rattle.std.proofs.Common.{◌≡◌, ◌<◌, ◌+◌, ℕ, [], ◌∷◌, None, Some, refl, ap, arith}
 use Rattle.std.proofs.lemmas.Option.{same_Some}
 use Rattle.core_model.specs.View.{LastLook, Parts, View}
-use Rattle.seat_fill.specs.Refills.{IsFull, IsLook}
+use Rattle.cache_fill.specs.Refills.{IsFull, IsLook}
 use Rattle.cache_examples.specs.Seats.{all_taken, before, look_at, with_looks}
 
 -- a look by ticket 7, of a seat that has won nothing and taken nothing since

@@ -7,12 +7,12 @@ use Rattle.heap_model.specs.Words.{anchor_of, empty_state, partial_state}
 use Rattle.core_model.specs.Cells.{superblock_at}
 use Rattle.core_model.specs.Effects.{first_of, without_claim}
 use Rattle.core_model.specs.View.{Claim, Parts, Setup, View, no_batch, of_class}
-use Rattle.seat_lists.specs.Anchors.{anchor_seen}
-use Rattle.seat_rows.specs.Rows.{ViewRow}
-use Rattle.seat_rows.specs.Words.{MayBe}
-use Rattle.seat_flush.specs.Flushes.{GivesRun, GivesRuns, HasListedBy, ListsBehind, gave_more, gave_none}
-use Rattle.seat_flush.specs.Gives.{HasGiven}
-use Rattle.seat_flush.specs.Lifts.{HasLiftedPrefix, lift_costs}
+use Rattle.superblock_lists.specs.Anchors.{anchor_seen}
+use Rattle.seat_costs.specs.Rows.{ViewRow}
+use Rattle.seat_costs.specs.Words.{MayBe}
+use Rattle.cache_flush.specs.Flushes.{GivesRun, GivesRuns, HasListedBy, ListsBehind, gave_more, gave_none}
+use Rattle.cache_flush.specs.Gives.{HasGiven}
+use Rattle.cache_flush.specs.Lifts.{HasLiftedPrefix, lift_costs}
 use Rattle.cache_examples.specs.Seats.{before, counts_of, later, passed, with_cached}
 
 -- two blocks of superblock 0 and then two of superblock 1, the second of which leads to the third

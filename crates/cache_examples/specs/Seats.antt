@@ -5,8 +5,8 @@ use Rattle.heap_seat.specs.declared.fault.Looks.{Looks}
 use Rattle.core_model.specs.Effects.{class_blocks}
 use Rattle.core_model.specs.Examples.{idle}
 use Rattle.core_model.specs.View.{LastLook, View, no_batch, role}
-use Rattle.seat_rows.specs.Costs.{Costs}
-use Rattle.seat_rows.specs.Rows.{Passes, head_look, next_of}
+use Rattle.seat_costs.specs.Costs.{Costs}
+use Rattle.seat_costs.specs.Rows.{Passes, head_look, next_of}
 
 pub four_blocks : blocks_of 20 ≡ 4
 unfolding blocks_of class_sizes

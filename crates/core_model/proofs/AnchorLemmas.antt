@@ -11,7 +11,7 @@ use Rattle.core_model.specs.Guards.{IsThere}
 use Rattle.core_model.specs.Sound.{CoreShape, tally_of, AreUntaken, FitsLists, HasClaims, IsAnchoredBy, KnowsHead, KnowsWords, HasTotals, stale, class_numbers, times_cut, Good}
 use Rattle.core_model.proofs.TotalLemmas.{total_at}
 use Rattle.core_model.proofs.FrameLemmas.{untouched, words_frame, below_not}
-use Rattle.core_model.proofs.StepLemmas.{IsSeat, seat_at, adds_step}
+use Rattle.core_model.proofs.EventStepLemmas.{IsSeat, seat_at, adds_step}
 use Rattle.core_model.proofs.OwnLemmas.{words_left, stale_anchor_most}
 use Rattle.heap_model.proofs.ListLemmas.{one_at_most}
 use Rattle.core_model.proofs.ListLemmas.{in_lists_at}

@@ -16,7 +16,7 @@ use Rattle.core_model.specs.Sound.{Tally, tally_of, IsInShape, Each, IsSetUp, Cl
 use Rattle.core_model.specs.Carriers.{IsCarrier, IsEmptied, one_if_carrier, one_block, offered, carrier_of, both_lists, either_of, accepted, AreOneLess, AreSeatsAndCarriers}
 use Rattle.core_model.specs.Orders.{AreReordered}
 use Rattle.core_model.specs.Splitting.{chosen}
-use Rattle.core_model.proofs.StepLemmas.{IsSeat, seat_at}
+use Rattle.core_model.proofs.EventStepLemmas.{IsSeat, seat_at}
 use Rattle.core_model.proofs.QuietLemmas.{none_drawn, ticket_given_up, quiet, words_same}
 use Rattle.core_model.proofs.ShiftLemmas.{within_append}
 use Rattle.core_model.proofs.SplittingLemmas.{split_seat, total_behind}

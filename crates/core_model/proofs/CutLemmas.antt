@@ -14,7 +14,7 @@ use Rattle.core_model.specs.Guards.{MayCut}
 use Rattle.core_model.specs.Sound.{CoreShape, Tally, tally_of, IsInShape, IsCutBlock, IsAnchoredBy, AreChained, HasBlocks, times_parked, times_cut, empties, Good}
 use Rattle.core_model.proofs.TotalLemmas.{total_set, total_same, total_at, eq-eqb-one, ne-eqb-none}
 use Rattle.core_model.proofs.FrameLemmas.{times_without}
-use Rattle.core_model.proofs.StepLemmas.{IsSeat, seat_at}
+use Rattle.core_model.proofs.EventStepLemmas.{IsSeat, seat_at}
 use Rattle.core_model.proofs.OwnLemmas.{length_only}
 use Rattle.core_model.proofs.CountLemmas.{block_once}
 use Rattle.heap_model.proofs.ListLemmas.{without_less, one_at_most}

@@ -9,7 +9,7 @@ use Rattle.core_model.specs.Effects.{seen, drew, stopped}
 use Rattle.core_model.specs.Sound.{tally_of, IsInShape, IsSetUp, HasClaims, HasBlocks, Knows, IsTicketDrawn, HasTickets, stale, times_parked, empties, Good}
 use Rattle.core_model.proofs.TotalLemmas.{total_set, total_same}
 use Rattle.core_model.proofs.QuietLemmas.{words_same, none_drawn, not_there}
-use Rattle.core_model.proofs.StepLemmas.{IsSeat, seat_at, good_step, Parts, parts, tally_same}
+use Rattle.core_model.proofs.EventStepLemmas.{IsSeat, seat_at, good_step, Parts, parts, tally_same}
 use Rattle.core_model.specs.Cells.{info_cell, anchor_cell, data_cell}
 
 drawn_later : (drawn : ℕ) (ticket : Option ℕ) → IsTicketDrawn drawn ticket → IsTicketDrawn (drawn + 1) ticket

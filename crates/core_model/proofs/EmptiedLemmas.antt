@@ -14,7 +14,7 @@ use Rattle.core_model.proofs.OpenCountLemmas.{empty_at}
 use Rattle.core_model.proofs.OwnLemmas.{length_only}
 use Rattle.core_model.proofs.SpanLemmas as spans
 use Rattle.core_model.proofs.SplittingLemmas.{each_behind, total_behind}
-use Rattle.core_model.proofs.StepLemmas.{IsSeat, seat_at}
+use Rattle.core_model.proofs.EventStepLemmas.{IsSeat, seat_at}
 use Rattle.core_model.proofs.TotalLemmas.{total_set, total_same}
 
 pub empties_carrier : (u : View) → IsCarrier u → IsEmptied (emptied u)

@@ -14,7 +14,7 @@ use Rattle.core_model.proofs.TotalLemmas.{total_set, total_same}
 use Rattle.core_model.proofs.PlaceLemmas.{known_after, cell_at_index}
 use Rattle.core_model.proofs.FrameLemmas.{untouched, words_frame, below_is, below_not, times_steps}
 use Rattle.heap_model.proofs.ListLemmas.{times_append}
-use Rattle.core_model.proofs.StepLemmas.{IsSeat, seat_at, good_step, adds_step, tally_same}
+use Rattle.core_model.proofs.EventStepLemmas.{IsSeat, seat_at, good_step, adds_step, tally_same}
 use Rattle.core_model.proofs.OwnLemmas.{own_grows, stale_cleared, differs_most, differs_same, won_tickets}
 use Rattle.core_model.proofs.QuietLemmas.{done_tickets, words_same}
 

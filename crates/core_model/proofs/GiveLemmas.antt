@@ -16,7 +16,7 @@ use Rattle.core_model.specs.Sound.{CoreShape, Tally, tally_of, IsInShape, IsCutB
 use Rattle.core_model.proofs.TotalLemmas.{total_set, total_same, total_at, total_change, total_where, eq-eqb-one, ne-eqb-none}
 use Rattle.core_model.proofs.FrameLemmas.{times_steps, below_is, below_not}
 use Rattle.heap_model.proofs.ListLemmas.{times_append, one_at_most}
-use Rattle.core_model.proofs.StepLemmas.{IsSeat, seat_at, good_step, set_up_kept}
+use Rattle.core_model.proofs.EventStepLemmas.{IsSeat, seat_at, good_step, set_up_kept}
 use Rattle.core_model.proofs.OwnLemmas.{won_tickets, length_only}
 use Rattle.core_model.proofs.QuietLemmas.{not_there}
 use Rattle.core_model.proofs.CountLemmas.{all_home, chain_short}

@@ -1,6 +1,6 @@
 pub mod TotalLemmas
 pub mod MemoryLemmas
-pub mod StepLemmas
+pub mod EventStepLemmas
 pub mod QuietLemmas
 pub mod FrameLemmas
 pub mod PlaceLemmas

@@ -17,7 +17,7 @@ use Rattle.core_model.specs.Guards.{IsThere}
 use Rattle.core_model.specs.Sound.{CoreShape, AreLists, KnowsHead, HasTotals, class_numbers}
 use Rattle.core_model.proofs.TotalLemmas.{total_change, ne-eqb-none}
 use Rattle.core_model.proofs.FrameLemmas.{untouched, words_frame}
-use Rattle.core_model.proofs.StepLemmas.{IsSeat, adds_step}
+use Rattle.core_model.proofs.EventStepLemmas.{IsSeat, adds_step}
 
 -- the lists, but another one at one number
 abbrev pub relist : (ℕ → List ℕ) → ℕ → List ℕ → ℕ → List ℕ

@@ -11,7 +11,7 @@ use Rattle.core_model.proofs.TotalLemmas.{total_same, total_at}
 use Rattle.core_model.proofs.MemoryLemmas.{same-refl}
 use Rattle.core_model.proofs.PlaceLemmas.{known_after}
 use Rattle.core_model.proofs.FrameLemmas.{with_other, untouched, words_frame, below_not}
-use Rattle.core_model.proofs.StepLemmas.{IsSeat, seat_at, good_step, adds_step, tally_same}
+use Rattle.core_model.proofs.EventStepLemmas.{IsSeat, seat_at, good_step, adds_step, tally_same}
 use Rattle.core_model.proofs.QuietLemmas.{quiet, done_tickets, own_same}
 use Rattle.heap_model.proofs.ListLemmas.{one_at_most}
 use Rattle.core_model.proofs.OwnerLemmas.{one_owner}

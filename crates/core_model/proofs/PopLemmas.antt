@@ -14,7 +14,7 @@ use Rattle.core_model.specs.Guards.{IsThere, MayPop}
 use Rattle.core_model.specs.Sound.{CoreShape, Tally, tally_of, IsInShape, AreChained, Knows, KnowsHead, stale, stale_anchor, stale_head, differs, class_numbers, times_in_lists, times_parked, times_cut, empties, Good}
 use Rattle.core_model.proofs.TotalLemmas.{total_set, total_same, total_unchanged, eq-eqb-one, ne-eqb-none}
 use Rattle.core_model.proofs.FrameLemmas.{untouched, words_frame}
-use Rattle.core_model.proofs.StepLemmas.{IsSeat, seat_at, good_step}
+use Rattle.core_model.proofs.EventStepLemmas.{IsSeat, seat_at, good_step}
 use Rattle.core_model.proofs.OwnLemmas.{own_grows, words_grow, stale_cleared, stale_head_most, cleared_other, won_tickets}
 use Rattle.core_model.proofs.FreshLemmas.{cleared_same}
 use Rattle.core_model.proofs.ListLemmas.{relist, relist_same, relist_other, IsFirst, first_is, head_parts, lists_set, in_lists_set, in_lists_at, knows_pop, others_at_head, adds_at_head}

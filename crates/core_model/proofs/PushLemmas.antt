@@ -15,7 +15,7 @@ use Rattle.core_model.specs.Guards.{IsThere, MayPush, MayList, as_free, of_its_c
 use Rattle.core_model.specs.Sound.{CoreShape, Tally, tally_of, IsInShape, AreChained, IsCutBlock, Knows, KnowsHead, stale, stale_anchor, stale_head, differs, class_numbers, times_in_lists, times_parked, times_cut, empties, Good}
 use Rattle.core_model.proofs.TotalLemmas.{total_set, total_same, total_at, total_change, total_unchanged, eq-eqb-one, ne-eqb-none}
 use Rattle.core_model.proofs.FrameLemmas.{untouched, times_without, without_none, times_steps, below_is, below_not}
-use Rattle.core_model.proofs.StepLemmas.{IsSeat, seat_at, good_step, set_up_kept}
+use Rattle.core_model.proofs.EventStepLemmas.{IsSeat, seat_at, good_step, set_up_kept}
 use Rattle.core_model.proofs.OwnLemmas.{words_left, stale_cleared, stale_head_most, cleared_other, won_tickets, length_only}
 use Rattle.core_model.proofs.FreshLemmas.{cleared_same}
 use Rattle.core_model.proofs.CountLemmas.{times_without_claim, claims_without, claimed_is_cut, all_without_claim, all_home}

@@ -15,7 +15,7 @@ use Rattle.core_model.specs.Effects.{seen, seen_word, seen_of, before, used_up, 
 use Rattle.core_model.specs.Guards.{IsThere, MayLink, MayLookAt}
 use Rattle.core_model.specs.Sound.{CoreShape, Tally, tally_of, IsInShape, IsSetUp, HasClaims, HasBlocks, Knows, KnowsWords, IsTicketDrawn, IsTicketed, HasTickets, stale, differs, stale_head, stale_anchor, times_parked, empties, Good}
 use Rattle.core_model.proofs.TotalLemmas.{total_same}
-use Rattle.core_model.proofs.StepLemmas.{IsSeat, seat_at, good_step, Parts, parts, tally_same, adds_step}
+use Rattle.core_model.proofs.EventStepLemmas.{IsSeat, seat_at, good_step, Parts, parts, tally_same, adds_step}
 
 -- the counts that such a step leaves
 pub record Counts : Type 0 where

@@ -14,7 +14,7 @@ use Rattle.core_model.specs.Sound.{CoreShape, tally_of, IsInShape, HasBlocks, Kn
 use Rattle.core_model.proofs.TotalLemmas.{total_same, eq-eqb-one, ne-eqb-none}
 use Rattle.core_model.proofs.FrameLemmas.{times_without}
 use Rattle.heap_model.proofs.ListLemmas.{times_append}
-use Rattle.core_model.proofs.StepLemmas.{IsSeat, seat_at, good_step, adds_step}
+use Rattle.core_model.proofs.EventStepLemmas.{IsSeat, seat_at, good_step, adds_step}
 use Rattle.core_model.proofs.QuietLemmas.{Counts, counts}
 use Rattle.core_model.proofs.OwnLemmas.{words_grow}
 use Rattle.core_model.proofs.BlockLemmas.{walks_first, walks_append, after_last, of_class_same, of_class_other, total_lists, first_there}

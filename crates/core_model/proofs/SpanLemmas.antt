@@ -17,7 +17,7 @@ use Rattle.core_model.proofs.TotalLemmas.{total_set, total_same, total_at, ne-eq
 use Rattle.core_model.proofs.PlaceLemmas.{and_both, and_is}
 use Rattle.core_model.proofs.FrameLemmas.{times_steps, below_is, below_not}
 use Rattle.heap_model.proofs.ListLemmas.{times_append, one_at_most}
-use Rattle.core_model.proofs.StepLemmas.{IsSeat, seat_at}
+use Rattle.core_model.proofs.EventStepLemmas.{IsSeat, seat_at}
 use Rattle.core_model.proofs.OwnLemmas.{own_grows, words_grow, words_left, stale_cleared, cleared_other, length_only}
 use Rattle.core_model.proofs.FreshLemmas.{cleared_same}
 use Rattle.core_model.proofs.LinkFrameLemmas.{span_covers}

@@ -14,7 +14,7 @@ use Rattle.core_model.specs.Opening.{unlooked}
 use Rattle.core_model.specs.Splitting.{Choice, others, chosen, chosen_spans, chosen_lists, remaining, new_seat, given_off}
 use Rattle.core_model.specs.Sound.{Tally, tally_of, IsInShape, Each, IsSetUp, ClaimsOf, HasClaims, BlocksOf, HasBlocks, Knows, KnowsWords, IsTicketDrawn, HasTickets, HasLost, times_parked, empties, Good, Sound}
 use Rattle.core_model.proofs.TotalLemmas.{total_set, each_set, ne-eqb-none}
-use Rattle.core_model.proofs.StepLemmas.{IsSeat, seat_at}
+use Rattle.core_model.proofs.EventStepLemmas.{IsSeat, seat_at}
 use Rattle.core_model.proofs.OwnLemmas.{length_only}
 use Rattle.core_model.proofs.QuietLemmas.{not_there, none_drawn}
 use Rattle.core_model.proofs.OpenCountLemmas.{empty_at, no_walk}

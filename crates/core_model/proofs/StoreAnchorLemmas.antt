@@ -12,7 +12,7 @@ use Rattle.core_model.specs.Guards.{IsThere, IsOwn, MayStore, MayAnchor, as_empt
 use Rattle.core_model.specs.Sound.{tally_of, IsInShape, IsAnchoredBy, ClaimsOf, HasBlocks, Knows, KnowsHead, stale_anchor, stale_head, differs, times_in_lists, times_parked, times_cut, empties, Good}
 use Rattle.core_model.proofs.TotalLemmas.{total_same, total_at, total_alike, eq-eqb-one, ne-eqb-none}
 use Rattle.core_model.proofs.FrameLemmas.{times_without, without_none}
-use Rattle.core_model.proofs.StepLemmas.{IsSeat, seat_at, good_step, adds_step}
+use Rattle.core_model.proofs.EventStepLemmas.{IsSeat, seat_at, good_step, adds_step}
 use Rattle.core_model.proofs.QuietLemmas.{Counts, counts, done_tickets}
 use Rattle.core_model.proofs.OwnLemmas.{Holdings, holdings, own_equal}
 use Rattle.heap_model.proofs.ListLemmas.{without_less}

@@ -14,7 +14,7 @@ use Rattle.core_model.specs.Guards.{IsThere, IsOwn, MayChangeWord}
 use Rattle.core_model.specs.Sound.{tally_of, IsInShape, IsSetUp, IsCutBlock, IsAnchoredBy, ClaimsOf, BlocksOf, KnowsHead, KnowsWords, times_in_lists, times_parked, times_cut, empties, Good}
 use Rattle.core_model.proofs.TotalLemmas.{total_same, total_at}
 use Rattle.core_model.proofs.FrameLemmas.{with_other, untouched, words_frame, below_not}
-use Rattle.core_model.proofs.StepLemmas.{IsSeat, seat_at, good_step, adds_step, tally_same}
+use Rattle.core_model.proofs.EventStepLemmas.{IsSeat, seat_at, good_step, adds_step, tally_same}
 use Rattle.core_model.proofs.QuietLemmas.{done_tickets}
 use Rattle.core_model.proofs.OwnLemmas.{own_equal}
 use Rattle.heap_model.proofs.ListLemmas.{one_at_most}

@@ -13,7 +13,7 @@ use Rattle.core_model.specs.Effects.{seen_word, steps, chain, first_of, claim_cl
 use Rattle.core_model.specs.Guards.{IsThere, MayTakeAll}
 use Rattle.core_model.specs.Sound.{CoreShape, Tally, tally_of, IsInShape, IsCutBlock, IsAnchoredBy, AreChained, HasBlocks, times_parked, times_cut, empties, Good}
 use Rattle.core_model.proofs.TotalLemmas.{total_set, total_same, total_at, total_two, total_alike, eq-eqb-one, ne-eqb-none}
-use Rattle.core_model.proofs.StepLemmas.{IsSeat, seat_at, good_step}
+use Rattle.core_model.proofs.EventStepLemmas.{IsSeat, seat_at, good_step}
 use Rattle.core_model.proofs.OwnLemmas.{won_tickets, length_only}
 use Rattle.core_model.proofs.QuietLemmas.{not_there}
 use Rattle.core_model.proofs.CountLemmas.{times_without_claim, claims_without, claimed_is_cut, all_without_claim}

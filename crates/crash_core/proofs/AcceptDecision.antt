@@ -13,12 +13,12 @@ use Rattle.core_model.specs.Held.{IsHeld, a_large, a_small}
 use Rattle.core_model.specs.Steps.{TableState}
 use Rattle.core_model.specs.View.{Setup, View, one_if_some}
 use Rattle.core_model.proofs.OwnerLemmas.{in_lists_total}
-use Rattle.seat_notes.specs.declared.notes.SeatNotes.{SeatNotes}
-use Rattle.seat_notes.specs.declared.notes.TheConstants.{NEW_SEAT}
-use Rattle.seat_notes.specs.Superblocks.{HasSuperblocks}
-use Rattle.seat_notes.proofs.WordLemmas.{entry_there}
+use Rattle.seat_state.specs.declared.notes.SeatNotes.{SeatNotes}
+use Rattle.seat_state.specs.declared.notes.TheConstants.{NEW_SEAT}
+use Rattle.seat_state.specs.Superblocks.{HasSuperblocks}
+use Rattle.seat_state.proofs.WordLemmas.{entry_there}
 use Rattle.crash_core.specs.declared.state.CoreState.{CoreState}
-use Rattle.crash_core.specs.Standing.{Accepts, block_given, CarriesBlock, HasBlocksOf, IsKept, IsLaden, IsSeatAt, IsStanding, nobody, OwnsLarge, OwnsSmall, StandsFor, superblock_given}
+use Rattle.crash_core.specs.Standing.{Accepts, block_given, CarriesBlock, HasBlocksOf, IsKept, IsLaden, IsSeatAt, IsStanding, nobody, OwnsLarge, OwnsSmall, Represents, superblock_given}
 use Rattle.crash_core.proofs.AcceptOwners.{blocks_left, blocks_taken, blocks_third, superblocks_left, superblocks_taken, superblocks_third}
 use Rattle.crash_core.proofs.AcceptSteps.{accept_stands}
 use Rattle.crash_core.proofs.OfferDecision.{IsSeatOf, may_hand, seat_of}
@@ -44,7 +44,7 @@ pub record IsCarrierAt (c : CoreState) (s : TableState) (j : ℕ) : Type 0 where
   pub at : get_or s.views j view ≡ view
   pub carrier : IsCarrier view
 
-pub carrier_there : (c : CoreState) (k : Setup) (s : TableState) (j : ℕ) → StandsFor c k s → CarriesBlock c j → IsCarrierAt c s j
+pub carrier_there : (c : CoreState) (k : Setup) (s : TableState) (j : ℕ) → Represents c k s → CarriesBlock c j → IsCarrierAt c s j
 carrier_there c k s j stands carries = elim (cases_lt j (length s.views)) [
   | inl less ↦ let u = entry_there s.views j less in by_view u.0 less u.1 (stands.order.behind j u.0 (subst (λ n. n ≤ j) (sym stands.keeps.opened) carries.behind) less u.1)
   | inr past ↦ absurd (owns_none (nobody k) (stands.keeps.none j past) (λ b. refl) (λ d. refl) carries.owns)
@@ -58,7 +58,7 @@ carrier_there c k s j stands carries = elim (cases_lt j (length s.views)) [
   by_view u less at (inr empty) = absurd (owns_none u (stands.keeps.carried j u carries.behind less at) (λ b. ap (total (times b)) empty.held.0) (λ d. ap (span_count d) empty.held.1) carries.owns)
 
 -- and where the core says that none is there, none is
-pub carrier_not : (c : CoreState) (k : Setup) (s : TableState) (j : ℕ) (v u : View) → StandsFor c k s → (CarriesBlock c j → ⊥) → MayAccept s.views v j u → ⊥
+pub carrier_not : (c : CoreState) (k : Setup) (s : TableState) (j : ℕ) (v u : View) → Represents c k s → (CarriesBlock c j → ⊥) → MayAccept s.views v j u → ⊥
 carrier_not c k s j v u stands none may = elim (cases_lt j k.seats) [
   | inl seat ↦ let zero_is = stands.order.first j u seat may.at in let one = may.carrier.is_one in omega arith
   | inr past ↦ by_view past (stands.order.behind j u past may.below may.at)

@@ -6,10 +6,10 @@ use Rattle.core_model.specs.Effects.{claim_class, span_count}
 use Rattle.core_model.specs.View.{Batch, Claim, Span, View, times_classed}
 use Rattle.core_model.proofs.CarrierLemmas.{both_times, count_append, large_append}
 use Rattle.core_model.proofs.PlaceLemmas.{not-eq, skip}
-use Rattle.seat_notes.specs.declared.superblocks.SuperblockOwner.{SuperblockOwner}
-use Rattle.seat_notes.specs.declared.superblocks.SuperblockUsage.{SuperblockUsage}
-use Rattle.seat_notes.specs.declared.superblocks.SuperblockUsage.TheVariants as usage
-use Rattle.seat_notes.specs.Superblocks.{HasSuperblocks, IsUsage, no_superblock, usage_for}
+use Rattle.seat_state.specs.declared.superblocks.SuperblockOwner.{SuperblockOwner}
+use Rattle.seat_state.specs.declared.superblocks.SuperblockUsage.{SuperblockUsage}
+use Rattle.seat_state.specs.declared.superblocks.SuperblockUsage.TheVariants as usage
+use Rattle.seat_state.specs.Superblocks.{HasSuperblocks, IsUsage, no_superblock, usage_for}
 use Rattle.crash_core.specs.declared.owners.BlockOwner.{BlockOwner}
 use Rattle.crash_core.specs.declared.owners.BlockPlace.{BlockPlace}
 use Rattle.crash_core.specs.declared.owners.BlockPlace.TheVariants as place

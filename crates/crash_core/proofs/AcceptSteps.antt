@@ -10,14 +10,14 @@ use Rattle.core_model.specs.Steps.{TableState}
 use Rattle.core_model.specs.View.{Setup, View, one_if_some}
 use Rattle.core_model.proofs.EmptiedLemmas.{accept_counted, accept_sound, empties_carrier}
 use Rattle.core_model.proofs.TotalLemmas.{total_set}
-use Rattle.seat_notes.specs.declared.notes.SeatNotes.{SeatNotes}
-use Rattle.seat_notes.specs.declared.notes.TheConstants.{NEW_SEAT}
+use Rattle.seat_state.specs.declared.notes.SeatNotes.{SeatNotes}
+use Rattle.seat_state.specs.declared.notes.TheConstants.{NEW_SEAT}
 use Rattle.crash_core.specs.declared.state.CoreState.{CoreState}
-use Rattle.crash_core.specs.Standing.{AreInOrder, IsKept, IsSeatAt, KeepsViews, nobody, StandsFor}
+use Rattle.crash_core.specs.Standing.{AreInOrder, IsKept, IsSeatAt, KeepsViews, nobody, Represents}
 use Rattle.crash_core.proofs.HandSteps.{HasOwn}
 use Rattle.crash_core.proofs.StandingLemmas.{among, IsSameHeap}
 
-module _ (c c' : CoreState) (k : Setup) (s : TableState) (i j : ℕ) (v u : View) (t : SeatNotes) (stands : StandsFor c k s) (at : get_or s.views i v ≡ v) (at_t : IsSeatAt c i t) (past : length c.seats.items ≤ j) (may : MayAccept s.views v j u)
+module _ (c c' : CoreState) (k : Setup) (s : TableState) (i j : ℕ) (v u : View) (t : SeatNotes) (stands : Represents c k s) (at : get_or s.views i v ≡ v) (at_t : IsSeatAt c i t) (past : length c.seats.items ≤ j) (may : MayAccept s.views v j u)
     (words : c'.words.items ≡ c.words.items) (seats : c'.seats.items ≡ set c.seats.items i (record t { ticket = None })) (same : IsSameHeap c c') (mine : HasOwn c' i (accepted v u)) (left : HasOwn c' j (emptied u))
     (others : (e : ℕ) (y : View) → e ≢ i → e ≢ j → HasOwn c e y → HasOwn c' e y) where
   keeps : KeepsViews c k s.views
@@ -145,7 +145,7 @@ module _ (c c' : CoreState) (k : Setup) (s : TableState) (i j : ℕ) (v u : View
     ];
   }
 
-  pub accept_stands : StandsFor c' k (after_accept s i j v u)
+  pub accept_stands : Represents c' k (after_accept s i j v u)
   accept_stands = record {
     words = words ∙ stands.words;
     keeps = keeps';

@@ -6,7 +6,7 @@ use Rattle.heap_model.specs.Sizes.{IsClass}
 use Rattle.heap_model.specs.Counting.{times, total}
 use Rattle.crash_core.specs.declared.owners.BlockPlace.TheVariants as place
 use Rattle.crash_core.specs.declared.owners.BlockOwner.{BlockOwner}
-use Rattle.seat_notes.specs.declared.notes.SeatNotes.{SeatNotes}
+use Rattle.seat_state.specs.declared.notes.SeatNotes.{SeatNotes}
 use Rattle.crash_core.specs.declared.state.CoreState.{CoreState}
 use Rattle.core_model.specs.Cells.{data_cell}
 use Rattle.core_model.specs.Memory.{volatile_at, next}
@@ -14,16 +14,16 @@ use Rattle.core_model.specs.View.{Setup, View, of_class, times_block}
 use Rattle.core_model.specs.Effects.{chain, first_of}
 use Rattle.core_model.specs.Sound.{IsCutBlock}
 use Rattle.crash_core.specs.Standing.{IsAmong, IsSeatAt, place_for, no_block, IsPlace, HasBlocksOf, HasNewOwner, IsKept, KeepsViews}
-use Rattle.seat_notes.specs.Notes.{HasCaches}
+use Rattle.seat_state.specs.Notes.{HasCaches}
 use Rattle.core_model.proofs.TotalLemmas.{total_at}
 use Rattle.core_model.proofs.PlaceLemmas.{and_is}
 use Rattle.core_model.proofs.BlockLemmas.{walks_chain, total_lists}
 use Rattle.crash_core.proofs.StandingLemmas.{among_most, memory_in}
-use Rattle.seat_notes.proofs.CacheLemmas.{cache_set}
+use Rattle.seat_state.proofs.CacheLemmas.{cache_set}
 use Rattle.crash_core.proofs.BlockPlaces.{no_place}
 use Rattle.crash_core.proofs.GivenLemmas.{given_mine, given_theirs, walks_other}
-use Rattle.seat_notes.proofs.WordLemmas.{read_is}
-use Rattle.seat_notes.proofs.BlockRanges.{cut_range}
+use Rattle.seat_state.proofs.WordLemmas.{read_is}
+use Rattle.seat_state.proofs.BlockRanges.{cut_range}
 
 pub none_of : {A : Type 0} (xs : List A) → length xs ≡ 0 → xs ≡ []
 none_of [] none = refl

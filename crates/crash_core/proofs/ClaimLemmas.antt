@@ -1,22 +1,22 @@
 -- The superblocks that the core keeps for a seat after it claims one, or gives one up.
 use Rattle.std.proofs.Common.{◌≡◌, ℕ, zero, suc, ◌+◌, ◌<◌, nat_eq, List, ◌∷◌, get_or, set, length, refl, sym, subst, ◌∙◌, eq-eqb, arith}
 use Rattle.heap_model.specs.Counting.{times, without}
-use Rattle.seat_notes.specs.declared.superblocks.SuperblockUsage.{SuperblockUsage}
-use Rattle.seat_notes.specs.declared.superblocks.SuperblockUsage.TheVariants as usage
-use Rattle.seat_notes.specs.declared.superblocks.SuperblockOwner.{SuperblockOwner}
-use Rattle.seat_notes.specs.declared.notes.SeatNotes.{SeatNotes}
+use Rattle.seat_state.specs.declared.superblocks.SuperblockUsage.{SuperblockUsage}
+use Rattle.seat_state.specs.declared.superblocks.SuperblockUsage.TheVariants as usage
+use Rattle.seat_state.specs.declared.superblocks.SuperblockOwner.{SuperblockOwner}
+use Rattle.seat_state.specs.declared.notes.SeatNotes.{SeatNotes}
 use Rattle.crash_core.specs.declared.state.CoreState.{CoreState}
 use Rattle.core_model.specs.View.{View, Claim, Span, times_classed}
 use Rattle.core_model.specs.Effects.{claimed, claim_class, without_claim}
-use Rattle.seat_notes.specs.Superblocks.{usage_for, no_superblock, listed, IsUsage, HasSuperblocks}
-use Rattle.seat_notes.specs.Notes.{HasNotes, HasCaches, HasBatch}
+use Rattle.seat_state.specs.Superblocks.{usage_for, no_superblock, listed, IsUsage, HasSuperblocks}
+use Rattle.seat_state.specs.Notes.{HasNotes, HasCaches, HasBatch}
 use Rattle.crash_core.specs.Standing.{HasBlocksOf, HasRoots, IsKept}
 use Rattle.core_model.proofs.TotalLemmas.{eq-eqb-one, ne-eqb-none}
 use Rattle.core_model.proofs.CountLemmas.{times_without_claim, class_without}
 use Rattle.core_model.proofs.PlaceLemmas.{pick, skip, not-eq}
-use Rattle.seat_notes.proofs.UsageLemmas.{usages_mine}
+use Rattle.seat_state.proofs.UsageLemmas.{usages_mine}
 pub use Rattle.heap_model.proofs.ListLemmas.{without_at}
-use Rattle.seat_notes.proofs.CountLemmas.{without_off, class_absent}
+use Rattle.seat_state.proofs.CountLemmas.{without_off, class_absent}
 
 -- a claim of a superblock that was not the seat's
 pub claimed_kept : (c : CoreState) (i : ℕ) (t : SeatNotes) (base : View) (owners : List SuperblockOwner) (d list : ℕ) (x : SuperblockUsage) → x ≡ listed list

@@ -11,19 +11,19 @@ use Rattle.heap_model.specs.Counting.{times, total, without}
 use Rattle.heap_model.proofs.SizeLemmas.{four_blocks}
 use Rattle.crash_core.specs.declared.owners.BlockPlace.TheVariants as place
 use Rattle.crash_core.specs.declared.owners.BlockOwner.{BlockOwner}
-use Rattle.seat_notes.specs.declared.notes.SeatNotes.{SeatNotes}
-use Rattle.seat_notes.specs.declared.notes.Seen.{Seen}
-use Rattle.seat_notes.specs.declared.superblocks.SuperblockUsage.{SuperblockUsage}
-use Rattle.seat_notes.specs.declared.superblocks.SuperblockUsage.TheVariants as usage
-use Rattle.seat_notes.specs.declared.superblocks.SuperblockOwner.{SuperblockOwner}
+use Rattle.seat_state.specs.declared.notes.SeatNotes.{SeatNotes}
+use Rattle.seat_state.specs.declared.notes.Seen.{Seen}
+use Rattle.seat_state.specs.declared.superblocks.SuperblockUsage.{SuperblockUsage}
+use Rattle.seat_state.specs.declared.superblocks.SuperblockUsage.TheVariants as usage
+use Rattle.seat_state.specs.declared.superblocks.SuperblockOwner.{SuperblockOwner}
 use Rattle.crash_core.specs.declared.state.CoreState.{CoreState}
 use Rattle.core_model.specs.Memory.{used, durable_used, durable_info, info, next, memory_of}
 use Rattle.core_model.specs.View.{Setup, View, Claim, Span, of_class, times_block, times_raw}
 use Rattle.core_model.specs.Effects.{chain, steps, first_of, class_blocks, cleared, after_cut}
 use Rattle.core_model.specs.Guards.{MayCut}
 use Rattle.core_model.specs.Sound.{tally_of, times_cut, IsCutBlock, Good}
-use Rattle.seat_notes.specs.Superblocks.{usage_for, no_superblock, cutting_in, IsUsage, HasSuperblocks}
-use Rattle.seat_notes.specs.Notes.{HasCaches, snapshot}
+use Rattle.seat_state.specs.Superblocks.{usage_for, no_superblock, cutting_in, IsUsage, HasSuperblocks}
+use Rattle.seat_state.specs.Notes.{HasCaches, snapshot}
 use Rattle.crash_core.specs.Standing.{IsSeatAt, HasBlocksOf, HasNewOwner, IsKept, IsCore, KeepsViews, IsMoved, Decides, memory_at}
 use Rattle.core_model.proofs.TotalLemmas.{total_at}
 use Rattle.heap_model.proofs.ListLemmas.{one_at_most, without_at}
@@ -31,11 +31,11 @@ use Rattle.core_model.proofs.CountLemmas.{length_steps, block_once}
 use Rattle.core_model.proofs.BlockLemmas.{superblock_is}
 use Rattle.core_model.proofs.SpanLemmas.{block_of}
 use Rattle.crash_core.proofs.StandingLemmas.{among, memory_in}
-use Rattle.seat_notes.proofs.UsageLemmas.{usages_mine, usages_theirs, usage_alone}
-use Rattle.seat_notes.proofs.CountLemmas.{without_off}
-use Rattle.seat_notes.proofs.NewSeat.{no_cache}
+use Rattle.seat_state.proofs.UsageLemmas.{usages_mine, usages_theirs, usage_alone}
+use Rattle.seat_state.proofs.CountLemmas.{without_off}
+use Rattle.seat_state.proofs.NewSeat.{no_cache}
 use Rattle.crash_core.proofs.ChainSteps.{chain_is, block_fits, none_of, caches_given, blocks_given, blocks_theirs}
-use Rattle.seat_notes.proofs.WordLemmas.{entry_is, entry_there}
+use Rattle.seat_state.proofs.WordLemmas.{entry_is, entry_there}
 
 -- blocks of which the first ones are linked, from one on
 pub record IsHalfLinked (f : ℕ → ℕ) (start words n block left : ℕ) : Type 0 where

@@ -4,16 +4,16 @@ use Rattle.core_model.specs.declared.answer.StepAnswer.{StepAnswer}
 use Rattle.core_model.specs.declared.answer.StepAnswer.TheVariants.{Done, Stopped, NotNow}
 use Rattle.core_model.specs.declared.event.Event.{Event}
 use Rattle.core_model.specs.declared.event.Event.TheVariants.{Tick, Load, Store, Settle, LookUsed, TakeFresh, KeepUsed, LookHead, LookLink, Pop, Push, LookAnchor, TakeAll, Give}
-use Rattle.seat_notes.specs.declared.notes.SeatNotes.{SeatNotes}
+use Rattle.seat_state.specs.declared.notes.SeatNotes.{SeatNotes}
 use Rattle.crash_core.specs.declared.state.CoreState.{CoreState}
 use Rattle.heap_model.specs.Counting.{total}
 use Rattle.core_model.specs.View.{Setup, View, one_if_some}
 use Rattle.core_model.specs.Guards.{HasTicketFor, MayDo}
 use Rattle.core_model.specs.Memory.{memory_of}
 use Rattle.core_model.specs.Steps.{TableState, StepsTo, is_done, stops, not_now, has_stopped, state_after}
-use Rattle.crash_core.specs.Standing.{IsSeatAt, IsCore, KeepsViews, AreInOrder, IsStanding, KeepsState, StandsFor, HasTicketAt, Takes, Follows, Steps, steps_done, steps_stopped, steps_not, state_of}
+use Rattle.crash_core.specs.Standing.{IsSeatAt, IsCore, KeepsViews, AreInOrder, IsStanding, KeepsState, Represents, HasTicketAt, Takes, Follows, Steps, steps_done, steps_stopped, steps_not, state_of}
 use Rattle.crash_core.proofs.OrderSteps.{event_made, event_order}
-use Rattle.seat_notes.proofs.WordLemmas.{entry_is, entry_there}
+use Rattle.seat_state.proofs.WordLemmas.{entry_is, entry_there}
 use Rattle.crash_core.proofs.StandingLemmas.{among}
 
 -- what a seat has by its ticket
@@ -50,18 +50,18 @@ ticket_of v ticket (TakeAll d) is has = ap one_if_some (sym is) ∙ has
 ticket_of v ticket (Give d) is has = ap one_if_some (sym is) ∙ has
 
 -- the state is the core's words with its views
-stated : (c : CoreState) (k : Setup) (s : TableState) → StandsFor c k s → s ≡ state_of c s.views
+stated : (c : CoreState) (k : Setup) (s : TableState) → Represents c k s → s ≡ state_of c s.views
 stated c k s stands = ap (λ ws. let r : TableState = record { words = ws; views = s.views } in r) (sym stands.words)
 
 abbrev pub Next : CoreState → Setup → TableState → ℕ → Event → StepAnswer → Type 0
-Next new k s i event answer = (next : TableState) × StepsTo k s i event answer next × StandsFor new k next
+Next new k s i event answer = (next : TableState) × StepsTo k s i event answer next × Represents new k next
 
 -- a state whose carriers stand behind the seats, and took a ticket each
 record IsOrdered (k : Setup) (s : TableState) : Type 0 where
   order : AreInOrder k s.views
   made : length s.views + total (λ (v : View). one_if_some v.ticket) s.views ≤ k.seats + (memory_of k.capacity s.words).drawn
 
-in_order : (c : CoreState) (k : Setup) (s : TableState) → KeepsState c k s → IsOrdered k s → StandsFor c k s
+in_order : (c : CoreState) (k : Setup) (s : TableState) → KeepsState c k s → IsOrdered k s → Represents c k s
 in_order c k s keeps ordered = record { words = keeps.words; keeps = keeps.keeps; order = ordered.order; made = ordered.made }
 
 after_event : (c : CoreState) (k : Setup) (views : List View) (i : ℕ) (v : View) (event : Event) → KeepsViews c k views → IsOrdered k (state_of c views) → i < k.seats → i < length views → get_or views i v ≡ v
@@ -78,7 +78,7 @@ of_steps c new k views i v event Done keeps ordered seat below at going (steps_d
 of_steps c new k views i v event (Stopped ticket) keeps ordered seat below at going (steps_stopped step may at_end stands) =
     (state_after k (state_of c views) i v event, stops v step at may at_end, in_order new k _ stands (after_event c k views i v event keeps ordered seat below at may))
 of_steps c new k views i v event NotNow keeps ordered seat below at going (steps_not refused same) =
-    (state_of c views, not_now v at going refused, subst (λ x. StandsFor x k (state_of c views)) (sym same) (in_order c k (state_of c views) (record { words = refl; keeps = keeps }) ordered))
+    (state_of c views, not_now v at going refused, subst (λ x. Represents x k (state_of c views)) (sym same) (in_order c k (state_of c views) (record { words = refl; keeps = keeps }) ordered))
 
 module _ (c : CoreState) (i : ℕ) (t : SeatNotes) (event : Event) (at_t : IsSeatAt c i t) where
   by_views : (new : CoreState) (answer : StepAnswer) → ((k : Setup) (views : List View) → KeepsViews c k views → IsOrdered k (state_of c views) → Next new k (state_of c views) i event answer) → Follows c i event answer new

@@ -7,8 +7,8 @@ use Rattle.heap_model.specs.Sizes.{IsClass}
 use Rattle.heap_model.specs.Counting.{times, total, without}
 use Rattle.crash_core.specs.declared.owners.BlockPlace.{BlockPlace}
 use Rattle.crash_core.specs.declared.owners.BlockPlace.TheVariants as place
-use Rattle.seat_notes.specs.declared.notes.Cache.{Cache}
-use Rattle.seat_notes.specs.declared.notes.SeatNotes.{SeatNotes}
+use Rattle.seat_state.specs.declared.notes.Cache.{Cache}
+use Rattle.seat_state.specs.declared.notes.SeatNotes.{SeatNotes}
 use Rattle.crash_core.specs.declared.state.CoreState.{CoreState}
 use Rattle.core_model.specs.Cells.{superblock_at}
 use Rattle.core_model.specs.Memory.{next, info, memory_of}
@@ -21,10 +21,10 @@ use Rattle.core_model.proofs.TotalLemmas.{total_at, eq-eqb-one, ne-eqb-none}
 use Rattle.core_model.proofs.BlockLemmas.{total_lists}
 use Rattle.core_model.proofs.OwnerLemmas.{in_lists_total, which_class}
 use Rattle.crash_core.proofs.StandingLemmas.{memory_in, seat_capacity}
-use Rattle.seat_notes.proofs.CountLemmas.{without_off, short, list_at_most}
+use Rattle.seat_state.proofs.CountLemmas.{without_off, short, list_at_most}
 use Rattle.crash_core.proofs.BlockPlaces.{places_mine, places_theirs, place_alone}
-use Rattle.seat_notes.proofs.WordLemmas.{entry_is}
-use Rattle.seat_notes.proofs.CacheLemmas.{cache_set}
+use Rattle.seat_state.proofs.WordLemmas.{entry_is}
+use Rattle.seat_state.proofs.CacheLemmas.{cache_set}
 use Rattle.crash_core.proofs.MoveSteps as moves
 use Rattle.heap_model.proofs.ListLemmas.{without_at}
 

@@ -7,10 +7,10 @@ use Rattle.std.specs.Vec.{with_item}
 use Rattle.heap_model.specs.Counting.{times}
 use Rattle.core_model.specs.declared.answer.StepAnswer.TheVariants.{Done, NotNow}
 use Rattle.core_model.specs.declared.event.Event.TheVariants.{TakeFresh}
-use Rattle.seat_notes.specs.declared.notes.SeatNotes.{SeatNotes}
-use Rattle.seat_notes.specs.declared.notes.Seen.{Seen}
-use Rattle.seat_notes.specs.declared.superblocks.SuperblockUsage.TheVariants as usage
-use Rattle.seat_notes.specs.declared.superblocks.SuperblockOwner.{SuperblockOwner}
+use Rattle.seat_state.specs.declared.notes.SeatNotes.{SeatNotes}
+use Rattle.seat_state.specs.declared.notes.Seen.{Seen}
+use Rattle.seat_state.specs.declared.superblocks.SuperblockUsage.TheVariants as usage
+use Rattle.seat_state.specs.declared.superblocks.SuperblockOwner.{SuperblockOwner}
 use Rattle.crash_core.specs.declared.state.CoreState.{CoreState}
 use Rattle.core_model.specs.Memory.{used}
 use Rattle.core_model.specs.View.{Setup, View, one_if_some, times_raw, times_classed, times_large}
@@ -18,16 +18,16 @@ use Rattle.core_model.specs.Effects.{seen, cleared, steps, taken_fresh, lost}
 use Rattle.core_model.specs.Guards.{IsThere}
 use Rattle.core_model.specs.Sound.{Good}
 use Rattle.core_model.specs.Steps.{seat_after}
-use Rattle.seat_notes.specs.Superblocks.{usage_for, no_superblock, IsUsage, IsRange}
+use Rattle.seat_state.specs.Superblocks.{usage_for, no_superblock, IsUsage, IsRange}
 use Rattle.crash_core.specs.Standing.{IsAmong, IsSeatAt, IsKept, KeepsViews, Steps}
-use Rattle.seat_notes.specs.Notes.{snapshot}
+use Rattle.seat_state.specs.Notes.{snapshot}
 use Rattle.core_model.proofs.FrameLemmas.{below_is, below_not, times_steps}
 use Rattle.heap_model.proofs.ListLemmas.{times_append}
 use Rattle.core_model.proofs.PlaceLemmas.{pick}
 use Rattle.crash_core.proofs.StandingLemmas.{among_most, step_done, step_not, memory_in}
-use Rattle.seat_notes.proofs.UsageLemmas.{no_usage}
-use Rattle.seat_notes.proofs.RangeLemmas.{range_mine, range_theirs}
-use Rattle.seat_notes.proofs.WordLemmas.{entry_is}
+use Rattle.seat_state.proofs.UsageLemmas.{no_usage}
+use Rattle.seat_state.proofs.RangeLemmas.{range_mine, range_theirs}
+use Rattle.seat_state.proofs.WordLemmas.{entry_is}
 
 module _ (c : CoreState) (k : Setup) (views : List View) (i : ℕ) (v : View) (t : SeatNotes) (keeps : KeepsViews c k views) (below_i : i < length views) (at : get_or views i v ≡ v)
     (at_t : IsSeatAt c i t) where

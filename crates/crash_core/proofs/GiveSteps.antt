@@ -13,10 +13,10 @@ use Rattle.core_model.specs.declared.answer.StepAnswer.TheVariants.{Done, NotNow
 use Rattle.core_model.specs.declared.event.Event.TheVariants.{Give}
 use Rattle.crash_core.specs.declared.owners.BlockPlace.TheVariants as place
 use Rattle.crash_core.specs.declared.owners.BlockOwner.{BlockOwner}
-use Rattle.seat_notes.specs.declared.notes.SeatNotes.{SeatNotes}
-use Rattle.seat_notes.specs.declared.notes.Seen.{Seen}
-use Rattle.seat_notes.specs.declared.superblocks.SuperblockUsage.{SuperblockUsage}
-use Rattle.seat_notes.specs.declared.superblocks.SuperblockUsage.TheVariants as usage
+use Rattle.seat_state.specs.declared.notes.SeatNotes.{SeatNotes}
+use Rattle.seat_state.specs.declared.notes.Seen.{Seen}
+use Rattle.seat_state.specs.declared.superblocks.SuperblockUsage.{SuperblockUsage}
+use Rattle.seat_state.specs.declared.superblocks.SuperblockUsage.TheVariants as usage
 use Rattle.crash_core.specs.declared.state.CoreState.{CoreState}
 use Rattle.core_model.specs.Cells.{superblock_at}
 use Rattle.core_model.specs.Memory.{anchor, info, next, memory_of}
@@ -25,14 +25,14 @@ use Rattle.core_model.specs.Effects.{chain, first_of, last_of, seen_word, seen_o
 use Rattle.core_model.specs.Guards.{IsThere, MayGive}
 use Rattle.core_model.specs.Sound.{tally_of, times_cut, IsCutBlock, Good}
 use Rattle.core_model.specs.Steps.{seat_after}
-use Rattle.seat_notes.specs.Superblocks.{usage_for, no_superblock, listed, IsUsage}
+use Rattle.seat_state.specs.Superblocks.{usage_for, no_superblock, listed, IsUsage}
 use Rattle.crash_core.specs.Standing.{IsAmong, IsSeatAt, no_block, batched_in, IsPlace, HasBlocksOf, HasNewOwner, IsKept, IsCore, KeepsViews, Steps, Decides, memory_at}
 use Rattle.core_model.proofs.TotalLemmas.{total_at}
 use Rattle.core_model.proofs.SoundLemmas.{batched}
 use Rattle.core_model.proofs.PlaceLemmas.{pick}
 use Rattle.core_model.proofs.BlockLemmas.{first_there}
 use Rattle.crash_core.proofs.StandingLemmas.{among, step_done, step_not, memory_in}
-use Rattle.seat_notes.proofs.UsageLemmas.{no_usage, usages_theirs}
+use Rattle.seat_state.proofs.UsageLemmas.{no_usage, usages_theirs}
 use Rattle.crash_core.proofs.BlockPlaces.{place_alone}
 use Rattle.crash_core.proofs.ClaimLemmas.{claimed_kept}
 use Rattle.crash_core.proofs.ListSteps.{claimed_going}
@@ -43,8 +43,8 @@ use Rattle.crash_core.proofs.GivenLemmas.{given_mine, given_theirs}
 use Rattle.crash_core.proofs.ChainSteps.{chain_is, block_fits}
 use Rattle.core_model.proofs.AnchorLemmas as on_anchor
 use Rattle.core_model.proofs.GiveLemmas as gives
-use Rattle.seat_notes.proofs.WordLemmas.{entry_there}
-use Rattle.seat_notes.proofs.NewSeat.{empty_batch}
+use Rattle.seat_state.proofs.WordLemmas.{entry_there}
+use Rattle.seat_state.proofs.NewSeat.{empty_batch}
 
 trimmed_kept : (c : CoreState) (i : ℕ) (t : SeatNotes) (v : View) → IsKept c i t v → IsKept c i t (trimmed v)
 trimmed_kept c i t v h = record {

@@ -15,12 +15,12 @@ use Rattle.core_model.specs.View.{Setup, View, one_if_some}
 use Rattle.core_model.proofs.CarrierLemmas.{carries_block, offer_sound, offers_one, stopped_few}
 use Rattle.core_model.proofs.SplittingLemmas.{total_behind}
 use Rattle.core_model.proofs.TotalLemmas.{total_at, total_set}
-use Rattle.seat_notes.specs.declared.notes.SeatNotes.{SeatNotes}
-use Rattle.seat_notes.specs.declared.notes.TheConstants.{NEW_SEAT}
-use Rattle.seat_notes.specs.Superblocks.{HasSuperblocks}
-use Rattle.seat_notes.proofs.NewSeat.{no_caches}
+use Rattle.seat_state.specs.declared.notes.SeatNotes.{SeatNotes}
+use Rattle.seat_state.specs.declared.notes.TheConstants.{NEW_SEAT}
+use Rattle.seat_state.specs.Superblocks.{HasSuperblocks}
+use Rattle.seat_state.proofs.NewSeat.{no_caches}
 use Rattle.crash_core.specs.declared.state.CoreState.{CoreState}
-use Rattle.crash_core.specs.Standing.{AreInOrder, HasBlocksOf, IsKept, IsLaden, IsSeatAt, KeepsViews, nobody, StandsFor}
+use Rattle.crash_core.specs.Standing.{AreInOrder, HasBlocksOf, IsKept, IsLaden, IsSeatAt, KeepsViews, nobody, Represents}
 use Rattle.crash_core.proofs.StandingLemmas.{among}
 
 -- what stays, and what a seat's offer changes beside the owners
@@ -45,7 +45,7 @@ last_there [] b u (suc j) same = absurd (omega (arith, same))
 last_there (x ∷ xs) b u zero same = absurd (omega (arith, same))
 last_there (x ∷ xs) b u (suc j) same = last_there xs b u j (omega (arith, same))
 
-module _ (c c' : CoreState) (k : Setup) (s : TableState) (i : ℕ) (v : View) (t : SeatNotes) (block : ℕ) (stands : StandsFor c k s) (at : get_or s.views i v ≡ v) (at_t : IsSeatAt c i t) (may : MayOffer v block)
+module _ (c c' : CoreState) (k : Setup) (s : TableState) (i : ℕ) (v : View) (t : SeatNotes) (block : ℕ) (stands : Represents c k s) (at : get_or s.views i v ≡ v) (at_t : IsSeatAt c i t) (may : MayOffer v block)
     (handed : IsHanded c c' i t) (mine : HasOwn c' i (offered v block)) (new : HasOwn c' (length s.views) (carrier_of v block)) (laden : (b : Block) × IsHeld (carrier_of v block) b)
     (others : (j : ℕ) (u : View) → j ≢ i → j ≢ length s.views → HasOwn c j u → HasOwn c' j u) where
   keeps : KeepsViews c k s.views
@@ -169,7 +169,7 @@ module _ (c c' : CoreState) (k : Setup) (s : TableState) (i : ℕ) (v : View) (t
     ];
   }
 
-  pub offer_stands : StandsFor c' k (after_offer s i v block)
+  pub offer_stands : Represents c' k (after_offer s i v block)
   offer_stands = record {
     words = handed.words ∙ stands.words;
     keeps = keeps';

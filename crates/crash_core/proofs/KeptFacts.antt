@@ -3,8 +3,8 @@ use Rattle.std.proofs.Common.{◌≡◌, ◌≢◌, ℕ, ◌-◌, ◌<◌, ◌�
 use Rattle.heap_model.specs.Rest.{list_numbers}
 use Rattle.heap_model.specs.Geometry.{lists}
 use Rattle.heap_model.specs.Words.{head_first, head_pops}
-use Rattle.seat_notes.specs.declared.notes.SeatNotes.{SeatNotes}
-use Rattle.seat_notes.specs.declared.notes.Seen.{Seen}
+use Rattle.seat_state.specs.declared.notes.SeatNotes.{SeatNotes}
+use Rattle.seat_state.specs.declared.notes.Seen.{Seen}
 use Rattle.crash_core.specs.declared.state.CoreState.{CoreState}
 use Rattle.core_model.specs.Cells.{head_cell}
 use Rattle.core_model.specs.Memory.{memory_of, table_length}
@@ -12,12 +12,12 @@ use Rattle.core_model.specs.View.{Setup, View, one_if_some}
 use Rattle.core_model.specs.Effects.{seen_word, seen_of}
 use Rattle.core_model.specs.Guards.{IsThere}
 use Rattle.crash_core.specs.Standing.{IsSeatAt, IsKept, IsCore, KeepsViews}
-use Rattle.seat_notes.specs.Notes.{snapshot}
+use Rattle.seat_state.specs.Notes.{snapshot}
 use Rattle.core_model.proofs.QuietLemmas.{not_there}
 use Rattle.core_model.proofs.TotalLemmas.{total_at}
 use Rattle.core_model.proofs.ListLemmas.{number_once}
-use Rattle.seat_notes.proofs.WordLemmas.{entry_there}
-use Rattle.seat_notes.proofs.CountLemmas.{total_member}
+use Rattle.seat_state.proofs.WordLemmas.{entry_there}
+use Rattle.seat_state.proofs.CountLemmas.{total_member}
 use Rattle.crash_core.proofs.StandingLemmas.{among}
 
 module _ (c : CoreState) (k : Setup) (views : List View) (i : ℕ) (v : View) (t : SeatNotes) (keeps : KeepsViews c k views) (below : i < length views) (at : get_or views i v ≡ v)

@@ -21,22 +21,22 @@ use Rattle.core_model.proofs.PlaceLemmas.{pick, skip, not-eq}
 use Rattle.core_model.proofs.SpanLemmas.{range_is, range_not, cases_range}
 use Rattle.core_model.proofs.SplittingLemmas.{lists_both, spans_both}
 use Rattle.core_model.proofs.TotalLemmas.{total_at}
-use Rattle.seat_notes.specs.declared.notes.SeatNotes.{SeatNotes}
-use Rattle.seat_notes.specs.declared.superblocks.SuperblockOwner.{SuperblockOwner}
-use Rattle.seat_notes.specs.declared.superblocks.SuperblockUsage.TheVariants as usage
-use Rattle.seat_notes.specs.Superblocks.{HasSuperblocks, usage_for, no_superblock, large_in, IsUsage, IsRange}
-use Rattle.seat_notes.proofs.CountLemmas.{no_span}
-use Rattle.seat_notes.proofs.RangeLemmas.{range_theirs}
-use Rattle.seat_notes.proofs.UsageLemmas.{usage_alone, usage_own, usage_theirs, usages_mine, usages_theirs}
+use Rattle.seat_state.specs.declared.notes.SeatNotes.{SeatNotes}
+use Rattle.seat_state.specs.declared.superblocks.SuperblockOwner.{SuperblockOwner}
+use Rattle.seat_state.specs.declared.superblocks.SuperblockUsage.TheVariants as usage
+use Rattle.seat_state.specs.Superblocks.{HasSuperblocks, usage_for, no_superblock, large_in, IsUsage, IsRange}
+use Rattle.seat_state.proofs.CountLemmas.{no_span}
+use Rattle.seat_state.proofs.RangeLemmas.{range_theirs}
+use Rattle.seat_state.proofs.UsageLemmas.{usage_alone, usage_own, usage_theirs, usages_mine, usages_theirs}
 use Rattle.crash_core.specs.declared.state.CoreState.{CoreState}
-use Rattle.crash_core.specs.Standing.{HasBlocksOf, IsKept, IsSeatAt, KeepsViews, nobody, StandsFor}
+use Rattle.crash_core.specs.Standing.{HasBlocksOf, IsKept, IsSeatAt, KeepsViews, nobody, Represents}
 use Rattle.core_model.proofs.SplittingLemmas.{lists_all, lists_only}
 use Rattle.crash_core.proofs.ChosenLemmas.{count_left, one_span}
 use Rattle.crash_core.proofs.HandSteps.{HasOwn, IsHanded, offer_stands}
 use Rattle.crash_core.proofs.SplitSteps.{covered, large_only}
 use Rattle.crash_core.proofs.StandingLemmas.{among, memory_in, seat_capacity}
 
-module _ (c : CoreState) (k : Setup) (s : TableState) (i : ℕ) (v : View) (t : SeatNotes) (x : ℕ) (stands : StandsFor c k s) (at : get_or s.views i v ≡ v) (at_t : IsSeatAt c i t) (hand : MayHand v)
+module _ (c : CoreState) (k : Setup) (s : TableState) (i : ℕ) (v : View) (t : SeatNotes) (x : ℕ) (stands : Represents c k s) (at : get_or s.views i v ≡ v) (at_t : IsSeatAt c i t) (hand : MayHand v)
     (may : MaySplit v x) (no_small : total (times x) v.small ≡ 0) where
   keeps : KeepsViews c k s.views
   keeps = stands.keeps
@@ -166,7 +166,7 @@ module _ (c : CoreState) (k : Setup) (s : TableState) (i : ℕ) (v : View) (t : 
     blocks_go : (e : ℕ) → total (times e) (chosen_lists (λ f. nat_eq f x) v.small) ≡ 0
     blocks_go e = elim (cases_eq e x) [ inl here ↦ subst (λ m. total (times m) (chosen_lists (λ f. nat_eq f x) v.small) ≡ 0) (sym here) (lists_all x v.small ∙ no_small) | inr other ↦ lists_only x e v.small other ]
 
-    pub large_offer : StandsFor c' k (after_offer s i v x)
+    pub large_offer : Represents c' k (after_offer s i v x)
     large_offer = offer_stands c c' k s i v t x stands at at_t large_may handed
         (record {
           blocks = subst (λ os. HasBlocksOf os i (chosen_lists (λ e. not (nat_eq e x)) v.small) v.caches v.batch.blocks) (sym same)
@@ -185,10 +185,10 @@ module _ (c : CoreState) (k : Setup) (s : TableState) (i : ℕ) (v : View) (t : 
         })
 
 -- the same, with the numbers as they are found
-pub large_at : (c : CoreState) (k : Setup) (s : TableState) (i : ℕ) (v : View) (t : SeatNotes) (x : ℕ) (stands : StandsFor c k s) (at : get_or s.views i v ≡ v) (at_t : IsSeatAt c i t) (hand : MayHand v)
+pub large_at : (c : CoreState) (k : Setup) (s : TableState) (i : ℕ) (v : View) (t : SeatNotes) (x : ℕ) (stands : Represents c k s) (at : get_or s.views i v ≡ v) (at_t : IsSeatAt c i t) (hand : MayHand v)
     (may : MaySplit v x) (no_small : total (times x) v.small ≡ 0) (c' : CoreState) (handed : IsHanded c c' i t) (same : c'.blocks.items ≡ c.blocks.items) (rest : List SuperblockOwner) (d' n' j' : ℕ)
     → d' ≡ superblock_at v.setup.capacity x → n' ≡ span_count (superblock_at v.setup.capacity x) v.large → j' ≡ length s.views
-    → IsRange c.superblocks.items rest d' n' (record { seat = j'; usage = usage.Large 0 }) → c'.superblocks.items ≡ set rest d' (record { seat = j'; usage = usage.Large n' }) → d' < length rest → StandsFor c' k (after_offer s i v x)
+    → IsRange c.superblocks.items rest d' n' (record { seat = j'; usage = usage.Large 0 }) → c'.superblocks.items ≡ set rest d' (record { seat = j'; usage = usage.Large n' }) → d' < length rest → Represents c' k (after_offer s i v x)
 large_at c k s i v t x stands at at_t hand may no_small c' handed same rest d' n' j' d_is n_is j_is range first long =
     large_offer c k s i v t x stands at at_t hand may no_small c' handed same rest
     (subst (λ (p : ℕ × (ℕ × ℕ)). IsRange c.superblocks.items rest p.0 p.1.0 (record { seat = p.1.1; usage = usage.Large 0 })) (λ h. (d_is h, (n_is h, j_is h))) range)

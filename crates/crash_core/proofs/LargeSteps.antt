@@ -3,25 +3,25 @@ use Rattle.std.proofs.Common.{◌≡◌, ◌≢◌, ℕ, ◌+◌, ◌<◌, ◌�
 use Rattle.std.specs.Prelude.{Vec, Option}
 use Rattle.std.specs.declared.alloc.Global.{Global}
 use Rattle.std.specs.Vec.{with_item}
-use Rattle.seat_notes.specs.declared.notes.SeatNotes.{SeatNotes}
-use Rattle.seat_notes.specs.declared.notes.Seen.{Seen}
-use Rattle.seat_notes.specs.declared.superblocks.SuperblockUsage.{SuperblockUsage}
-use Rattle.seat_notes.specs.declared.superblocks.SuperblockUsage.TheVariants as usage
-use Rattle.seat_notes.specs.declared.superblocks.SuperblockOwner.{SuperblockOwner}
+use Rattle.seat_state.specs.declared.notes.SeatNotes.{SeatNotes}
+use Rattle.seat_state.specs.declared.notes.Seen.{Seen}
+use Rattle.seat_state.specs.declared.superblocks.SuperblockUsage.{SuperblockUsage}
+use Rattle.seat_state.specs.declared.superblocks.SuperblockUsage.TheVariants as usage
+use Rattle.seat_state.specs.declared.superblocks.SuperblockOwner.{SuperblockOwner}
 use Rattle.crash_core.specs.declared.state.CoreState.{CoreState}
 use Rattle.core_model.specs.View.{Setup, View, Span}
 use Rattle.core_model.specs.Effects.{cleared, span_count, without_range, after_large}
 use Rattle.core_model.specs.Guards.{MayHoldLarge}
 use Rattle.core_model.specs.Sound.{Good}
-use Rattle.seat_notes.specs.Superblocks.{usage_for, no_superblock, raw_in, split_in, cutting_in, classed_in, class_in, large_in, count_in, IsUsage, IsRange}
+use Rattle.seat_state.specs.Superblocks.{usage_for, no_superblock, raw_in, split_in, cutting_in, classed_in, class_in, large_in, count_in, IsUsage, IsRange}
 use Rattle.crash_core.specs.Standing.{IsSeatAt, IsKept, IsCore, KeepsViews, IsMoved, Decides}
-use Rattle.seat_notes.specs.Notes.{snapshot}
+use Rattle.seat_state.specs.Notes.{snapshot}
 use Rattle.core_model.proofs.PlaceLemmas.{pick, skip, not-eq}
 use Rattle.core_model.proofs.SpanLemmas.{range_is, range_not, without_range_in, without_range_out, cases_range}
 use Rattle.crash_core.proofs.StandingLemmas.{among, memory_in}
-use Rattle.seat_notes.proofs.UsageLemmas.{usage_own, usage_theirs, usage_alone, usages_mine, usages_theirs}
-use Rattle.seat_notes.proofs.RangeLemmas.{range_theirs}
-use Rattle.seat_notes.proofs.WordLemmas.{entry_there}
+use Rattle.seat_state.proofs.UsageLemmas.{usage_own, usage_theirs, usage_alone, usages_mine, usages_theirs}
+use Rattle.seat_state.proofs.RangeLemmas.{range_theirs}
+use Rattle.seat_state.proofs.WordLemmas.{entry_there}
 
 claimed_only : (x : SuperblockUsage) → 0 < raw_in x + split_in x → (cutting_in x ≡ 0) × (classed_in x ≡ 0) × (class_in x ≡ 0) × (large_in x ≡ 0) × (count_in x ≡ 0)
 claimed_only usage.Nothing some = absurd (omega arith)

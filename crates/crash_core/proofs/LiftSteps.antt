@@ -3,8 +3,8 @@ use Rattle.std.proofs.Common.{◌≡◌, ◌≢◌, ℕ, ◌+◌, ◌-◌, ◌<�
 use Rattle.std.specs.Vec.{with_item}
 use Rattle.heap_model.specs.Geometry.{start_word, superblocks_end}
 use Rattle.crash_core.specs.declared.owners.BlockPlace.TheVariants as place
-use Rattle.seat_notes.specs.declared.notes.Cache.{Cache}
-use Rattle.seat_notes.specs.declared.notes.SeatNotes.{SeatNotes}
+use Rattle.seat_state.specs.declared.notes.Cache.{Cache}
+use Rattle.seat_state.specs.declared.notes.SeatNotes.{SeatNotes}
 use Rattle.crash_core.specs.declared.state.CoreState.{CoreState}
 use Rattle.core_model.specs.Cells.{superblock_at}
 use Rattle.core_model.specs.Memory.{next, memory_of}
@@ -18,10 +18,10 @@ use Rattle.heap_model.proofs.ListLemmas.{times_append}
 use Rattle.core_model.proofs.BlockLemmas.{total_lists}
 use Rattle.crash_core.proofs.StandingLemmas.{memory_in, seat_capacity}
 use Rattle.crash_core.proofs.BlockPlaces.{places_mine, places_theirs, place_alone}
-use Rattle.seat_notes.proofs.CountLemmas.{short}
+use Rattle.seat_state.proofs.CountLemmas.{short}
 use Rattle.crash_core.proofs.FreeSteps.{once}
 use Rattle.crash_core.proofs.MoveSteps as moves
-use Rattle.seat_notes.proofs.EndLemmas.{first_append, last_append, length_append, last_there}
+use Rattle.seat_state.proofs.EndLemmas.{first_append, last_append, length_append, last_there}
 
 module _ (c : CoreState) (k : Setup) (views : List View) (i : ℕ) (v : View) (t : SeatNotes) (keeps : KeepsViews c k views) (below : i < length views) (at : get_or views i v ≡ v)
     (at_t : IsSeatAt c i t) where

@@ -7,10 +7,10 @@ use Rattle.heap_model.specs.Geometry.{lists}
 use Rattle.heap_model.specs.Words.{head_of, head_first, head_pops}
 use Rattle.core_model.specs.declared.answer.StepAnswer.TheVariants.{Done, NotNow}
 use Rattle.core_model.specs.declared.event.Event.TheVariants.{Pop, Push}
-use Rattle.seat_notes.specs.declared.notes.SeatNotes.{SeatNotes}
-use Rattle.seat_notes.specs.declared.notes.Seen.{Seen}
-use Rattle.seat_notes.specs.declared.superblocks.SuperblockUsage.{SuperblockUsage}
-use Rattle.seat_notes.specs.declared.superblocks.SuperblockUsage.TheVariants as usage
+use Rattle.seat_state.specs.declared.notes.SeatNotes.{SeatNotes}
+use Rattle.seat_state.specs.declared.notes.Seen.{Seen}
+use Rattle.seat_state.specs.declared.superblocks.SuperblockUsage.{SuperblockUsage}
+use Rattle.seat_state.specs.declared.superblocks.SuperblockUsage.TheVariants as usage
 use Rattle.crash_core.specs.declared.state.CoreState.{CoreState}
 use Rattle.core_model.specs.Cells.{head_cell, link_cell}
 use Rattle.core_model.specs.Memory.{volatile_at, used}
@@ -19,17 +19,17 @@ use Rattle.core_model.specs.Effects.{seen, seen_word, seen_of, before, cleared, 
 use Rattle.core_model.specs.Guards.{IsThere, MayPush, MayList, as_free, of_its_class}
 use Rattle.core_model.specs.Sound.{Good, KnowsHead}
 use Rattle.core_model.specs.Steps.{seat_after}
-use Rattle.seat_notes.specs.Superblocks.{usage_for, no_superblock, listed, IsUsage}
+use Rattle.seat_state.specs.Superblocks.{usage_for, no_superblock, listed, IsUsage}
 use Rattle.crash_core.specs.Standing.{IsAmong, IsSeatAt, IsKept, KeepsViews, Steps}
-use Rattle.seat_notes.specs.Notes.{snapshot}
+use Rattle.seat_state.specs.Notes.{snapshot}
 use Rattle.heap_model.proofs.ListLemmas.{one_at_most}
 use Rattle.core_model.proofs.ListLemmas.{in_lists_at, before_is}
 use Rattle.core_model.proofs.PlaceLemmas.{pick, skip}
 use Rattle.crash_core.proofs.StandingLemmas.{among_most, step_done, step_not, memory_in}
 use Rattle.crash_core.proofs.KeptFacts as facts
-use Rattle.seat_notes.proofs.UsageLemmas.{no_usage, usage_alone, usages_theirs}
+use Rattle.seat_state.proofs.UsageLemmas.{no_usage, usage_alone, usages_theirs}
 use Rattle.crash_core.proofs.ClaimLemmas.{claimed_kept, raw_given_up, class_given_up}
-use Rattle.seat_notes.proofs.WordLemmas.{entry_is, read_is}
+use Rattle.seat_state.proofs.WordLemmas.{entry_is, read_is}
 
 pub claimed_going : (base : View) (d list : ℕ) → (claimed base d list).stopped ≡ base.stopped
 claimed_going base d zero = refl

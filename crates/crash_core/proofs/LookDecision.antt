@@ -1,11 +1,11 @@
 -- When an anchor may be read, by what the core keeps.
 use Rattle.std.proofs.Common.{◌≡◌, ◌≢◌, ℕ, ◌+◌, ◌<◌, ◌≤◌, ◌↔◌, inl, inr, true, nat_eq, List, get_or, length, sym, ◌∙◌, eq-eqb, eqb-true, arith}
-use Rattle.seat_notes.specs.declared.notes.SeatNotes.{SeatNotes}
-use Rattle.seat_notes.specs.declared.superblocks.SuperblockUsage.{SuperblockUsage}
+use Rattle.seat_state.specs.declared.notes.SeatNotes.{SeatNotes}
+use Rattle.seat_state.specs.declared.superblocks.SuperblockUsage.{SuperblockUsage}
 use Rattle.crash_core.specs.declared.state.CoreState.{CoreState}
 use Rattle.core_model.specs.View.{Setup, View}
 use Rattle.core_model.specs.Guards.{MayLookAt}
-use Rattle.seat_notes.specs.Superblocks.{usage_for, no_superblock, raw_in, split_in, classed_in, IsUsage}
+use Rattle.seat_state.specs.Superblocks.{usage_for, no_superblock, raw_in, split_in, classed_in, IsUsage}
 use Rattle.crash_core.specs.Standing.{IsSeatAt, IsKept, KeepsViews}
 use Rattle.core_model.proofs.SoundLemmas.{taken, batched}
 use Rattle.crash_core.proofs.StandingLemmas.{memory_in}

@@ -5,8 +5,8 @@ use Rattle.heap_model.specs.Geometry.{lists, image_words, link_word}
 use Rattle.heap_model.specs.Words.{head_first}
 use Rattle.core_model.specs.declared.answer.StepAnswer.TheVariants.{Done, NotNow}
 use Rattle.core_model.specs.declared.event.Event.TheVariants.{LookUsed, LookHead, LookLink, LookAnchor, KeepUsed}
-use Rattle.seat_notes.specs.declared.notes.SeatNotes.{SeatNotes}
-use Rattle.seat_notes.specs.declared.notes.Seen.{Seen}
+use Rattle.seat_state.specs.declared.notes.SeatNotes.{SeatNotes}
+use Rattle.seat_state.specs.declared.notes.Seen.{Seen}
 use Rattle.crash_core.specs.declared.state.CoreState.{CoreState}
 use Rattle.core_model.specs.Cells.{used_cell, head_cell, link_cell, anchor_cell, is_cell}
 use Rattle.core_model.specs.Memory.{anchor, volatile_at, memory_of}
@@ -14,11 +14,11 @@ use Rattle.core_model.specs.View.{Setup, View, one_if_some}
 use Rattle.core_model.specs.Effects.{seen, seen_word, before}
 use Rattle.core_model.specs.Guards.{IsThere, MayLookAt}
 use Rattle.crash_core.specs.Standing.{IsSeatAt, IsKept, KeepsViews, Steps, memory_at}
-use Rattle.seat_notes.specs.Notes.{snapshot}
+use Rattle.seat_state.specs.Notes.{snapshot}
 use Rattle.core_model.proofs.QuietLemmas.{not_there}
 use Rattle.crash_core.proofs.StandingLemmas.{step_noted, step_not, memory_in}
 use Rattle.crash_core.proofs.KeptFacts as facts
-use Rattle.seat_notes.proofs.WordLemmas.{entry_is, read_is, put_back}
+use Rattle.seat_state.proofs.WordLemmas.{entry_is, read_is, put_back}
 use Rattle.core_model.proofs.ListLemmas.{before_is}
 
 module _ (c : CoreState) (k : Setup) (views : List View) (i : ℕ) (v : View) (t : SeatNotes) (keeps : KeepsViews c k views) (below : i < length views) (at : get_or views i v ≡ v)

@@ -7,8 +7,8 @@ use Rattle.heap_model.specs.Counting.{times, total, one_if}
 use Rattle.heap_model.proofs.SizeLemmas.{two_words}
 use Rattle.crash_core.specs.declared.owners.BlockPlace.{BlockPlace}
 use Rattle.crash_core.specs.declared.owners.BlockPlace.TheVariants as place
-use Rattle.seat_notes.specs.declared.notes.Cache.{Cache}
-use Rattle.seat_notes.specs.declared.notes.SeatNotes.{SeatNotes}
+use Rattle.seat_state.specs.declared.notes.Cache.{Cache}
+use Rattle.seat_state.specs.declared.notes.SeatNotes.{SeatNotes}
 use Rattle.crash_core.specs.declared.state.CoreState.{CoreState}
 use Rattle.core_model.specs.Cells.{superblock_at}
 use Rattle.core_model.specs.Memory.{next, info, memory_of}
@@ -16,18 +16,18 @@ use Rattle.core_model.specs.View.{Setup, View, of_class, times_block}
 use Rattle.core_model.specs.Effects.{first_of, rest_of, after_alloc}
 use Rattle.core_model.specs.Guards.{MayAlloc}
 use Rattle.core_model.specs.Sound.{Good}
-use Rattle.seat_notes.specs.Notes.{HasCaches}
+use Rattle.seat_state.specs.Notes.{HasCaches}
 use Rattle.crash_core.specs.Standing.{IsSeatAt, place_for, no_block, held_in, cached_in, batched_in, IsPlace, IsKept, IsCore, KeepsViews, IsMoved, Decides, memory_at}
 use Rattle.core_model.proofs.TotalLemmas.{total_at, eq-eqb-one, ne-eqb-none}
 use Rattle.core_model.proofs.BlockLemmas.{inside_of, first_there, total_lists}
 use Rattle.core_model.proofs.OwnerLemmas.{in_lists_total}
 use Rattle.core_model.proofs.ShiftLemmas.{first_rest}
 use Rattle.crash_core.proofs.StandingLemmas.{among, memory_in}
-use Rattle.seat_notes.proofs.CacheLemmas.{cache_set}
+use Rattle.seat_state.proofs.CacheLemmas.{cache_set}
 use Rattle.crash_core.proofs.BlockPlaces.{places_mine, places_theirs, place_alone}
-use Rattle.seat_notes.proofs.WordLemmas.{entry_is, entry_there}
-use Rattle.seat_notes.proofs.NewSeat.{no_cache}
-use Rattle.seat_notes.proofs.EndLemmas.{rest_length, rest_first}
+use Rattle.seat_state.proofs.WordLemmas.{entry_is, entry_there}
+use Rattle.seat_state.proofs.NewSeat.{no_cache}
+use Rattle.seat_state.proofs.EndLemmas.{rest_length, rest_first}
 
 cached_only : (p : BlockPlace) → 0 < cached_in p → (held_in p ≡ 0) × (cached_in p ≡ 1) × (batched_in p ≡ 0)
 cached_only place.Nowhere some = absurd (omega arith)

@@ -13,11 +13,11 @@ use Rattle.core_model.specs.Handing.{HoldsAt, offers_not, offers_stopped}
 use Rattle.core_model.specs.Held.{IsHeld, a_large, a_small}
 use Rattle.core_model.specs.Steps.{TableState}
 use Rattle.core_model.specs.View.{Setup, View, one_if_some}
-use Rattle.seat_notes.specs.declared.notes.SeatNotes.{SeatNotes}
+use Rattle.seat_state.specs.declared.notes.SeatNotes.{SeatNotes}
 use Rattle.core_model.proofs.OwnerLemmas.{in_lists_total}
-use Rattle.seat_notes.proofs.WordLemmas.{entry_there}
+use Rattle.seat_state.proofs.WordLemmas.{entry_there}
 use Rattle.crash_core.specs.declared.state.CoreState.{CoreState}
-use Rattle.crash_core.specs.Standing.{held_in, IsKept, IsSeatAt, IsStanding, no_block, Offers, place_for, StandsFor}
+use Rattle.crash_core.specs.Standing.{held_in, IsKept, IsSeatAt, IsStanding, no_block, Offers, place_for, Represents}
 use Rattle.crash_core.proofs.StandingLemmas.{among}
 
 -- the view of the seat
@@ -27,7 +27,7 @@ pub record IsSeatOf (c : CoreState) (s : TableState) (i : ℕ) (t : SeatNotes) :
   pub kept : IsKept c i t view
   pub seat : view.carries ≡ 0
 
-pub seat_of : (c : CoreState) (k : Setup) (s : TableState) (i : ℕ) (t : SeatNotes) → StandsFor c k s → IsSeatAt c i t → IsSeatOf c s i t
+pub seat_of : (c : CoreState) (k : Setup) (s : TableState) (i : ℕ) (t : SeatNotes) → Represents c k s → IsSeatAt c i t → IsSeatOf c s i t
 seat_of c k s i t stands at_t = let v = entry_there s.views i (among stands.keeps at_t.less) in record {
   view = v.0;
   at = v.1;
@@ -57,7 +57,7 @@ not_held v x no_small no_large holds = by holds.block holds.holds holds.at where
         record { held = subst (λ e. 1 ≤ span_count e v.large) (sym d_is) (omega (arith, count, some)); first = sym at ∙ ap (start_word v.setup.capacity) (sym d_is) }
 
 pub offer_not_held : (c : CoreState) (i x : ℕ) (t : SeatNotes) → (at_t : IsSeatAt c i t) → t.stopped ≡ None → held_in (place_for i (get_or c.blocks.items x no_block)) ≡ 0
-    → ((k : Setup) (s : TableState) (stands : StandsFor c k s) → MaySplit (seat_of c k s i t stands at_t).view x → ⊥) → Offers c i x NotNow c
+    → ((k : Setup) (s : TableState) (stands : Represents c k s) → MaySplit (seat_of c k s i t stands at_t).view x → ⊥) → Offers c i x NotNow c
 offer_not_held c i x t at_t going no_small no_large k s stands = let o = seat_of c k s i t stands at_t in
     (s, offers_not o.view o.at (o.kept.notes.stopped ∙ going) (λ may. not_held o.view x ((o.kept.blocks x).held ∙ no_small) (no_large k s stands) may.held), stands)
 

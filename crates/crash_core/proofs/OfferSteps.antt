@@ -17,12 +17,12 @@ use Rattle.core_model.specs.View.{Setup, View, times_block, times_large}
 use Rattle.heap_model.proofs.ListLemmas.{one_at_most}
 use Rattle.core_model.proofs.SplittingLemmas.{lists_both}
 use Rattle.core_model.proofs.TotalLemmas.{total_at}
-use Rattle.seat_notes.specs.declared.notes.SeatNotes.{SeatNotes}
-use Rattle.seat_notes.specs.Superblocks.{usage_for, no_superblock, IsUsage}
+use Rattle.seat_state.specs.declared.notes.SeatNotes.{SeatNotes}
+use Rattle.seat_state.specs.Superblocks.{usage_for, no_superblock, IsUsage}
 use Rattle.crash_core.specs.declared.owners.BlockPlace.{BlockPlace}
 use Rattle.crash_core.specs.declared.owners.BlockPlace.TheVariants as place
 use Rattle.crash_core.specs.declared.state.CoreState.{CoreState}
-use Rattle.crash_core.specs.Standing.{batched_in, cached_in, held_in, HasBlocksOf, IsKept, IsPlace, IsSeatAt, KeepsViews, no_block, nobody, place_for, StandsFor}
+use Rattle.crash_core.specs.Standing.{batched_in, cached_in, held_in, HasBlocksOf, IsKept, IsPlace, IsSeatAt, KeepsViews, no_block, nobody, place_for, Represents}
 use Rattle.crash_core.proofs.BlockPlaces.{place_alone, place_theirs, places_mine, places_theirs}
 use Rattle.core_model.proofs.SplittingLemmas.{lists_all, lists_only}
 use Rattle.crash_core.proofs.ChosenLemmas.{class_goes, in_some, no_spans}
@@ -35,7 +35,7 @@ held_is place.Held some = refl
 held_is place.Cached some = absurd (omega arith)
 held_is place.Batched some = absurd (omega arith)
 
-module _ (c : CoreState) (k : Setup) (s : TableState) (i : ℕ) (v : View) (t : SeatNotes) (x : ℕ) (stands : StandsFor c k s) (at : get_or s.views i v ≡ v) (at_t : IsSeatAt c i t) (hand : MayHand v)
+module _ (c : CoreState) (k : Setup) (s : TableState) (i : ℕ) (v : View) (t : SeatNotes) (x : ℕ) (stands : Represents c k s) (at : get_or s.views i v ≡ v) (at_t : IsSeatAt c i t) (hand : MayHand v)
     (held : place_for i (get_or c.blocks.items x no_block) ≡ place.Held) where
   keeps : KeepsViews c k s.views
   keeps = stands.keeps
@@ -99,7 +99,7 @@ module _ (c : CoreState) (k : Setup) (s : TableState) (i : ℕ) (v : View) (t : 
   theirs e other = place_alone i e (get_or c.blocks.items x no_block) other (λ none. let z = ap held_in (sym held ∙ none) in omega (arith, z))
 
   module _ (c' : CoreState) (handed : IsHanded c c' i t) (blocks_are : c'.blocks.items ≡ set c.blocks.items x (record { seat = j; place = place.Held })) (same : c'.superblocks.items ≡ c.superblocks.items) where
-    pub small_offer : StandsFor c' k (after_offer s i v x)
+    pub small_offer : Represents c' k (after_offer s i v x)
     small_offer = offer_stands c c' k s i v t x stands at at_t small_may handed
         (record {
           blocks = subst (λ os. HasBlocksOf os i (chosen_lists (λ e. not (nat_eq e x)) v.small) v.caches v.batch.blocks) (sym blocks_are) mine;

@@ -11,7 +11,7 @@ use Rattle.crash_core.specs.declared.owners.BlockOwner.{BlockOwner}
 use Rattle.crash_core.specs.OpenedOwners.{AreBlockOwners}
 use Rattle.crash_core.specs.Standing.{place_for, held_in, cached_in, batched_in, no_block}
 use Rattle.crash_core.proofs.BlockPlaces.{places_mine, places_theirs}
-use Rattle.seat_notes.proofs.HeldSoFar.{none_cached, held_so_far, block_there, within, more_theirs, large_more, mine_here, mine_elsewhere, none_yet, all_held}
+use Rattle.seat_state.proofs.HeldSoFar.{none_cached, held_so_far, block_there, within, more_theirs, large_more, mine_here, mine_elsewhere, none_yet, all_held}
 
 -- a seat holds the block so often, and has it nowhere else
 pub record IsHeldOnly (n : ℕ) (x : BlockPlace) : Type 0 where

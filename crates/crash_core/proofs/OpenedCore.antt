@@ -16,10 +16,10 @@ use Rattle.core_model.proofs.OpenLemmas.{length_tabulate, tabulate_at}
 use Rattle.core_model.proofs.OpenedLemmas.{opened}
 use Rattle.crash_core.specs.declared.state.CoreState.{CoreState}
 use Rattle.crash_core.specs.OpenedOwners.{AreBlockOwners}
-use Rattle.seat_notes.specs.OpenedSuperblocks.{AreSuperblockOwners}
-use Rattle.crash_core.specs.Standing.{IsKept, nobody, StandsFor}
-use Rattle.seat_notes.proofs.PickedLemmas.{roots_of}
-use Rattle.seat_notes.proofs.NewSeat.{new_seat, no_caches}
+use Rattle.seat_state.specs.OpenedSuperblocks.{AreSuperblockOwners}
+use Rattle.crash_core.specs.Standing.{IsKept, nobody, Represents}
+use Rattle.seat_state.proofs.PickedLemmas.{roots_of}
+use Rattle.seat_state.proofs.NewSeat.{new_seat, no_caches}
 
 -- a seat past the last owner gets nothing
 picked_none : {A : Type 0} (j : ℕ) (xs : List A) (owners : List ℕ) → ((o : ℕ) → Contains owners o → o ≢ j) → picked j xs owners ≡ []
@@ -40,7 +40,7 @@ pub record IsOpened (c : CoreState) (words : List ℕ) (held : List Block) (budg
 
 pub stands : (c : CoreState) (words : List ℕ) (held : List Block) (budget seats : ℕ) (block_owners root_owners : List ℕ) → IsOpened c words held budget seats block_owners root_owners
     → IsReady words held → AreOwners held seats block_owners root_owners → seats ≤ 8 → budget < 1099511627776
-    → StandsFor c (setup_of words budget seats) (opened_state (setup_of words budget seats) held block_owners root_owners seats)
+    → Represents c (setup_of words budget seats) (opened_state (setup_of words budget seats) held block_owners root_owners seats)
 stands c words held budget seats block_owners root_owners is ready owners few low = record {
   words = is.words_are;
   keeps = record {

@@ -8,21 +8,21 @@ use Rattle.heap_model.specs.Counting.{times, total, one_if}
 use Rattle.heap_model.proofs.BlockLemmas.{block_step}
 use Rattle.heap_model.proofs.SizeLemmas.{two_words}
 use Rattle.crash_core.specs.declared.owners.BlockPlace.{BlockPlace}
-use Rattle.seat_notes.specs.declared.notes.SeatNotes.{SeatNotes}
-use Rattle.seat_notes.specs.declared.superblocks.SuperblockUsage.{SuperblockUsage}
+use Rattle.seat_state.specs.declared.notes.SeatNotes.{SeatNotes}
+use Rattle.seat_state.specs.declared.superblocks.SuperblockUsage.{SuperblockUsage}
 use Rattle.crash_core.specs.declared.state.CoreState.{CoreState}
 use Rattle.core_model.specs.Cells.{Cell, info_cell, anchor_cell, link_cell, root_cell, data_cell, cell_at, superblock_at}
 use Rattle.core_model.specs.Memory.{info, memory_of}
 use Rattle.core_model.specs.View.{Setup, View, times_own, times_raw, times_large, times_block}
 use Rattle.core_model.specs.Guards.{IsOwn}
 use Rattle.core_model.specs.Sound.{Good, IsCutBlock}
-use Rattle.seat_notes.specs.Superblocks.{usage_for, no_superblock, raw_in, split_in, cutting_in, classed_in, large_in, IsUsage}
+use Rattle.seat_state.specs.Superblocks.{usage_for, no_superblock, raw_in, split_in, cutting_in, classed_in, large_in, IsUsage}
 use Rattle.crash_core.specs.Standing.{IsSeatAt, place_for, no_block, held_in, cached_in, batched_in, IsPlace, IsKept, KeepsViews, memory_at}
 use Rattle.core_model.proofs.OwnerLemmas.{in_blocks, covered, which_class}
 use Rattle.crash_core.proofs.StandingLemmas.{memory_in, seat_capacity}
-use Rattle.seat_notes.proofs.WordLemmas.{entry_is}
-use Rattle.seat_notes.proofs.DecisionLemmas.{refused, one_true}
-use Rattle.seat_notes.proofs.BlockRanges.{within_word, in_classes_word}
+use Rattle.seat_state.proofs.WordLemmas.{entry_is}
+use Rattle.seat_state.proofs.DecisionLemmas.{refused, one_true}
+use Rattle.seat_state.proofs.BlockRanges.{within_word, in_classes_word}
 
 module _ (c : CoreState) (k : Setup) (views : List View) (i : ℕ) (v : View) (t : SeatNotes) (keeps : KeepsViews c k views) (below : i < length views) (at : get_or views i v ≡ v)
     (at_t : IsSeatAt c i t) where

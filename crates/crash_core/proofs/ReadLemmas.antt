@@ -6,7 +6,7 @@ use Rattle.core_model.specs.Cells.{Cell, is_cell, index_of}
 use Rattle.core_model.specs.Memory.{volatile_at, durable_at, table_length}
 use Rattle.crash_core.specs.Standing.{IsCore, memory_at}
 use Rattle.core_model.proofs.PlaceLemmas.{index_within}
-use Rattle.seat_notes.proofs.WordLemmas.{entry_is, read_is}
+use Rattle.seat_state.proofs.WordLemmas.{entry_is, read_is}
 
 -- how long its lists are
 pub record Lengths (c : CoreState) : Type 0 where

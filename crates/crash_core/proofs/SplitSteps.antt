@@ -5,11 +5,11 @@ use Rattle.std.specs.Prelude.{Vec, Option}
 use Rattle.std.specs.declared.alloc.Global.{Global}
 use Rattle.std.specs.Vec.{with_item}
 use Rattle.heap_model.specs.Geometry.{start_word}
-use Rattle.seat_notes.specs.declared.notes.SeatNotes.{SeatNotes}
-use Rattle.seat_notes.specs.declared.notes.Seen.{Seen}
-use Rattle.seat_notes.specs.declared.superblocks.SuperblockUsage.{SuperblockUsage}
-use Rattle.seat_notes.specs.declared.superblocks.SuperblockUsage.TheVariants as usage
-use Rattle.seat_notes.specs.declared.superblocks.SuperblockOwner.{SuperblockOwner}
+use Rattle.seat_state.specs.declared.notes.SeatNotes.{SeatNotes}
+use Rattle.seat_state.specs.declared.notes.Seen.{Seen}
+use Rattle.seat_state.specs.declared.superblocks.SuperblockUsage.{SuperblockUsage}
+use Rattle.seat_state.specs.declared.superblocks.SuperblockUsage.TheVariants as usage
+use Rattle.seat_state.specs.declared.superblocks.SuperblockOwner.{SuperblockOwner}
 use Rattle.crash_core.specs.declared.state.CoreState.{CoreState}
 use Rattle.core_model.specs.Cells.{superblock_at}
 use Rattle.core_model.specs.Memory.{used}
@@ -17,19 +17,19 @@ use Rattle.core_model.specs.View.{Setup, View, times_large}
 use Rattle.core_model.specs.Effects.{steps, cleared, span_count, without_span, after_split}
 use Rattle.core_model.specs.Guards.{MaySplit}
 use Rattle.core_model.specs.Sound.{Good}
-use Rattle.seat_notes.specs.Superblocks.{usage_for, no_superblock, raw_in, split_in, cutting_in, classed_in, class_in, large_in, count_in, IsUsage, IsRange}
+use Rattle.seat_state.specs.Superblocks.{usage_for, no_superblock, raw_in, split_in, cutting_in, classed_in, class_in, large_in, count_in, IsUsage, IsRange}
 use Rattle.crash_core.specs.Standing.{IsSeatAt, IsKept, IsCore, KeepsViews, IsMoved, Decides}
-use Rattle.seat_notes.specs.Notes.{snapshot}
+use Rattle.seat_state.specs.Notes.{snapshot}
 use Rattle.core_model.proofs.TotalLemmas.{total_at}
 use Rattle.core_model.proofs.FrameLemmas.{below_not}
 use Rattle.heap_model.proofs.ListLemmas.{times_append}
 use Rattle.core_model.proofs.LinkFrameLemmas.{span_covers}
 use Rattle.core_model.proofs.SpanLemmas.{range_is, range_not, times_range, without_span_is, span_other}
 use Rattle.crash_core.proofs.StandingLemmas.{among, memory_in, seat_capacity}
-use Rattle.seat_notes.proofs.UsageLemmas.{usage_alone}
-use Rattle.seat_notes.proofs.RangeLemmas.{range_mine, range_theirs}
-use Rattle.seat_notes.proofs.WordLemmas.{entry_there}
-use Rattle.seat_notes.proofs.CountLemmas.{no_span}
+use Rattle.seat_state.proofs.UsageLemmas.{usage_alone}
+use Rattle.seat_state.proofs.RangeLemmas.{range_mine, range_theirs}
+use Rattle.seat_state.proofs.WordLemmas.{entry_there}
+use Rattle.seat_state.proofs.CountLemmas.{no_span}
 
 pub large_only : (x : SuperblockUsage) → 0 < large_in x → (raw_in x ≡ 0) × (split_in x ≡ 0) × (cutting_in x ≡ 0) × (classed_in x ≡ 0) × (class_in x ≡ 0) × (large_in x ≡ 1)
 large_only usage.Nothing some = absurd (omega arith)

@@ -7,20 +7,20 @@ use Rattle.std.proofs.lemmas.Bool.{cases_eq}
 use Rattle.std.proofs.lemmas.List.{get_or-set_same, get_or-set_other}
 use Rattle.core_model.specs.declared.answer.StepAnswer.TheVariants.{Done, NotNow}
 use Rattle.core_model.specs.declared.event.Event.{Event}
-use Rattle.seat_notes.specs.declared.notes.SeatNotes.{SeatNotes}
+use Rattle.seat_state.specs.declared.notes.SeatNotes.{SeatNotes}
 use Rattle.crash_core.specs.declared.state.CoreState.{CoreState}
 use Rattle.heap_model.specs.Counting.{total}
 use Rattle.core_model.specs.Memory.{Memory, memory_of}
 use Rattle.core_model.specs.View.{Setup, View, one_if_some}
 use Rattle.core_model.proofs.TotalLemmas.{total_at}
-use Rattle.seat_notes.specs.declared.notes.TheConstants.{NEW_SEAT}
+use Rattle.seat_state.specs.declared.notes.TheConstants.{NEW_SEAT}
 use Rattle.core_model.specs.Guards.{IsAsSeen, IsReadyFor, HasTicketFor, MayStep}
 use Rattle.core_model.specs.Sound.{Sound}
 use Rattle.core_model.specs.Steps.{words_after, seat_after, state_after}
-use Rattle.seat_notes.specs.Notes.{HasNotes, HasCaches, HasBatch}
+use Rattle.seat_state.specs.Notes.{HasNotes, HasCaches, HasBatch}
 use Rattle.crash_core.specs.Standing.{IsAmong, IsSeatAt, HasBlocksOf, HasRoots, IsKept, KeepsViews, HasNothing, KeepsState, nobody, state_of, Steps, steps_done, steps_not}
-use Rattle.seat_notes.specs.Superblocks.{HasSuperblocks}
-use Rattle.core_model.proofs.StepLemmas.{Parts, parts}
+use Rattle.seat_state.specs.Superblocks.{HasSuperblocks}
+use Rattle.core_model.proofs.EventStepLemmas.{Parts, parts}
 use Rattle.core_model.proofs.SoundLemmas.{sound_step}
 
 abbrev pub memory_in : CoreState → Setup → Memory

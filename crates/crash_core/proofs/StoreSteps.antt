@@ -7,11 +7,11 @@ use Rattle.core_model.specs.declared.answer.StepAnswer.TheVariants.{Done, NotNow
 use Rattle.core_model.specs.declared.event.Event.TheVariants.{Store, Settle}
 use Rattle.crash_core.specs.declared.owners.BlockPlace.{BlockPlace}
 use Rattle.crash_core.specs.declared.owners.BlockPlace.TheVariants as place
-use Rattle.seat_notes.specs.declared.notes.SeatNotes.{SeatNotes}
-use Rattle.seat_notes.specs.declared.notes.BatchEnds.{BatchEnds}
-use Rattle.seat_notes.specs.declared.superblocks.SuperblockUsage.{SuperblockUsage}
-use Rattle.seat_notes.specs.declared.superblocks.SuperblockUsage.TheVariants as usage
-use Rattle.seat_notes.specs.declared.superblocks.SuperblockOwner.{SuperblockOwner}
+use Rattle.seat_state.specs.declared.notes.SeatNotes.{SeatNotes}
+use Rattle.seat_state.specs.declared.notes.BatchEnds.{BatchEnds}
+use Rattle.seat_state.specs.declared.superblocks.SuperblockUsage.{SuperblockUsage}
+use Rattle.seat_state.specs.declared.superblocks.SuperblockUsage.TheVariants as usage
+use Rattle.seat_state.specs.declared.superblocks.SuperblockOwner.{SuperblockOwner}
 use Rattle.crash_core.specs.declared.state.CoreState.{CoreState}
 use Rattle.core_model.specs.Cells.{Cell, used_cell, head_cell, info_cell, anchor_cell, link_cell, root_cell, data_cell, no_cell, cell_at, is_cell, index_of}
 use Rattle.core_model.specs.Memory.{Memory, anchor, memory_of}
@@ -20,15 +20,15 @@ use Rattle.core_model.specs.Effects.{claim_class, span_count, last_of, learn, us
 use Rattle.core_model.specs.Guards.{IsThere, IsOwn, MayStore, MayAnchor, as_empty, as_full, MayChangeWord}
 use Rattle.crash_core.specs.OwnWords.{IsPlain}
 use Rattle.core_model.specs.Sound.{Good}
-use Rattle.seat_notes.specs.Notes.{HasBatch}
-use Rattle.seat_notes.specs.Superblocks.{usage_for, no_superblock, anchored, split_in, cutting_in, classed_in, class_in, large_in, count_in, IsUsage, HasSuperblocks}
+use Rattle.seat_state.specs.Notes.{HasBatch}
+use Rattle.seat_state.specs.Superblocks.{usage_for, no_superblock, anchored, split_in, cutting_in, classed_in, class_in, large_in, count_in, IsUsage, HasSuperblocks}
 use Rattle.crash_core.specs.Standing.{IsAmong, IsSeatAt, place_for, cached_in, batched_in, no_block, IsKept, KeepsViews, Steps, memory_at}
 use Rattle.core_model.proofs.SoundLemmas.{in_table}
 use Rattle.core_model.proofs.PlaceLemmas.{index_at}
 use Rattle.core_model.proofs.TotalLemmas.{eq-eqb-one, ne-eqb-none}
 use Rattle.crash_core.proofs.StandingLemmas.{step_done, step_not, may_step, memory_in, IsSameHeap}
-use Rattle.seat_notes.proofs.UsageLemmas.{usages_mine, usages_theirs, usage_alone}
-use Rattle.seat_notes.proofs.CountLemmas.{without_off}
+use Rattle.seat_state.proofs.UsageLemmas.{usages_mine, usages_theirs, usage_alone}
+use Rattle.seat_state.proofs.CountLemmas.{without_off}
 use Rattle.heap_model.proofs.ListLemmas.{without_at}
 
 -- the superblocks of a seat after a store to the anchor of one

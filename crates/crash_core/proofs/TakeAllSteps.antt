@@ -11,9 +11,9 @@ use Rattle.core_model.specs.declared.answer.StepAnswer.TheVariants.{Done, NotNow
 use Rattle.core_model.specs.declared.event.Event.TheVariants.{TakeAll}
 use Rattle.crash_core.specs.declared.owners.BlockPlace.TheVariants as place
 use Rattle.crash_core.specs.declared.owners.BlockOwner.{BlockOwner}
-use Rattle.seat_notes.specs.declared.notes.SeatNotes.{SeatNotes}
-use Rattle.seat_notes.specs.declared.notes.Seen.{Seen}
-use Rattle.seat_notes.specs.declared.superblocks.SuperblockUsage.TheVariants as usage
+use Rattle.seat_state.specs.declared.notes.SeatNotes.{SeatNotes}
+use Rattle.seat_state.specs.declared.notes.Seen.{Seen}
+use Rattle.seat_state.specs.declared.superblocks.SuperblockUsage.TheVariants as usage
 use Rattle.crash_core.specs.declared.state.CoreState.{CoreState}
 use Rattle.core_model.specs.Memory.{anchor, info, next, memory_of}
 use Rattle.core_model.specs.View.{Setup, View, one_if_some, of_class, times_block, times_classed}
@@ -21,20 +21,20 @@ use Rattle.core_model.specs.Effects.{chain, seen_word, seen_of, claim_class, anc
 use Rattle.core_model.specs.Guards.{IsThere, MayTakeAll}
 use Rattle.core_model.specs.Sound.{tally_of, times_cut, IsAnchoredBy, IsCutBlock, Good}
 use Rattle.core_model.specs.Steps.{seat_after}
-use Rattle.seat_notes.specs.Superblocks.{usage_for, no_superblock, classed_in, IsUsage}
-use Rattle.seat_notes.specs.Notes.{HasCaches}
+use Rattle.seat_state.specs.Superblocks.{usage_for, no_superblock, classed_in, IsUsage}
+use Rattle.seat_state.specs.Notes.{HasCaches}
 use Rattle.crash_core.specs.Standing.{IsSeatAt, HasBlocksOf, HasNewOwner, IsKept, IsCore, KeepsViews, Steps, Decides, memory_at}
 use Rattle.core_model.proofs.SoundLemmas.{taken}
 use Rattle.core_model.proofs.PlaceLemmas.{pick}
 use Rattle.core_model.proofs.BlockLemmas.{walks_chain}
 use Rattle.core_model.proofs.TotalLemmas.{total_at}
 use Rattle.crash_core.proofs.StandingLemmas.{among, step_done, step_not, memory_in}
-use Rattle.seat_notes.proofs.UsageLemmas.{usages_theirs, usage_alone}
+use Rattle.seat_state.proofs.UsageLemmas.{usages_theirs, usage_alone}
 use Rattle.crash_core.proofs.ClaimLemmas.{class_given_up}
 use Rattle.crash_core.proofs.KeptFacts as facts
-use Rattle.seat_notes.proofs.NewSeat.{no_cache}
+use Rattle.seat_state.proofs.NewSeat.{no_cache}
 use Rattle.crash_core.proofs.ChainSteps.{chain_is, block_fits, none_of, walk_first, caches_given, blocks_given, blocks_theirs}
-use Rattle.seat_notes.proofs.WordLemmas.{entry_is, entry_there}
+use Rattle.seat_state.proofs.WordLemmas.{entry_is, entry_there}
 
 module _ (c : CoreState) (k : Setup) (views : List View) (i : ℕ) (v : View) (t : SeatNotes) (keeps : KeepsViews c k views) (below : i < length views) (at : get_or views i v ≡ v)
     (at_t : IsSeatAt c i t) (d : ℕ) where

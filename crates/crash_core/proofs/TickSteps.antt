@@ -10,7 +10,7 @@ use Rattle.core_model.specs.declared.answer.StepAnswer.TheVariants.{Done, Stoppe
 use Rattle.core_model.specs.declared.event.Event.TheVariants.{Tick}
 use Rattle.core_model.specs.declared.event.Shift.{Shift}
 use Rattle.core_model.specs.declared.event.Shift.TheVariants.{Cut, Alloc, Free, Lift, Large, Split}
-use Rattle.seat_notes.specs.declared.notes.SeatNotes.{SeatNotes}
+use Rattle.seat_state.specs.declared.notes.SeatNotes.{SeatNotes}
 use Rattle.crash_core.specs.declared.state.CoreState.{CoreState}
 use Rattle.core_model.specs.Cells.{superblock_at}
 use Rattle.core_model.specs.Memory.{Memory, info}
@@ -19,13 +19,13 @@ use Rattle.core_model.specs.Effects.{drew, stopped, shifted}
 use Rattle.core_model.specs.Guards.{MayShift, MayFree}
 use Rattle.core_model.specs.Steps.{seat_after}
 use Rattle.crash_core.specs.Standing.{IsSeatAt, held_in, place_for, no_block, HasBlocksOf, HasRoots, IsKept, IsCore, KeepsViews, IsMoved, Moves, Decides, Steps, steps_stopped}
-use Rattle.seat_notes.specs.Superblocks.{HasSuperblocks}
+use Rattle.seat_state.specs.Superblocks.{HasSuperblocks}
 use Rattle.core_model.proofs.PlaceLemmas.{pick, skip, not-lt}
 use Rattle.core_model.proofs.OwnerLemmas.{in_lists_total}
 use Rattle.crash_core.proofs.StandingLemmas.{seat_is, among, step_done, may_step, memory_in, stands_after}
-use Rattle.seat_notes.proofs.WordLemmas.{entry_there}
+use Rattle.seat_state.proofs.WordLemmas.{entry_there}
 use Rattle.crash_core.proofs.WordSteps.{drawn_is, drawn_more}
-use Rattle.seat_notes.proofs.DecisionLemmas.{going_on}
+use Rattle.seat_state.proofs.DecisionLemmas.{going_on}
 
 set_twice : {A : Type 0} (xs : List A) (i : ℕ) (a b : A) → set (set xs i a) i b ≡ set xs i b
 set_twice [] i a b = refl

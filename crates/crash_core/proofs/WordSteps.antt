@@ -5,7 +5,7 @@ use Rattle.std.specs.Vec.{with_item}
 use Rattle.heap_model.specs.Geometry.{image_words}
 use Rattle.core_model.specs.declared.answer.StepAnswer.TheVariants.{Done, Stopped}
 use Rattle.core_model.specs.declared.event.Event.TheVariants.{Tick, Load, Settle}
-use Rattle.seat_notes.specs.declared.notes.SeatNotes.{SeatNotes}
+use Rattle.seat_state.specs.declared.notes.SeatNotes.{SeatNotes}
 use Rattle.crash_core.specs.declared.state.CoreState.{CoreState}
 use Rattle.core_model.specs.Cells.{cell_at, is_cell, index_of}
 use Rattle.core_model.specs.Memory.{volatile_at}
@@ -15,13 +15,13 @@ use Rattle.core_model.specs.Guards.{IsThere, IsOwn}
 use Rattle.core_model.specs.Sound.{Good}
 use Rattle.core_model.specs.Steps.{seat_after}
 use Rattle.crash_core.specs.Standing.{IsSeatAt, IsKept, IsCore, KeepsViews, Steps, steps_stopped}
-use Rattle.seat_notes.specs.Notes.{HasNotes}
-use Rattle.core_model.proofs.StepLemmas.{parts}
+use Rattle.seat_state.specs.Notes.{HasNotes}
+use Rattle.core_model.proofs.EventStepLemmas.{parts}
 use Rattle.core_model.proofs.SoundLemmas.{in_table, own_cell}
 use Rattle.core_model.proofs.PlaceLemmas.{pick, skip, not-lt, index_at, index_within}
 use Rattle.crash_core.proofs.StandingLemmas.{step_done, step_noted, may_step, memory_in, stands_after}
-use Rattle.seat_notes.proofs.WordLemmas.{entry_is, read_is, put_back}
-use Rattle.seat_notes.proofs.CountLemmas.{stopped_most}
+use Rattle.seat_state.proofs.WordLemmas.{entry_is, read_is, put_back}
+use Rattle.seat_state.proofs.CountLemmas.{stopped_most}
 
 -- the ticket word does not overflow
 pub ticket_fits : (c : CoreState) (at_word ticket : ℕ) → IsCore c → at_word ≡ 2 * image_words c.geometry.capacity → ticket ≡ get_or c.words.items at_word ticket → ticket < 9223372036854775808

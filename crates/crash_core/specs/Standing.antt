@@ -9,8 +9,8 @@ use Rattle.core_model.specs.declared.event.Event.TheVariants.{Tick, Settle}
 use Rattle.crash_core.specs.declared.owners.BlockPlace.{BlockPlace}
 use Rattle.crash_core.specs.declared.owners.BlockPlace.TheVariants as place
 use Rattle.crash_core.specs.declared.owners.BlockOwner.{BlockOwner}
-use Rattle.seat_notes.specs.declared.notes.SeatNotes.{SeatNotes}
-use Rattle.seat_notes.specs.declared.notes.TheConstants.{NEW_SEAT}
+use Rattle.seat_state.specs.declared.notes.SeatNotes.{SeatNotes}
+use Rattle.seat_state.specs.declared.notes.TheConstants.{NEW_SEAT}
 use Rattle.crash_core.specs.declared.state.CoreState.{CoreState}
 use Rattle.heap_model.specs.declared.block.Block.{Block}
 use Rattle.heap_model.specs.Words.{anchor_state, empty_state, large_info}
@@ -23,9 +23,9 @@ use Rattle.core_model.specs.View.{Setup, View, one_if_some, times_block, times_c
 use Rattle.core_model.specs.Guards.{IsThere, HasTicketFor, MayDo}
 use Rattle.core_model.specs.Sound.{Sound}
 use Rattle.core_model.specs.Steps.{TableState, StepsTo, Runs, state_after, seat_after}
-use Rattle.seat_notes.specs.declared.superblocks.SuperblockOwner.{SuperblockOwner}
-use Rattle.seat_notes.specs.Superblocks.{HasSuperblocks, count_in, no_superblock, usage_for}
-use Rattle.seat_notes.specs.Notes.{HasNotes, HasCaches, HasBatch}
+use Rattle.seat_state.specs.declared.superblocks.SuperblockOwner.{SuperblockOwner}
+use Rattle.seat_state.specs.Superblocks.{HasSuperblocks, count_in, no_superblock, usage_for}
+use Rattle.seat_state.specs.Notes.{HasNotes, HasCaches, HasBatch}
 
 -- where seat i has the block
 abbrev pub place_for : ℕ → BlockOwner → BlockPlace
@@ -125,7 +125,7 @@ pub record AreInOrder (k : Setup) (views : List View) : Type 0 where
   pub behind : (j : ℕ) (u : View) → k.seats ≤ j → j < length views → get_or views j u ≡ u → IsLaden u ⊎ IsEmptied u
 
 -- the core stands for the state
-pub record StandsFor (c : CoreState) (k : Setup) (s : TableState) : Type 0 where
+pub record Represents (c : CoreState) (k : Setup) (s : TableState) : Type 0 where
   pub words : c.words.items ≡ s.words
   pub keeps : KeepsViews c k s.views
   pub order : AreInOrder k s.views
@@ -176,7 +176,7 @@ pub record IsCore (c : CoreState) : Type 0 where
 pub record IsStanding (c : CoreState) : Type 0 where
   pub setup : Setup
   pub state : TableState
-  pub stands : StandsFor c setup state
+  pub stands : Represents c setup state
 
 -- the state that the words and views are
 abbrev pub state_of : CoreState → List View → TableState
@@ -205,22 +205,22 @@ HasTicketAt ticket event = IsThere ticket
 
 -- of each state that the core stands for, the answer is what the event has there, and then it stands for what the event makes of the state
 abbrev pub Follows : CoreState → ℕ → Event → StepAnswer → CoreState → Type 0
-Follows old i event answer new = (k : Setup) (s : TableState) → StandsFor old k s
-    → (next : TableState) × StepsTo k s i event answer next × StandsFor new k next
+Follows old i event answer new = (k : Setup) (s : TableState) → Represents old k s
+    → (next : TableState) × StepsTo k s i event answer next × Represents new k next
 
 -- the same of a block that a seat offers, and of a carrier that it accepts
 abbrev pub Offers : CoreState → ℕ → ℕ → StepAnswer → CoreState → Type 0
-Offers old i block answer new = (k : Setup) (s : TableState) → StandsFor old k s
-    → (next : TableState) × OffersTo s i block answer next × StandsFor new k next
+Offers old i block answer new = (k : Setup) (s : TableState) → Represents old k s
+    → (next : TableState) × OffersTo s i block answer next × Represents new k next
 
 abbrev pub Accepts : CoreState → ℕ → ℕ → StepAnswer → CoreState → Type 0
-Accepts old i j answer new = (k : Setup) (s : TableState) → StandsFor old k s
-    → (next : TableState) × AcceptsTo s i j answer next × StandsFor new k next
+Accepts old i j answer new = (k : Setup) (s : TableState) → Represents old k s
+    → (next : TableState) × AcceptsTo s i j answer next × Represents new k next
 
 -- the same of a list of events, with an answer for each
 abbrev pub RunsOn : CoreState → List (ℕ × Event) → List StepAnswer → CoreState → Type 0
-RunsOn old events answers new = (k : Setup) (s : TableState) → StandsFor old k s
-    → (next : TableState) × Runs k s events answers next × StandsFor new k next
+RunsOn old events answers new = (k : Setup) (s : TableState) → Represents old k s
+    → (next : TableState) × Runs k s events answers next × Represents new k next
 
 -- the seat goes on, and has a ticket in hand
 abbrev pub MayHandAt : CoreState → ℕ → Type 0

@@ -8,7 +8,7 @@ use crate::owners::BlockOwner;
 use crate::state::CoreState;
 use crate::usages::{place, usage};
 use core_model::StepAnswer;
-use seat_notes::{SeatNotes, SuperblockOwner};
+use seat_state::{SeatNotes, SuperblockOwner};
 
 /// Accepts what a carrier has, by its number among all views, if the seat may do so now.
 pub(crate) fn accept(core: &mut CoreState, seat: usize, carrier: usize) -> StepAnswer

@@ -8,12 +8,12 @@ ghost use Rattle.core_model.specs.Effects.{class_blocks, after_cut};
 ghost use Rattle.core_model.specs.Guards.{MayCut};
 ghost use Rattle.crash_core.specs.Standing.{IsCore, Decides, Moves, memory_at};
 
-use crate::chains::give_chain;
+use crate::anchor_exchanges::give_chain;
 use crate::owners::{BlockOwner, BlockPlace};
 use crate::reads::{durable_info, durable_used, info, next};
 use crate::state::CoreState;
 use crate::usages::usage;
-use seat_notes::{Cache, SeatNotes, Seen, SuperblockOwner, SuperblockUsage};
+use seat_state::{Cache, SeatNotes, Seen, SuperblockOwner, SuperblockUsage};
 use size_table::{SizeClass, blocks_of};
 use super_block::{LAST_CLASS, block_words};
 

@@ -6,7 +6,7 @@ ghost use Rattle.crash_core.specs.Standing.{IsCore, Takes};
 
 use crate::state::CoreState;
 use core_model::StepAnswer;
-use seat_notes::{SeatNotes, Seen, SuperblockOwner, SuperblockUsage, give_range};
+use seat_state::{SeatNotes, Seen, SuperblockOwner, SuperblockUsage, give_range};
 use super_block::USED_WORD;
 
 /// Takes `n` superblocks that were never taken, if the mark is as it was read.

@@ -10,7 +10,7 @@ use crate::spans::may_split;
 use crate::state::CoreState;
 use crate::usages::{place, usage};
 use core_model::StepAnswer;
-use seat_notes::{SeatNotes, SuperblockOwner, SuperblockUsage, give_range};
+use seat_state::{SeatNotes, SuperblockOwner, SuperblockUsage, give_range};
 use super_block::SUPERBLOCK_WORDS;
 
 /// Offers the held block that begins at a word to a new carrier, if the seat may do so now.

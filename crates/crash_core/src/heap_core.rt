@@ -10,7 +10,7 @@ ghost use Rattle.core_model.specs.Opening.{AreOwners, setup_of, opened_state};
 ghost use Rattle.core_model.specs.Steps.{TableState};
 ghost use Rattle.core_model.specs.View.{Setup};
 ghost use Rattle.crash_image.specs.Crash.{GivesAll, transient_words};
-ghost use Rattle.crash_core.specs.Standing.{Accepts, StandsFor, Follows, Offers, RunsOn};
+ghost use Rattle.crash_core.specs.Standing.{Accepts, Represents, Follows, Offers, RunsOn};
 
 use crate::accepting::accept;
 use crate::crash::durable_words;
@@ -22,7 +22,7 @@ use crate::steps::step;
 use core_model::{Event, StepAnswer};
 use crash_image::crash_image;
 use line_memory::Chance;
-use seat_notes::{Owners, ticket_place};
+use seat_state::{Owners, ticket_place};
 use std::alloc::{AllocError, Global};
 use std::marker::Model;
 use super_block::Ready;
@@ -59,7 +59,7 @@ impl Core {
         requires some { 1 ≤ seats }
         requires seats { seats ≤ 8 }
         requires budget { budget < 1099511627776 }
-        ensures ok { IfOk result (λ core. StandsFor core.state (setup_of heap.now.words budget seats)
+        ensures ok { IfOk result (λ core. Represents core.state (setup_of heap.now.words budget seats)
             (opened_state (setup_of heap.now.words budget seats) heap.now.held
             owners.now.held owners.now.roots seats)) }
         ensures seats { IfOk result (λ core. length core.state.seats.items ≡ seats) }
@@ -137,12 +137,12 @@ impl Core {
     /// `scramble`, in the order of word index. Where memory runs out, `scramble` was not asked.
     pub fn image<C: Chance>(&self, alloc: Global, scramble: &mut C) -> Result<Vec<u64>, AllocError>
         ensures ok { IfOk result (λ image. (k : Setup) (s : TableState)
-            → StandsFor self.now.state k s
+            → Represents self.now.state k s
             → IsCrashImage (durable_image k.capacity s.words) (slice_index image.items)) }
         ensures length { IfOk result (λ image. (k : Setup) (s : TableState)
-            → StandsFor self.now.state k s → length image.items ≡ image_words k.capacity) }
+            → Represents self.now.state k s → length image.items ≡ image_words k.capacity) }
         ensures drawn { IfOk result (λ image. (k : Setup) (s : TableState)
-            → StandsFor self.now.state k s → GivesAll C.draw_gives scramble.old
+            → Represents self.now.state k s → GivesAll C.draw_gives scramble.old
             (map (slice_index image.items) (transient_words k.capacity)) scramble.new) }
         ensures refused { IfErr result (λ _. scramble.new ≡ scramble.old) }
         ensures asked { (numbers : List ℕ)
@@ -154,7 +154,7 @@ impl Core {
 
     /// What loads see of a word of the image; 0 beyond.
     pub fn volatile(&self, word: u64) -> u64
-        ensures { (k : Setup) (s : TableState) → StandsFor self.now.state k s
+        ensures { (k : Setup) (s : TableState) → Represents self.now.state k s
             → result ≡ volatile_image k.capacity s.words word }
     {
         if word >= self.state.geometry.length() {
@@ -165,7 +165,7 @@ impl Core {
 
     /// How many tickets were drawn.
     pub fn tickets(&self) -> u64
-        ensures { (k : Setup) (s : TableState) → StandsFor self.now.state k s
+        ensures { (k : Setup) (s : TableState) → Represents self.now.state k s
             → result ≡ (memory_of k.capacity s.words).drawn }
     {
         self.state.words[ticket_place(self.state.geometry) as usize]

@@ -4,14 +4,14 @@
 
 mod accepting;
 mod anchors;
-mod chains;
+mod anchor_exchanges;
 mod crash;
 mod cuts;
 mod fresh;
 mod handing;
 mod heap_core;
 mod laws;
-mod lists;
+mod list_exchanges;
 mod looks;
 mod moves;
 mod opened;
@@ -31,4 +31,4 @@ pub use core_model::{Event, Shift, StepAnswer};
 pub use heap_core::Core;
 pub use laws::a_core_stands_for_a_sound_state;
 pub use owners::{BlockOwner, BlockPlace};
-pub use seat_notes::Owners;
+pub use seat_state::Owners;

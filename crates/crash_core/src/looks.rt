@@ -9,7 +9,7 @@ use crate::reads::anchor;
 use crate::state::CoreState;
 use crate::usages::usage;
 use core_model::StepAnswer;
-use seat_notes::{SeatNotes, Seen, head_first};
+use seat_state::{SeatNotes, Seen, head_first};
 use super_block::{HEAD_WORD, LISTS, USED_WORD};
 
 /// Reads the mark below which superblocks have been taken.

@@ -12,7 +12,7 @@ use crate::owners::{BlockOwner, BlockPlace};
 use crate::reads::{info, next};
 use crate::state::CoreState;
 use crate::usages::place;
-use seat_notes::{BatchEnds, Cache, SeatNotes};
+use seat_state::{BatchEnds, Cache, SeatNotes};
 use super_block::{LAST_CLASS, SUPERBLOCK_WORDS};
 
 /// Whether the seat may hold the first block of the cache.

@@ -4,11 +4,11 @@ ghost use Rattle.std.specs.Prelude.{◌≡◌, ◌<◌, ◌≤◌, length, IfOk}
 ghost use Rattle.heap_model.specs.Rest.{IsReady};
 ghost use Rattle.core_model.specs.Opening.{AreOwners, setup_of, opened_state};
 ghost use Rattle.crash_core.specs.OpenedOwners.{AreBlockOwners};
-ghost use Rattle.crash_core.specs.Standing.{StandsFor};
+ghost use Rattle.crash_core.specs.Standing.{Represents};
 
 use crate::owners::{BlockOwner, BlockPlace};
 use crate::state::CoreState;
-use seat_notes::{NEW_SEAT, Owners, opened_table, superblock_owners};
+use seat_state::{NEW_SEAT, Owners, opened_table, superblock_owners};
 use std::alloc::{AllocError, Global};
 use super_block::{Ready, SUPERBLOCK_WORDS};
 
@@ -30,7 +30,7 @@ pub(crate) fn opened_core(
     requires owners { AreOwners heap.now.held seats owners.now.held owners.now.roots }
     requires seats { seats ≤ 8 }
     requires budget { budget < 1099511627776 }
-    ensures ok { IfOk result (λ core. StandsFor core (setup_of heap.now.words budget seats)
+    ensures ok { IfOk result (λ core. Represents core (setup_of heap.now.words budget seats)
         (opened_state (setup_of heap.now.words budget seats) heap.now.held
         owners.now.held owners.now.roots seats)) }
 {

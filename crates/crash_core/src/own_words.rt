@@ -9,7 +9,7 @@ ghost use Rattle.crash_core.specs.Standing.{IsCore, Decides};
 use crate::reads::info;
 use crate::state::CoreState;
 use crate::usages::{place, usage};
-use seat_notes::{Part, part_at};
+use seat_state::{Part, part_at};
 use size_table::SizeClass;
 use super_block::{LAST_CLASS, SUPERBLOCK_WORDS, block_words};
 

@@ -10,7 +10,7 @@ use crate::anchors::{EMPTY, anchor_state};
 use crate::reads::{anchor, durable_info, durable_used, info};
 use crate::state::CoreState;
 use crate::usages::usage;
-use seat_notes::{SeatNotes, Seen, SuperblockOwner, SuperblockUsage, give_range};
+use seat_state::{SeatNotes, Seen, SuperblockOwner, SuperblockUsage, give_range};
 use super_block::{Info, SUPERBLOCK_WORDS};
 
 /// Whether a large block that the seat holds begins at the word.

@@ -1,7 +1,7 @@
 //! What the core keeps of a state.
 
 use crate::owners::BlockOwner;
-use seat_notes::{SeatNotes, SuperblockOwner};
+use seat_state::{SeatNotes, SuperblockOwner};
 use super_block::Geometry;
 
 /// The words of the shared table, and what the core keeps of the views: whose each block, superblock

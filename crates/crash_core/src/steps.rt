@@ -1,12 +1,12 @@
 //! One step of a seat, of whatever kind.
 
 ghost use Rattle.std.specs.Prelude.{◌≡◌, ◌↔◌, ◌<◌, length, get_or, true};
-ghost use Rattle.seat_notes.specs.declared.notes.SeatNotes.{SeatNotes};
+ghost use Rattle.seat_state.specs.declared.notes.SeatNotes.{SeatNotes};
 ghost use Rattle.crash_core.specs.Standing.{IsCore, IsStanding, Takes, Follows, HasTicketAt};
 
-use crate::chains::{give, take_all};
+use crate::anchor_exchanges::{give, take_all};
 use crate::fresh::take_fresh;
-use crate::lists::{pop, push};
+use crate::list_exchanges::{pop, push};
 use crate::looks::{keep_used, look_anchor, look_head, look_link, look_used};
 use crate::state::CoreState;
 use crate::stores::store;

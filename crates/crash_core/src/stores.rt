@@ -2,10 +2,10 @@
 
 ghost use Rattle.std.specs.Prelude.{◌≡◌, ◌<◌, length, true};
 ghost use Rattle.core_model.specs.declared.event.Event.TheVariants.{Store};
-ghost use Rattle.seat_notes.specs.declared.part.Part.TheVariants.{Anchor, Link, Data};
+ghost use Rattle.seat_state.specs.declared.part.Part.TheVariants.{Anchor, Link, Data};
 ghost use Rattle.core_model.specs.Cells.{cell_at, data_cell};
 ghost use Rattle.core_model.specs.Guards.{IsOwn, MayAnchor, MayChangeWord};
-ghost use Rattle.seat_notes.specs.Parts.{IsPart};
+ghost use Rattle.seat_state.specs.Parts.{IsPart};
 ghost use Rattle.crash_core.specs.OwnWords.{IsPlain};
 ghost use Rattle.crash_core.specs.Standing.{IsCore, Takes, Decides};
 
@@ -16,7 +16,7 @@ use crate::reads::anchor;
 use crate::state::CoreState;
 use crate::usages::{place, usage};
 use core_model::StepAnswer;
-use seat_notes::{
+use seat_state::{
     Part, SeatNotes, SuperblockOwner, SuperblockUsage, anchor_after_take_all, part_at,
 };
 

@@ -12,7 +12,7 @@ use crate::spans::{hold_large, may_hold_large, may_split, split};
 use crate::state::CoreState;
 use crate::words::draw;
 use core_model::{Shift, StepAnswer};
-use seat_notes::{SeatNotes, ticket_place};
+use seat_state::{SeatNotes, ticket_place};
 
 /// Draws a ticket, and changes the seat's parts where there is something to change, and the
 /// ticket is below the budget.

@@ -2,12 +2,12 @@
 
 ghost use Rattle.std.specs.Prelude.{◌≡◌, ◌+◌, get_or};
 ghost use Rattle.heap_model.specs.Counting.{one_if};
-ghost use Rattle.seat_notes.specs.Superblocks.{usage_for, no_superblock};
+ghost use Rattle.seat_state.specs.Superblocks.{usage_for, no_superblock};
 ghost use Rattle.crash_core.specs.Standing.{place_for, no_block, held_in, cached_in, batched_in};
 
 use crate::owners::BlockPlace;
 use crate::state::CoreState;
-use seat_notes::SuperblockUsage;
+use seat_state::SuperblockUsage;
 
 /// What the seat has of superblock `d`; nothing where there is no such superblock.
 pub(crate) fn usage(core: &CoreState, seat: usize, d: u64) -> SuperblockUsage

@@ -7,7 +7,7 @@ ghost use Rattle.crash_core.specs.Standing.{IsCore, Takes};
 use crate::own_words::is_own;
 use crate::state::CoreState;
 use core_model::StepAnswer;
-use seat_notes::{SeatNotes, ticket_place};
+use seat_state::{SeatNotes, ticket_place};
 
 /// Loads a word of its own.
 pub(crate) fn load(core: &mut CoreState, seat: usize, word: u64) -> StepAnswer

@@ -11,7 +11,7 @@ use Rattle.heap_model.specs.Reach.{ReachFrom}
 use Rattle.heap_model.proofs.ImageLemmas.{words_from-list}
 use Rattle.heap_model.proofs.ReachLemmas.{one_block}
 use Rattle.super_block.specs.Division.{Divisions}
-use Rattle.filter_trace.proofs.StepLemmas.{block_within, image_short}
+use Rattle.filter_trace.proofs.TraceStepLemmas.{block_within, image_short}
 use Rattle.root_reach.specs.declared.labels.Origins.{Origins}
 use Rattle.root_reach.specs.Reaching.{IsReachedBeside}
 use Rattle.dict_model.specs.Links.{dict_links}

@@ -9,7 +9,7 @@ mod read;
 mod together;
 mod walk;
 
-pub use dict_seat::{PutFault, Shard};
+pub use dict_requests::{PutFault, Shard};
 pub use fault::MapFault;
 pub use filter::{DictFilter, NODE, OTHER, TABLE, root_kinds};
 pub use laws::recovery_keeps_each_shard;

@@ -13,8 +13,8 @@ use Rattle.block_heap.specs.Laws.{seat_law, keeps_none_law}
 use Rattle.block_heap.specs.SeqState.{SeqState, all_roots, seat_of}
 use Rattle.block_heap.proofs.FixedLemmas.{kinds_opened}
 use Rattle.dict_model.specs.Links.{dict_links}
-use Rattle.dict_seat.specs.Reached.{ReachesAllHeld}
-use Rattle.dict_seat.specs.Shards.{HasShards}
+use Rattle.dict_requests.specs.Reached.{ReachesAllHeld}
+use Rattle.dict_requests.specs.Shards.{HasShards}
 use Rattle.dictionary.specs.Reading.{RecoversTo}
 use Rattle.dictionary.proofs.SameLemmas.{map_kept}
 use Rattle.run_model.specs.Opened.{IsDictionary, IsReachedFrom, IsOpenedOver, HasAllRoots}

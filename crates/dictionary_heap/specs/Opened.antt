@@ -8,7 +8,7 @@ use Rattle.block_heap.specs.Closing.{IsOpened}
 use Rattle.block_heap.specs.SeqState.{SeqState}
 use Rattle.dict_model.specs.Links.{shards}
 use Rattle.dict_model.specs.Shards.{Map, MapOf}
-use Rattle.dict_seat.specs.Maps.{GivesMap}
+use Rattle.dict_requests.specs.Maps.{GivesMap}
 use Rattle.dictionary.specs.Reading.{AreMaps, RecoversTo}
 use Rattle.run_model.specs.Opened.{IsDictionary}
 use Rattle.dictionary_heap.specs.declared.recovering.RecoveredDictionary.{RecoveredDictionary}

@@ -4,8 +4,8 @@ ghost use Rattle.std.specs.Prelude.{◌≡◌, ℕ, List, [], Contains, slice_in
 ghost use Rattle.heap_model.specs.declared.block.Block.{Block};
 ghost use Rattle.block_heap.specs.Closing.{IsOpened};
 ghost use Rattle.block_heap.specs.SeqState.{SeqState, seat_of};
-ghost use Rattle.dict_seat.specs.Reached.{ReachesAllHeld};
-ghost use Rattle.dict_seat.specs.Shards.{HasShards};
+ghost use Rattle.dict_requests.specs.Reached.{ReachesAllHeld};
+ghost use Rattle.dict_requests.specs.Shards.{HasShards};
 ghost use Rattle.run_model.specs.Opened.{IsDictionary, IsOpenedOver, HasAllRoots};
 ghost use Rattle.run_model.specs.Progress.{HasAnswered};
 

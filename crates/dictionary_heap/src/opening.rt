@@ -4,8 +4,8 @@ ghost use Rattle.heap_model.specs.declared.header.BadHeader.{BadHeader};
 ghost use Rattle.heap_model.specs.Header.{header_fault};
 ghost use Rattle.block_heap.specs.SeqState.{seat_of};
 ghost use Rattle.dict_model.specs.Links.{kind_count};
-ghost use Rattle.dict_seat.specs.Reached.{ReachesAllHeld};
-ghost use Rattle.dict_seat.specs.Shards.{HasShards};
+ghost use Rattle.dict_requests.specs.Reached.{ReachesAllHeld};
+ghost use Rattle.dict_requests.specs.Shards.{HasShards};
 ghost use Rattle.dictionary_heap.specs.Images.{current_image, CanBeRecovered};
 ghost use Rattle.dictionary_heap.specs.Opened.{GivesMapsOf, HasDoneNothing, IsOpenedFrom};
 ghost use Rattle.dictionary_heap.specs.Faults.{TellsFault};
@@ -19,7 +19,7 @@ use std::alloc::Global;
 /// gives the heap a budget of so many steps, at the end of which it stops. The chance says what is
 /// written back early.
 ///
-/// Then a request to any shard may be made (`Shard` of `dict_seat`). An image is refused as by
+/// Then a request to any shard may be made (`Shard` of `dict_requests`). An image is refused as by
 /// `recover_dictionary`; memory may run out at any time.
 pub fn open_dictionary<C: Chance>(
     alloc: Global,

@@ -1,2 +1,2 @@
-pub mod LeftLemmas
+pub mod TestLeftLemmas
 pub mod MoveLemmas

@@ -1,10 +1,10 @@
 //! The first bad place of shards of hand-made images: each kind of fault, at links of each kind.
-//! Words and values have the names of `image_text`.
+//! Words and values have the names of `test_images`.
 
 use crate::checks::must_hold;
 use crate::recoveries::{fault_in, first_fault_in, recovered};
 use dictionary::MapFault;
-use image_text::{change, image_of, number};
+use test_images::{change, image_of, number};
 use std::alloc::Global;
 use std::process::Abort;
 use std::test::Fail;

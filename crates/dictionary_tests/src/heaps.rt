@@ -5,7 +5,7 @@ ghost use Rattle.heap_model.specs.Geometry.{largest_capacity};
 use crate::checks::{must_hold, reads_so};
 use crate::recoveries::recovered;
 use heap_recover::Recovered;
-use image_text::{image_of, number};
+use test_images::{image_of, number};
 use region_header::Bytes;
 use std::alloc::Global;
 use std::process::Abort;

@@ -1,12 +1,12 @@
 //! A key's node on its way to another key, by the three calls of a shard on one seat.
 ghost use Rattle.std.specs.Prelude.{◌≡◌, OnOk, IfErr};
-ghost use Rattle.dict_seat.specs.Shards.{HasShards};
+ghost use Rattle.dict_requests.specs.Shards.{HasShards};
 ghost use Rattle.heap_seat.specs.View.{View};
 ghost use Rattle.heap_seat.specs.declared.fault.AllocFault.TheVariants.{Full};
 ghost use Rattle.heap_seat.specs.declared.fault.Looks.{Looks};
 
 use block_heap::{AllocFault, HeapSeat};
-use dict_seat::Shard;
+use dict_requests::Shard;
 
 /// Takes the one key out, and brings its node to the other key, whose shard has a table by then.
 /// The answer is whether the key was there.

@@ -7,7 +7,7 @@ use crate::checks::must_hold;
 use crate::recoveries::{fault_in, first_fault_in, recovered};
 use dictionary::{DictFilter, MapFault, OTHER, read_map, read_maps};
 use heap_recover::{Recovered, recover};
-use image_text::{change, image_of};
+use test_images::{change, image_of};
 use region_header::Bytes;
 use std::alloc::Global;
 use std::collections::BTreeMap;

@@ -4,7 +4,7 @@ ghost use Rattle.std.specs.Prelude.{◌<◌, ◌^◌};
 use crate::moves::move_key;
 use block_heap::{AllocFault, Chance, Closed, SeqHeap, Stopped};
 use dict_model::LARGEST_VALUE;
-use dict_seat::Shard;
+use dict_requests::Shard;
 use dictionary_heap::open_dictionary;
 use std::alloc::Global;
 use std::marker::Model;
@@ -20,7 +20,7 @@ pub struct Standing<C: Chance> {
 impl<C: Chance> Model for Standing<C> {
     ghost use Rattle.std.specs.Prelude.{◌≡◌, None};
     ghost use Rattle.block_heap.specs.SeqState.{seat_of};
-    ghost use Rattle.dict_seat.specs.Shards.{HasShards};
+    ghost use Rattle.dict_requests.specs.Shards.{HasShards};
 
     ghost Value = { Unit {0} };
 

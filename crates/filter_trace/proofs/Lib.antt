@@ -1,4 +1,4 @@
 pub mod PairLemmas
-pub mod StepLemmas
+pub mod TraceStepLemmas
 pub mod TraceLemmas
 mod MarksLemmas

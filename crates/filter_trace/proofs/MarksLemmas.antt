@@ -6,7 +6,7 @@ use Rattle.heap_model.specs.Image.{Image}
 use Rattle.heap_model.specs.Header.{IsWellFormed}
 use Rattle.heap_model.specs.Blocks.{Layout, layout_of, IsBlock, NamesIn}
 use Rattle.heap_model.proofs.BlockLemmas.{same_first}
-use Rattle.filter_trace.proofs.StepLemmas.{block_within, image_short}
+use Rattle.filter_trace.proofs.TraceStepLemmas.{block_within, image_short}
 
 -- a block of an image begins early
 pub block_low : (image : Image) (n : ℕ) (b : Block) → IsWellFormed (8 * n) image → IsBlock (layout_of image) b → b.first_word < 2 ^ 32

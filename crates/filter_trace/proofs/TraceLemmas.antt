@@ -22,7 +22,7 @@ use Rattle.filter_trace.specs.Reached.{TellsOutside, AreReached}
 use Rattle.filter_trace.specs.Trace.{Follows, IsFollowedWord, Each, IsExtended, FollowsRoots, FollowsLinks, TellsOfWord, TellsOfRoots, IsFollowedBlock, IsWork}
 use Rattle.filter_trace.specs.Pairs.{HasMarks, AreMarked}
 use Rattle.filter_trace.proofs.PairLemmas.{pair_cases}
-use Rattle.filter_trace.proofs.StepLemmas.{follow_marked, follow_each, follow_grows, follow_followed, follow_long, still_followed, more_and_more, block_within}
+use Rattle.filter_trace.proofs.TraceStepLemmas.{follow_marked, follow_each, follow_grows, follow_followed, follow_long, still_followed, more_and_more, block_within}
 
 -- one more root
 pub roots_step : (image : Image) (kinds : ℕ → ℕ) (count n : ℕ) (pairs pairs' : List (Block × ℕ)) (marks marks' : List Bool)

@@ -3,10 +3,10 @@
 #![tactic(auto)]
 
 ghost use Rattle.block_heap.specs.SeqState.{seat_of};
-ghost use Rattle.dict_seat.specs.Shards.{HasShards};
+ghost use Rattle.dict_requests.specs.Shards.{HasShards};
 
 use block_heap::SeqHeap;
-use dict_seat::requests_go_on_from_shard_to_shard;
+use dict_requests::requests_go_on_from_shard_to_shard;
 use dictionary::{PutFault, Shard};
 use dictionary_heap::{open_dictionary, recover_dictionary};
 use line_memory::ConstantChance;

@@ -7,7 +7,7 @@ use Rattle.core_model.specs.View.{Setup, View, role}
 use Rattle.heap_table.specs.AtTable.{SharedView}
 use Rattle.heap_rule.specs.Seated.{IsSeatOf, SeatView}
 use Rattle.heap_rule.specs.Seats.{AreOpenedSeats, AreSeatsOf}
-use Rattle.seat_rows.specs.Idle.{HasShortCaches, IsIdle}
+use Rattle.seat_costs.specs.Idle.{HasShortCaches, IsIdle}
 use Rattle.first_handover.specs.Handover.{IsFreshSeatOf}
 
 -- both were taken off the list of seats, the second one first

@@ -91,7 +91,7 @@ fn quiet(shared: &Shared, seat: Seat) -> Seat
     let mut seat = CacheSeat::new(shared, seat, ConstantChance(0));
     let _answer = seat.quiet();
     let seat = seat.into_seat();
-    seat.has_a_sound_state();
+    seat.recall_soundness();
     seat
 }
 
@@ -101,7 +101,7 @@ fn end_first(shared: &Shared, seat: Seat) -> Seat
     ensures back { IsBackFrom shared.now seat.view result }
     ensures role_is { role result.view ≡ role seat.view }
 {
-    seat.has_a_sound_state();
+    seat.recall_soundness();
     match seat.stopped() {
         Some(_) => seat,
         None => quiet(shared, seat),
@@ -118,7 +118,7 @@ fn take(shared: &Shared, seat: Seat, given: Option<Carrier>) -> Ended
     let mut seat = CacheSeat::new(shared, seat, ConstantChance(0));
     let taken = try_receive(&mut seat, given);
     let seat = seat.into_seat();
-    seat.has_a_sound_state();
+    seat.recall_soundness();
     Ended { seat, taken }
 }
 
@@ -128,7 +128,7 @@ fn end_second(shared: &Shared, seat: Seat, given: Option<Carrier>) -> Ended
     requires table { IfSome given (λ c. c.table ≡ shared.now.table) }
     ensures { HasEnded shared.now given seat.view result }
 {
-    seat.has_a_sound_state();
+    seat.recall_soundness();
     match seat.stopped() {
         Some(_) => Ended {
             seat,

@@ -14,7 +14,7 @@ use Rattle.core_model.specs.Held.{IsHeld, IsHeldBy}
 use Rattle.heap_table.specs.AtTable.{SharedView}
 use Rattle.heap_rule.specs.Seated.{IsSeatOf, SeatView}
 use Rattle.heap_rule.specs.Seats.{AreOpenedSeats, AreSeatsOf}
-use Rattle.seat_rows.specs.Idle.{HasShortCaches, IsIdle}
+use Rattle.seat_costs.specs.Idle.{HasShortCaches, IsIdle}
 use Rattle.first_threads.specs.Working.{IsFreshSeatOf}
 
 -- both were taken off the list of seats, the second one first

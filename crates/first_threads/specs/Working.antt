@@ -8,7 +8,7 @@ use Rattle.core_model.specs.View.{View, no_role, of_class, role}
 use Rattle.heap_table.specs.AtTable.{SharedView}
 use Rattle.heap_rule.specs.Seated.{IsSeatOf, SeatView}
 use Rattle.first_threads.specs.declared.threads.Worked.{Worked}
-use Rattle.seat_rows.specs.Idle.{HasShortCaches, IsIdle}
+use Rattle.seat_costs.specs.Idle.{HasShortCaches, IsIdle}
 
 -- a seat of this heap that was opened just now, of which the root is one
 pub record IsFreshSeatOf (shared : SharedView) (root : ℕ) (seat : SeatView) : Type 0 where

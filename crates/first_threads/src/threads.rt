@@ -20,8 +20,8 @@ use heap_rule::{
 };
 use heap_seat::{AllocFault, HeapSeat};
 use line_memory::{Chance, ConstantChance};
-use seat_notes::Owners;
-use seat_rows::an_opened_seat_is_idle;
+use seat_state::Owners;
+use seat_costs::an_opened_seat_is_idle;
 use std::alloc::{AllocError, Global};
 use std::thread;
 use std::thread::Threads;
@@ -130,7 +130,7 @@ fn work(shared: &Shared, seat: Seat, root: u64) -> Worked
     let mut seat = CacheSeat::new(shared, seat, ConstantChance(0));
     let chain = build(&mut seat, root);
     let seat = seat.into_seat();
-    seat.has_a_sound_state();
+    seat.recall_soundness();
     Worked { seat, chain }
 }
 

@@ -5,4 +5,4 @@
 mod lists;
 
 pub use lists::{pop, push};
-pub use seat_lists::Pop;
+pub use superblock_lists::Pop;

@@ -3,7 +3,7 @@ pub mod ListLemmas
 pub mod LayoutLemmas
 pub mod StandingLemmas
 pub mod ChainLemmas
-pub mod LeftLemmas
+pub mod RecoveryLeftLemmas
 pub mod PlaceLemmas
 pub mod RecoveredLemmas
 pub mod ReadyLemmas

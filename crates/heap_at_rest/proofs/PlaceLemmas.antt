@@ -15,7 +15,7 @@ use Rattle.heap_model.proofs.CountingLemmas.{times_none, times_once, one_if_true
 use Rattle.heap_at_rest.proofs.PartLemmas.{part_taken}
 use Rattle.heap_at_rest.proofs.ListLemmas.{in_map, order_map}
 use Rattle.heap_at_rest.proofs.StandingLemmas.{Standing, is_untaken, is_free, is_partial, is_fully_kept, is_in_large}
-use Rattle.heap_at_rest.proofs.LeftLemmas.{IsLeft, listed_cases, partial_listed, free_not_partial, one_class, full_not_partial, large_not_partial, full_holds, lists_none, lists_once, large_none, large_once}
+use Rattle.heap_at_rest.proofs.RecoveryLeftLemmas.{IsLeft, listed_cases, partial_listed, free_not_partial, one_class, full_not_partial, large_not_partial, full_holds, lists_none, lists_once, large_none, large_once}
 
 -- 1 for a superblock that is full, and the chain of one that is partial
 abbrev pub full_mark : {l : Layout} {kept : Block → Type 0} {d : ℕ} → Standing l kept d → ℕ

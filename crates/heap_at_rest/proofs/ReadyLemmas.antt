@@ -18,7 +18,7 @@ use Rattle.heap_model.proofs.PartLemmas.{TakesAll}
 use Rattle.heap_at_rest.proofs.PartLemmas.{part_taken, same_start}
 use Rattle.heap_at_rest.proofs.LayoutLemmas.{class_block, same_there}
 use Rattle.heap_at_rest.proofs.StandingLemmas.{Standing, is_untaken, is_free, is_partial, is_fully_kept, is_in_large, cases_kept}
-use Rattle.heap_at_rest.proofs.LeftLemmas.{LeavesHeap, IsLeft, listed_cases, listed_partial, free_not_partial, large_not_partial, in_list, large_some}
+use Rattle.heap_at_rest.proofs.RecoveryLeftLemmas.{LeavesHeap, IsLeft, listed_cases, listed_partial, free_not_partial, large_not_partial, in_list, large_some}
 use Rattle.heap_at_rest.proofs.PlaceLemmas.{full_mark, chain_mark, chain_of_partial, one_place, held_once, held_none}
 use Rattle.heap_at_rest.proofs.RecoveredLemmas.{capacity_is, used_is, formed_left, standing, info_left, heap_left}
 

@@ -16,7 +16,7 @@ use Rattle.heap_at_rest.proofs.StandingLemmas.{Standing, is_untaken, is_free, is
 use Rattle.heap_model.proofs.CountingLemmas.{times_once}
 use Rattle.heap_model.proofs.WordLemmas.{anchor_parts}
 use Rattle.heap_at_rest.proofs.ChainLemmas.{some_spare, not_all_spare, first_short}
-use Rattle.heap_at_rest.proofs.LeftLemmas.{HasSpares, LeavesHeap, IsLeft}
+use Rattle.heap_at_rest.proofs.RecoveryLeftLemmas.{HasSpares, LeavesHeap, IsLeft}
 
 -- where the kept words stay, so do the capacity and the number of superblocks that have been taken
 module _ (old new : Image) (same : (word : ℕ) → IsKeptWord (capacity_of old) word → new word ≡ old word) where

@@ -13,7 +13,7 @@ use Rattle.heap_model.specs.Durability.{Mixes, IsCrashImage, IsTransient, is_hea
 use Rattle.heap_model.proofs.BlockLemmas.{block_inside}
 use Rattle.heap_model.proofs.ImageLemmas.{length-words_from}
 use Rattle.heap_model.proofs.ReachLemmas.{reached_block, reach_kept, nothing_more, reach_by_kinds, traced_by_kinds}
-use Rattle.heap_at_rest.proofs.LeftLemmas.{IsLeft}
+use Rattle.heap_at_rest.proofs.RecoveryLeftLemmas.{IsLeft}
 use Rattle.heap_at_rest.proofs.LayoutLemmas.{same_there}
 use Rattle.heap_at_rest.proofs.RecoveredLemmas.{info_left, heap_left}
 use Rattle.heap_recover.proofs.UnchangedLemmas.{words_unchanged, roots_unchanged, kinds_unchanged}

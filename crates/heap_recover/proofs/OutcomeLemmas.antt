@@ -17,7 +17,7 @@ use Rattle.heap_model.proofs.BlockLemmas.{block_step}
 use Rattle.heap_model.proofs.MemberLemmas.{in_none, head_or_rest}
 use Rattle.heap_at_rest.proofs.ChainLemmas.{some_spare}
 use Rattle.heap_at_rest.proofs.StandingLemmas.{Standing, is_untaken, is_free, is_partial, is_fully_kept, is_in_large, cases_superblock}
-use Rattle.heap_at_rest.proofs.LeftLemmas.{listed_cases, partial_listed, full_not_partial, large_not_partial, full_holds}
+use Rattle.heap_at_rest.proofs.RecoveryLeftLemmas.{listed_cases, partial_listed, full_not_partial, large_not_partial, full_holds}
 use Rattle.heap_recover.proofs.AscendingLemmas.{ascending_one}
 
 -- links along one list begin alike, and are the same at its members

@@ -11,7 +11,7 @@ use Rattle.size_table.specs.declared.size_class.SizeClass.{SizeClass}
 use Rattle.heap_recover.specs.declared.roles.Role.{Role}
 use Rattle.heap_recover.specs.declared.roles.Role.TheVariants.{Free, Partial, Full, Large}
 use Rattle.heap_recover.specs.Roles.{IsRole, is_free, is_partial, is_full, is_large, list_of, IsMember}
-use Rattle.heap_at_rest.proofs.LeftLemmas.{full_holds, full_not_partial, partial_listed}
+use Rattle.heap_at_rest.proofs.RecoveryLeftLemmas.{full_holds, full_not_partial, partial_listed}
 
 -- classes of one number are one
 same_class : (a b : SizeClass) → a.number ≡ b.number → a ≡ b

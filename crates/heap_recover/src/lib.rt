@@ -6,7 +6,7 @@ mod chains;
 mod fault;
 mod in_place;
 mod laws;
-mod lists;
+mod chain_links;
 mod parts;
 mod passes;
 mod recovery;
@@ -23,7 +23,7 @@ pub use laws::{
     recovery_begun_again_gives_the_same, recovery_has_one_outcome,
     recovery_in_place_takes_few_steps,
 };
-pub use lists::{link_lists, members};
+pub use chain_links::{link_lists, members};
 pub use parts::SuperblockBlocks;
 pub use recovery::{
     current_copy, keep_marked, recover, recover_by, recover_current, recover_owned,
@@ -32,4 +32,4 @@ pub use recovery::{
 pub use roles::Role;
 pub use superblocks::{rebuild_superblock, write_descriptor};
 pub use surveys::{Survey, survey_parts, survey_superblock};
-pub use taken::{Found, InOrder, TakenPass};
+pub use taken::{Found, InOrder, RebuildPass};

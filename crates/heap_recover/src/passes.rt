@@ -8,17 +8,17 @@ ghost use Rattle.super_block.specs.Division.{Describes};
 ghost use Rattle.heap_recover.specs.Marked.{IsMarked, KeepsBlocks};
 ghost use Rattle.heap_recover.specs.Rebuilt.{AreDone, AreCleared, IsRebuild};
 
-use crate::lists::link_lists;
+use crate::chain_links::link_lists;
 use crate::roles::Role;
 use crate::superblocks::rebuild_superblock;
 use crate::surveys::survey_superblock;
-use crate::taken::{Found, TakenPass};
+use crate::taken::{Found, RebuildPass};
 use filter_trace::Marks;
 use std::alloc::{AllocError, Global};
 use super_block::{CAPACITY_WORD, DIRTY, Geometry, STATE_WORD, USED_WORD};
 
 /// Makes the words of an image those of a heap at rest that keeps the marked blocks.
-pub fn rebuild<P: TakenPass>(
+pub fn rebuild<P: RebuildPass>(
     alloc: Global,
     words: &mut [u64],
     marks: &Marks,

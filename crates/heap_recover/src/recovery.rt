@@ -16,9 +16,9 @@ ghost use Rattle.heap_recover.specs.Answer.{IsMadeOf};
 
 use crate::answer::{Recovered, Was};
 use crate::fault::RecoverFault;
-use crate::lists::members;
+use crate::chain_links::members;
 use crate::passes::rebuild;
-use crate::taken::{InOrder, TakenPass};
+use crate::taken::{InOrder, RebuildPass};
 use filter_trace::{Filter, Marks, trace};
 use region_header::{current, migrate, read_header};
 use std::alloc::{AllocError, Global};
@@ -111,7 +111,7 @@ pub fn recover_owned<F: Filter>(
 }
 
 /// The same, with this pass over the superblocks that have been taken.
-pub fn recover_by<F: Filter, P: TakenPass>(
+pub fn recover_by<F: Filter, P: RebuildPass>(
     alloc: Global,
     words: &[u64],
     kinds: &[u32],
@@ -162,7 +162,7 @@ pub fn recover_by<F: Filter, P: TakenPass>(
 }
 
 /// The same, with this pass over the superblocks that have been taken.
-pub fn recover_owned_by<F: Filter, P: TakenPass>(
+pub fn recover_owned_by<F: Filter, P: RebuildPass>(
     alloc: Global,
     words: Vec<u64>,
     kinds: &[u32],
@@ -221,7 +221,7 @@ pub fn current_copy(
 }
 
 /// Recovers an image of this version with a good header, of which it is known whether it was closed.
-pub fn recover_current<F: Filter, P: TakenPass>(
+pub fn recover_current<F: Filter, P: RebuildPass>(
     alloc: Global,
     words: Vec<u64>,
     closed: bool,
@@ -249,7 +249,7 @@ pub fn recover_current<F: Filter, P: TakenPass>(
 }
 
 /// The heap that is left of the words where the marked blocks are kept.
-pub fn keep_marked<P: TakenPass>(
+pub fn keep_marked<P: RebuildPass>(
     alloc: Global,
     mut words: Vec<u64>,
     marks: &Marks,

@@ -22,7 +22,7 @@ pub struct Found {
 }
 
 /// A way to rebuild the superblocks that have been taken. All ways leave the same words.
-pub trait TakenPass {
+pub trait RebuildPass {
     // What has to hold of the way for it to be taken.
     ghost ready: { Self → Type 0 };
 
@@ -49,7 +49,7 @@ pub trait TakenPass {
 /// One superblock after the other, from the lowest on.
 pub struct InOrder;
 
-impl TakenPass for InOrder {
+impl RebuildPass for InOrder {
     ghost ready = { λ _. ⊤ };
 
     fn rebuild_taken(

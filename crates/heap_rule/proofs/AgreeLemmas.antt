@@ -5,7 +5,7 @@ use Rattle.atomic_table.specs.Seated.{TableId}
 use Rattle.atomic_table.specs.Table.{Me}
 use Rattle.core_model.specs.declared.event.Event.TheVariants.{Settle}
 use Rattle.core_model.specs.View.{Setup, View}
-use Rattle.seat_notes.specs.declared.notes.SeatNotes.{SeatNotes}
+use Rattle.seat_state.specs.declared.notes.SeatNotes.{SeatNotes}
 use Rattle.heap_table.specs.AtTable.{SharedView, IsAt, MayPut, may_put, may_not, DoesIfMay, does, does_not, LearnsOwn, is_own, not_own}
 use Rattle.heap_table.specs.Plays.{HasSoundState, IsEvent, May}
 use Rattle.heap_table.specs.Reached.{learned}

@@ -16,8 +16,8 @@ use Rattle.core_model.specs.Sound.{IsCutBlock}
 use Rattle.core_model.proofs.BlockLemmas.{first_there}
 use Rattle.core_model.proofs.GiveLemmas as gives
 use Rattle.core_model.proofs.SoundLemmas.{batched}
-use Rattle.seat_notes.specs.declared.notes.SeatNotes.{SeatNotes}
-use Rattle.seat_notes.proofs.NewSeat.{empty_batch}
+use Rattle.seat_state.specs.declared.notes.SeatNotes.{SeatNotes}
+use Rattle.seat_state.proofs.NewSeat.{empty_batch}
 use Rattle.heap_table.specs.Plays.{HasSoundState, IsEvent}
 use Rattle.heap_rule.specs.Seated.{Fits, IsKeptOf}
 use Rattle.heap_table.specs.AtTable.{IsExchange}

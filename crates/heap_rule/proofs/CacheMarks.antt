@@ -7,7 +7,7 @@ use Rattle.core_model.specs.Memory.{memory_of, next, volatile_at}
 use Rattle.core_model.specs.View.{View, of_class, times_block}
 use Rattle.core_model.specs.Effects.{first_of}
 use Rattle.core_model.proofs.OwnerLemmas.{in_lists_total}
-use Rattle.seat_notes.proofs.WordLemmas.{read_is}
+use Rattle.seat_state.proofs.WordLemmas.{read_is}
 use Rattle.heap_table.specs.Plays.{HasSoundState}
 use Rattle.heap_rule.proofs.MarkLemmas.{entry_times}
 use Rattle.heap_rule.proofs.ViewLemmas.{block_cell, block_range}

@@ -9,11 +9,11 @@ use Rattle.core_model.specs.Memory.{Memory, memory_of, volatile_at, info, next}
 use Rattle.core_model.specs.View.{View, times_classed}
 use Rattle.core_model.specs.Effects.{seen_word, claim_class, chain, first_of, anchored_blocks, taken_all}
 use Rattle.core_model.proofs.SoundLemmas.{taken}
-use Rattle.seat_notes.specs.declared.notes.Cache.{Cache}
-use Rattle.seat_notes.specs.declared.notes.SeatNotes.{SeatNotes}
-use Rattle.seat_notes.specs.Notes.{HasCaches}
-use Rattle.seat_notes.proofs.CacheLemmas.{cache_set}
-use Rattle.seat_notes.proofs.WordLemmas.{read_is}
+use Rattle.seat_state.specs.declared.notes.Cache.{Cache}
+use Rattle.seat_state.specs.declared.notes.SeatNotes.{SeatNotes}
+use Rattle.seat_state.specs.Notes.{HasCaches}
+use Rattle.seat_state.proofs.CacheLemmas.{cache_set}
+use Rattle.seat_state.proofs.WordLemmas.{read_is}
 use Rattle.heap_table.specs.Plays.{HasSoundState, IsEvent}
 use Rattle.heap_rule.specs.Seated.{IsKeptOf}
 use Rattle.heap_rule.proofs.SeatLemmas.{keep_fits}

@@ -21,7 +21,7 @@ use Rattle.core_model.proofs.LinkFrameLemmas.{span_covers}
 use Rattle.core_model.proofs.OwnerLemmas.{in_lists_total}
 use Rattle.core_model.proofs.SpanLemmas.{block_of}
 use Rattle.core_model.proofs.TotalLemmas.{eq-eqb-one, ne-eqb-none}
-use Rattle.seat_notes.proofs.BlockRanges.{cut_range}
+use Rattle.seat_state.proofs.BlockRanges.{cut_range}
 use Rattle.heap_rule.specs.declared.owned.Change.{Change}
 use Rattle.heap_rule.specs.declared.owned.Change.TheVariants as change
 use Rattle.heap_rule.specs.declared.owned.Owned.{Owned}

@@ -21,7 +21,7 @@ use Rattle.heap_rule.specs.Shown.{Shows, ShowsDurable, ShowsEmpty, by_claim, by_
 use Rattle.heap_rule.specs.Seated.{SeatView}
 use Rattle.heap_rule.proofs.SettleLemmas.{own_below}
 use Rattle.heap_rule.proofs.ViewLemmas.{shown, below_capacity, block_cell, cut_cell, info_there}
-use Rattle.seat_notes.proofs.EndLemmas.{last_there}
+use Rattle.seat_state.proofs.EndLemmas.{last_there}
 
 module _ (v w : View) (word found : ℕ) (event : IsEvent (Settle word) v found w) where
   abbrev x : ℕ

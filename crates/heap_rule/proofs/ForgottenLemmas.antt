@@ -2,7 +2,7 @@
 use Rattle.std.proofs.Common.{◌≡◌, ◌≢◌, ℕ, None, ◌⊎◌, inl, inr, refl, sym, subst}
 use Rattle.core_model.specs.declared.event.Event.{Event}
 use Rattle.core_model.specs.declared.event.Event.TheVariants.{Tick, Load, Store, Settle, LookUsed, TakeFresh, KeepUsed, LookHead, LookLink, Pop, Push, LookAnchor, TakeAll, Give}
-use Rattle.seat_notes.specs.declared.notes.SeatNotes.{SeatNotes}
+use Rattle.seat_state.specs.declared.notes.SeatNotes.{SeatNotes}
 use Rattle.heap_rule.specs.Changed.{forgotten}
 
 pub head_forgotten : (event : Event) (t : SeatNotes) → (event ≡ Pop) ⊎ ((d : ℕ) × (event ≡ Push d)) → record t { seen_head = None } ≡ forgotten event t

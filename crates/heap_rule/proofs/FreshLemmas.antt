@@ -3,9 +3,9 @@ use Rattle.std.proofs.Common.{◌≡◌, ◌≢◌, ℕ, ◌+◌, Option, None, 
 use Rattle.core_model.specs.declared.event.Event.TheVariants.{TakeFresh}
 use Rattle.core_model.specs.View.{View}
 use Rattle.core_model.specs.Effects.{seen, cleared, taken_fresh}
-use Rattle.seat_notes.specs.declared.notes.SeatNotes.{SeatNotes}
-use Rattle.seat_notes.specs.declared.notes.Seen.{Seen}
-use Rattle.seat_notes.specs.Notes.{snapshot}
+use Rattle.seat_state.specs.declared.notes.SeatNotes.{SeatNotes}
+use Rattle.seat_state.specs.declared.notes.Seen.{Seen}
+use Rattle.seat_state.specs.Notes.{snapshot}
 use Rattle.heap_table.specs.Plays.{HasSoundState, IsEvent}
 use Rattle.heap_rule.specs.Seated.{IsKeptOf}
 use Rattle.heap_rule.proofs.SeatLemmas.{keep_fits}

@@ -10,7 +10,7 @@ use Rattle.core_model.specs.Guards.{IsOwn, MayAnchor, as_empty as may_empty, as_
 use Rattle.heap_table.specs.Plays.{HasSoundState}
 use Rattle.heap_rule.specs.Shown.{CanAnchor, as_empty, as_full, CanStore, CanList, as_free, of_its_class, CanPush, CanGive}
 use Rattle.heap_rule.proofs.ViewLemmas.{shown, below_capacity, block_cell, empty_shown}
-use Rattle.seat_notes.proofs.EndLemmas.{last_there}
+use Rattle.seat_state.proofs.EndLemmas.{last_there}
 
 module _ (v : View) (s : HasSoundState v) where
   abbrev m : Memory

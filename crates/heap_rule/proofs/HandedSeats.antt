@@ -14,8 +14,8 @@ use Rattle.core_model.proofs.CarrierLemmas.{carries_block}
 use Rattle.core_model.proofs.OwnLemmas.{only_at}
 use Rattle.atomic_table.specs.Seated.{TableId}
 use Rattle.atomic_table.specs.Table.{Me}
-use Rattle.seat_notes.specs.declared.notes.SeatNotes.{SeatNotes}
-use Rattle.seat_notes.specs.Notes.{HasBatch, HasCaches}
+use Rattle.seat_state.specs.declared.notes.SeatNotes.{SeatNotes}
+use Rattle.seat_state.specs.Notes.{HasBatch, HasCaches}
 use Rattle.heap_table.specs.AtTable.{IsAt, SharedView}
 use Rattle.heap_table.specs.Plays.{HasSoundState}
 use Rattle.heap_table.specs.SeatViews.{SeatViews, view_in}

@@ -10,10 +10,10 @@ use Rattle.core_model.specs.Effects.{seen_word, seen_of, before, cleared, claime
 use Rattle.core_model.specs.Guards.{IsThere}
 use Rattle.core_model.proofs.TotalLemmas.{total_at}
 use Rattle.core_model.proofs.ListLemmas.{number_once}
-use Rattle.seat_notes.specs.declared.notes.SeatNotes.{SeatNotes}
-use Rattle.seat_notes.specs.declared.notes.Seen.{Seen}
-use Rattle.seat_notes.specs.Notes.{snapshot}
-use Rattle.seat_notes.proofs.CountLemmas.{total_member}
+use Rattle.seat_state.specs.declared.notes.SeatNotes.{SeatNotes}
+use Rattle.seat_state.specs.declared.notes.Seen.{Seen}
+use Rattle.seat_state.specs.Notes.{snapshot}
+use Rattle.seat_state.proofs.CountLemmas.{total_member}
 use Rattle.heap_table.specs.Plays.{HasSoundState, IsEvent}
 use Rattle.heap_rule.specs.Seated.{Fits, IsKeptOf}
 use Rattle.heap_rule.proofs.SeatLemmas.{keep_fits}

@@ -18,7 +18,7 @@ use Rattle.core_model.proofs.LinkFrameLemmas.{span_covers}
 use Rattle.core_model.proofs.PlaceLemmas.{and_is, cell_at_index, pick}
 use Rattle.core_model.proofs.TotalLemmas.{total_at}
 use Rattle.heap_rule.specs.Held.{IsPlacedBelow}
-use Rattle.seat_notes.proofs.BlockRanges.{in_classes_word}
+use Rattle.seat_state.proofs.BlockRanges.{in_classes_word}
 use Rattle.heap_rule.specs.Left.{Lasts, a_data, a_root}
 use Rattle.heap_table.specs.Plays.{HasSoundState}
 use Rattle.heap_rule.proofs.CrashLemmas.{kept_capacity}

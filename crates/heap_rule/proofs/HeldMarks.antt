@@ -7,7 +7,7 @@ use Rattle.heap_model.specs.Counting.{one_if}
 use Rattle.heap_model.specs.Rest.{IsReady}
 use Rattle.core_model.specs.Opening.{is_small}
 use Rattle.core_model.proofs.PlaceLemmas.{and_both, and_is}
-use Rattle.seat_notes.proofs.HeldSoFar.{held_so_far, large_more, mine_elsewhere, mine_here, more_theirs}
+use Rattle.seat_state.proofs.HeldSoFar.{held_so_far, large_more, mine_elsewhere, mine_here, more_theirs}
 
 -- each number is marked as often as the seat has, of the first held blocks, a small one that begins there
 abbrev pub MarksFirst : List Block → List ℕ → ℕ → ℕ → List Bool → Type 0

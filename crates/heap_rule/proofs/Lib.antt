@@ -19,7 +19,7 @@ pub mod NoteLemmas
 pub mod ToldLemmas
 pub mod SeatImageLemmas
 pub mod ClosedLemmas
-pub mod LeftLemmas
+pub mod WordsLeftLemmas
 pub mod RawLemmas
 pub mod MarkLemmas
 pub mod OwnedLemmas

@@ -7,7 +7,7 @@ use Rattle.core_model.specs.Cells.{superblock_at}
 use Rattle.core_model.specs.View.{View, of_class}
 use Rattle.core_model.specs.Effects.{first_of, rest_of, span_count}
 use Rattle.core_model.specs.Guards.{MayAlloc}
-use Rattle.seat_notes.specs.declared.notes.SeatNotes.{SeatNotes}
+use Rattle.seat_state.specs.declared.notes.SeatNotes.{SeatNotes}
 use Rattle.heap_rule.specs.declared.owned.Change.TheVariants as change
 use Rattle.heap_rule.specs.Changed.{CanUncache, FitsNotes, cache_of, uncached}
 use Rattle.heap_rule.specs.Seated.{IsKeptOf, FitsShift}

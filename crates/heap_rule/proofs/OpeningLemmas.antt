@@ -3,13 +3,13 @@ use Rattle.std.proofs.Common.{◌≡◌, ℕ, zero, suc, ◌+◌, ◌<◌, List,
 use Rattle.std.proofs.lemmas.List.{append-nil}
 use Rattle.atomic_table.specs.Seated.{TableId}
 use Rattle.atomic_table.specs.Table.{Me}
-use Rattle.line_memory.proofs.StepLemmas.{unmarked}
+use Rattle.line_memory.proofs.LineStepLemmas.{unmarked}
 use Rattle.core_model.specs.Opening.{tabulate}
 use Rattle.core_model.specs.View.{View}
 use Rattle.line_memory.specs.Marks.{mark_at}
 use Rattle.core_model.specs.Sound.{Sound}
 use Rattle.core_model.proofs.OpenLemmas.{length_tabulate, tabulate_at}
-use Rattle.seat_notes.proofs.NewSeat.{new_seat, no_caches}
+use Rattle.seat_state.proofs.NewSeat.{new_seat, no_caches}
 use Rattle.heap_table.proofs.ReachedLemmas.{opened_counted}
 use Rattle.heap_table.specs.SeatViews.{SeatViews, first_view, other_views}
 use Rattle.heap_table.specs.Rule.{Opening, IsOpened, setup_for, state_of, opened_views, opened_view_of}

@@ -12,7 +12,7 @@ use Rattle.core_model.proofs.PlaceLemmas.{pick, skip, not-eq}
 use Rattle.core_model.proofs.SpanLemmas.{range_is, range_not, times_range, without_range_in, without_range_out, without_span_is, span_other, cases_range, in_range}
 use Rattle.core_model.proofs.TotalLemmas.{eq-eqb-one, ne-eqb-none}
 use Rattle.heap_model.proofs.ListLemmas.{without_at}
-use Rattle.seat_notes.proofs.CountLemmas.{without_off, class_absent, no_span}
+use Rattle.seat_state.proofs.CountLemmas.{without_off, class_absent, no_span}
 use Rattle.heap_rule.specs.declared.owned.Ownership.{Ownership}
 use Rattle.heap_rule.specs.declared.owned.Ownership.TheVariants as ownership
 use Rattle.heap_rule.specs.Owned.{listed, OwnedParts, IsOwnership, HaveOwnership}

@@ -14,15 +14,15 @@ use Rattle.core_model.proofs.OpenLemmas.{length_tabulate, tabulate_at, small_mem
 use Rattle.core_model.proofs.OpenCountLemmas.{beyond, empty_at}
 use Rattle.core_model.proofs.OpenedLemmas.{opened}
 use Rattle.core_model.proofs.OwnerLemmas.{in_lists_total}
-use Rattle.seat_notes.specs.declared.superblocks.SuperblockOwner.{SuperblockOwner}
-use Rattle.seat_notes.specs.declared.superblocks.SuperblockUsage.{SuperblockUsage}
-use Rattle.seat_notes.specs.declared.superblocks.SuperblockUsage.TheVariants as usage
-use Rattle.seat_notes.specs.OwnerLists.{OwnerLists}
-use Rattle.seat_notes.specs.OpenedSuperblocks.{AreSuperblockOwners}
-use Rattle.seat_notes.specs.Superblocks.{usage_for, no_superblock, IsUsage}
-use Rattle.seat_notes.proofs.HeldSoFar.{none_cached}
-use Rattle.seat_notes.proofs.DecisionLemmas.{one_true}
-use Rattle.seat_notes.proofs.PickedLemmas.{roots_of}
+use Rattle.seat_state.specs.declared.superblocks.SuperblockOwner.{SuperblockOwner}
+use Rattle.seat_state.specs.declared.superblocks.SuperblockUsage.{SuperblockUsage}
+use Rattle.seat_state.specs.declared.superblocks.SuperblockUsage.TheVariants as usage
+use Rattle.seat_state.specs.OwnerLists.{OwnerLists}
+use Rattle.seat_state.specs.OpenedSuperblocks.{AreSuperblockOwners}
+use Rattle.seat_state.specs.Superblocks.{usage_for, no_superblock, IsUsage}
+use Rattle.seat_state.proofs.HeldSoFar.{none_cached}
+use Rattle.seat_state.proofs.DecisionLemmas.{one_true}
+use Rattle.seat_state.proofs.PickedLemmas.{roots_of}
 use Rattle.heap_rule.specs.declared.owned.Ownership.TheVariants as ownership
 use Rattle.heap_rule.specs.declared.owned.Owned.{Owned}
 use Rattle.heap_rule.specs.Owned.{most_blocks, ownership_for, opened_parts, parts_of, OwnedParts, IsOwnership, HasOwned, times_had}

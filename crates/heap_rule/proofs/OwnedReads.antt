@@ -20,10 +20,10 @@ use Rattle.core_model.proofs.LinkFrameLemmas.{span_covers}
 use Rattle.core_model.proofs.OwnLemmas.{one_at_most}
 use Rattle.core_model.proofs.OwnerLemmas.{in_blocks, covered, which_class, in_lists_total}
 use Rattle.core_model.proofs.TotalLemmas.{total_at}
-use Rattle.seat_notes.proofs.DecisionLemmas.{one_true, refused}
-use Rattle.seat_notes.proofs.BlockRanges.{within_word, in_classes_word}
-use Rattle.seat_notes.proofs.CountLemmas.{no_span}
-use Rattle.seat_notes.proofs.WordLemmas.{entry_is}
+use Rattle.seat_state.proofs.DecisionLemmas.{one_true, refused}
+use Rattle.seat_state.proofs.BlockRanges.{within_word, in_classes_word}
+use Rattle.seat_state.proofs.CountLemmas.{no_span}
+use Rattle.seat_state.proofs.WordLemmas.{entry_is}
 use Rattle.heap_rule.specs.declared.owned.Ownership.{Ownership}
 use Rattle.heap_rule.specs.declared.owned.Ownership.TheVariants as ownership
 use Rattle.heap_rule.specs.declared.owned.Owned.{Owned}

@@ -23,9 +23,9 @@ use Rattle.core_model.proofs.OwnLemmas.{one_at_most}
 use Rattle.core_model.proofs.OwnerLemmas.{which_class}
 use Rattle.core_model.proofs.SoundLemmas.{batched}
 use Rattle.core_model.proofs.TotalLemmas.{total_at, eq-eqb-one, ne-eqb-none}
-use Rattle.seat_notes.proofs.BlockRanges.{cut_range}
+use Rattle.seat_state.proofs.BlockRanges.{cut_range}
 use Rattle.heap_model.proofs.ListLemmas.{without_at}
-use Rattle.seat_notes.proofs.CountLemmas.{without_off}
+use Rattle.seat_state.proofs.CountLemmas.{without_off}
 use Rattle.heap_rule.specs.declared.owned.Ownership.{Ownership}
 use Rattle.heap_rule.specs.declared.owned.Ownership.TheVariants as ownership
 use Rattle.heap_rule.specs.declared.owned.Owned.{Owned}

@@ -5,15 +5,15 @@ use Rattle.core_model.specs.declared.event.Event.TheVariants.{Load, LookLink, Lo
 use Rattle.atomic_table.specs.Seated.{TableId}
 use Rattle.atomic_table.specs.Table.{Me}
 use Rattle.core_model.specs.View.{Setup, View}
-use Rattle.seat_notes.specs.declared.notes.SeatNotes.{SeatNotes}
+use Rattle.seat_state.specs.declared.notes.SeatNotes.{SeatNotes}
 use Rattle.core_model.specs.Effects.{used_up}
-use Rattle.seat_notes.specs.Notes.{HasNotes}
+use Rattle.seat_state.specs.Notes.{HasNotes}
 use Rattle.heap_rule.specs.declared.owned.Owned.{Owned}
 use Rattle.heap_table.specs.Plays.{HasSoundState, IsEvent}
 use Rattle.heap_table.specs.AtTable.{SharedView, IsAt}
 use Rattle.heap_rule.specs.Seated.{Fits, IsKeptOf, IsSingleSeat, IsWholeSeat}
 use Rattle.heap_table.specs.SeatViews.{SeatViews, view_in}
-use Rattle.heap_table.proofs.StepLemmas.{has_after}
+use Rattle.heap_table.proofs.TableStepLemmas.{has_after}
 
 pub keep_fits : (notes : SeatNotes) (v w : View) → w ≡ v → HasSoundState w → Fits notes v → IsKeptOf notes w
 keep_fits notes v w same has fits = subst (λ u. HasSoundState u → IsKeptOf notes u) (sym same) (λ h. record { has = h; notes_are = fits.notes_are; caches = fits.caches; batch = fits.batch }) has

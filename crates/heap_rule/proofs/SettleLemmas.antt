@@ -13,7 +13,7 @@ use Rattle.core_model.proofs.SoundLemmas.{sound_step}
 use Rattle.core_model.specs.Guards.{IsOwn, MayStep}
 use Rattle.core_model.proofs.PlaceLemmas.{pick, cell_there, index_at, index_within}
 use Rattle.core_model.proofs.QuietLemmas.{own_same}
-use Rattle.seat_notes.specs.declared.notes.SeatNotes.{SeatNotes}
+use Rattle.seat_state.specs.declared.notes.SeatNotes.{SeatNotes}
 use Rattle.heap_table.specs.Plays.{HasSoundState, IsEvent}
 use Rattle.heap_table.specs.Reached.{learned}
 use Rattle.atomic_table.specs.Seated.{TableId}
@@ -23,7 +23,7 @@ use Rattle.heap_table.specs.AtTable.{SharedView, IsAt, IsStore}
 use Rattle.heap_rule.specs.Seated.{IsKeptOf, IsSingleSeat}
 use Rattle.heap_rule.specs.Shown.{Can}
 use Rattle.heap_rule.proofs.SeatLemmas.{keep_fits}
-use Rattle.heap_table.proofs.StepLemmas.{has_after}
+use Rattle.heap_table.proofs.TableStepLemmas.{has_after}
 use Rattle.heap_rule.proofs.ViewLemmas.{shown}
 use Rattle.heap_rule.proofs.ShownLemmas.{may_of}
 

@@ -15,15 +15,15 @@ use Rattle.core_model.proofs.CountLemmas.{length_steps}
 use Rattle.core_model.proofs.BlockLemmas.{first_there}
 use Rattle.core_model.proofs.OwnerLemmas.{in_lists_total}
 use Rattle.core_model.proofs.PlaceLemmas.{index_within}
-use Rattle.seat_notes.specs.declared.notes.Cache.{Cache}
-use Rattle.seat_notes.specs.declared.notes.SeatNotes.{SeatNotes}
-use Rattle.seat_notes.specs.declared.notes.Seen.{Seen}
-use Rattle.seat_notes.specs.Notes.{HasCaches, snapshot}
-use Rattle.seat_notes.proofs.CacheLemmas.{cache_set}
-use Rattle.seat_notes.proofs.EndLemmas.{first_append, last_append, length_append, rest_length, rest_first}
-use Rattle.seat_notes.proofs.CountLemmas.{no_span}
-use Rattle.seat_notes.proofs.NewSeat.{no_cache}
-use Rattle.seat_notes.proofs.WordLemmas.{entry_is, read_is}
+use Rattle.seat_state.specs.declared.notes.Cache.{Cache}
+use Rattle.seat_state.specs.declared.notes.SeatNotes.{SeatNotes}
+use Rattle.seat_state.specs.declared.notes.Seen.{Seen}
+use Rattle.seat_state.specs.Notes.{HasCaches, snapshot}
+use Rattle.seat_state.proofs.CacheLemmas.{cache_set}
+use Rattle.seat_state.proofs.EndLemmas.{first_append, last_append, length_append, rest_length, rest_first}
+use Rattle.seat_state.proofs.CountLemmas.{no_span}
+use Rattle.seat_state.proofs.NewSeat.{no_cache}
+use Rattle.seat_state.proofs.WordLemmas.{entry_is, read_is}
 use Rattle.heap_table.specs.Plays.{HasSoundState}
 use Rattle.heap_rule.specs.Seated.{IsKeptOf, FitsShift}
 use Rattle.heap_rule.specs.Shown.{CanFree, CanCut}

@@ -8,7 +8,7 @@ use Rattle.heap_model.proofs.SizeLemmas.{four_blocks}
 use Rattle.core_model.specs.View.{of_class}
 use Rattle.core_model.specs.Effects.{rest_of, steps}
 use Rattle.core_model.proofs.BlockLemmas.{of_class_same, of_class_other}
-use Rattle.seat_notes.proofs.WordLemmas.{entry_is}
+use Rattle.seat_state.proofs.WordLemmas.{entry_is}
 use Rattle.heap_rule.specs.declared.stacks.Stack.{Stack}
 use Rattle.heap_rule.specs.Stacks.{IsTopOf, AreStacks, HasStack, IsRestacked}
 

@@ -7,14 +7,14 @@ use Rattle.core_model.specs.View.{View, times_own}
 use Rattle.core_model.specs.Effects.{last_of, learn, stored, used_up}
 use Rattle.core_model.specs.Guards.{IsOwn}
 use Rattle.core_model.proofs.PlaceLemmas.{cell_at_index, index_at, cell_there}
-use Rattle.seat_notes.specs.declared.notes.BatchEnds.{BatchEnds}
-use Rattle.seat_notes.specs.declared.notes.SeatNotes.{SeatNotes}
-use Rattle.seat_notes.specs.Notes.{HasCaches, HasBatch}
+use Rattle.seat_state.specs.declared.notes.BatchEnds.{BatchEnds}
+use Rattle.seat_state.specs.declared.notes.SeatNotes.{SeatNotes}
+use Rattle.seat_state.specs.Notes.{HasCaches, HasBatch}
 use Rattle.heap_table.specs.Plays.{HasSoundState, IsEvent}
 use Rattle.heap_rule.specs.Seated.{Fits, IsKeptOf}
 use Rattle.heap_rule.proofs.SeatLemmas.{keep_fits}
 use Rattle.heap_rule.proofs.ViewLemmas.{block_cell}
-use Rattle.seat_notes.proofs.EndLemmas.{last_there}
+use Rattle.seat_state.proofs.EndLemmas.{last_there}
 
 -- no block is the last of none
 pub of_none : (bs : List ℕ) → length bs ≡ 0 → last_of bs ≡ 0

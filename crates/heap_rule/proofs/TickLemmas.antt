@@ -6,8 +6,8 @@ use Rattle.core_model.specs.Memory.{Memory, memory_of}
 use Rattle.core_model.specs.View.{View}
 use Rattle.core_model.specs.Effects.{drew, stopped, shifted}
 use Rattle.core_model.proofs.PlaceLemmas.{pick, skip, not-lt}
-use Rattle.seat_notes.proofs.DecisionLemmas.{going_on}
-use Rattle.seat_notes.specs.declared.notes.SeatNotes.{SeatNotes}
+use Rattle.seat_state.proofs.DecisionLemmas.{going_on}
+use Rattle.seat_state.specs.declared.notes.SeatNotes.{SeatNotes}
 use Rattle.heap_table.specs.Plays.{HasSoundState, IsEvent}
 use Rattle.heap_rule.specs.Seated.{IsKeptOf, FitsShift}
 use Rattle.heap_rule.proofs.SeatLemmas.{keep_fits}

@@ -18,8 +18,8 @@ use Rattle.core_model.proofs.BlockLemmas.{inside_of}
 use Rattle.core_model.proofs.SpanLemmas.{block_of}
 use Rattle.core_model.proofs.SoundLemmas.{taken}
 use Rattle.core_model.proofs.OwnerLemmas.{in_lists_total}
-use Rattle.seat_notes.proofs.BlockRanges.{cut_range}
-use Rattle.seat_notes.proofs.CountLemmas.{short, list_at_most}
+use Rattle.seat_state.proofs.BlockRanges.{cut_range}
+use Rattle.seat_state.proofs.CountLemmas.{short, list_at_most}
 use Rattle.heap_table.specs.Plays.{HasSoundState}
 use Rattle.heap_rule.specs.Shown.{Shows, ShowsDurable, ShowsEmpty, by_claim, by_anchor, by_look, ShowsLinks}
 

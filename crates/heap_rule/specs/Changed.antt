@@ -11,9 +11,9 @@ use Rattle.core_model.specs.Cells.{superblock_at}
 use Rattle.core_model.specs.Memory.{memory_of}
 use Rattle.core_model.specs.View.{View}
 use Rattle.core_model.specs.Effects.{class_blocks, cleared, rest_of, shifted, drew}
-use Rattle.seat_notes.specs.declared.notes.Cache.{Cache}
-use Rattle.seat_notes.specs.declared.notes.SeatNotes.{SeatNotes}
-use Rattle.seat_notes.specs.Notes.{snapshot}
+use Rattle.seat_state.specs.declared.notes.Cache.{Cache}
+use Rattle.seat_state.specs.declared.notes.SeatNotes.{SeatNotes}
+use Rattle.seat_state.specs.Notes.{snapshot}
 use Rattle.heap_rule.specs.declared.owned.Ownership.{Ownership}
 use Rattle.heap_rule.specs.declared.owned.Ownership.TheVariants as ownership
 use Rattle.heap_rule.specs.declared.owned.Change.{Change}

@@ -8,9 +8,9 @@ use Rattle.core_model.specs.View.{View, Claim, Span, of_class, times_classed, ti
 use Rattle.core_model.specs.Effects.{claim_class, span_count}
 use Rattle.core_model.specs.Opening.{setup_of, opened_view}
 use Rattle.super_block.specs.Contents.{Contents}
-use Rattle.seat_notes.specs.OwnerLists.{OwnerLists}
-use Rattle.seat_notes.specs.declared.superblocks.SuperblockUsage.{SuperblockUsage}
-use Rattle.seat_notes.specs.declared.superblocks.SuperblockUsage.TheVariants as usage
+use Rattle.seat_state.specs.OwnerLists.{OwnerLists}
+use Rattle.seat_state.specs.declared.superblocks.SuperblockUsage.{SuperblockUsage}
+use Rattle.seat_state.specs.declared.superblocks.SuperblockUsage.TheVariants as usage
 use Rattle.heap_rule.specs.declared.owned.Ownership.{Ownership}
 use Rattle.heap_rule.specs.declared.owned.Ownership.TheVariants as ownership
 use Rattle.heap_rule.specs.declared.owned.Owned.{Owned}

@@ -14,7 +14,7 @@ ghost use Rattle.heap_rule.specs.Seated.{Tells};
 
 use core_model::Event;
 use heap_table::{Shared, TableSeat, exchange};
-use seat_notes::SeatNotes;
+use seat_state::SeatNotes;
 
 /// Exchanges a word, if it is as it was seen; else tells it, and nothing is noted of it any more.
 pub(crate) fn exchange_seen(

@@ -19,7 +19,7 @@ use crate::owned::{Ownership, own_range};
 use crate::seat::Seat;
 use core_model::Event;
 use heap_table::{Shared, raise};
-use seat_notes::Seen;
+use seat_state::Seen;
 use super_block::USED_WORD;
 
 impl Seat {

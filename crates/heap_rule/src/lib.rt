@@ -4,7 +4,7 @@
 #![tactic(auto)]
 
 mod carrier;
-mod chains;
+mod anchor_exchanges;
 mod closed_laws;
 mod closing;
 mod draws;
@@ -15,7 +15,7 @@ mod handing;
 mod handing_laws;
 mod image_laws;
 mod laws;
-mod lists;
+mod head_exchanges;
 mod looks;
 mod notes;
 mod opening;
@@ -30,7 +30,7 @@ mod stacks;
 mod step_laws;
 mod stores;
 mod ticks;
-mod told;
+mod view_reads;
 mod view_laws;
 mod words;
 

@@ -8,7 +8,7 @@ ghost use Rattle.heap_rule.specs.Shown.{Can};
 use crate::seat::Seat;
 use core_model::Event;
 use heap_table::{Shared, look};
-use seat_notes::{Seen, head_first};
+use seat_state::{Seen, head_first};
 use super_block::{HEAD_WORD, USED_WORD};
 
 impl Seat {

@@ -5,7 +5,7 @@ ghost use Rattle.std.specs.Prelude.{◌<◌, ◌≤◌, ◌+◌, length};
 ghost use Rattle.heap_rule.specs.Changed.{CanNote, CanUncache, IsNoted, IsUncached};
 
 use crate::owned::Change;
-use seat_notes::{BatchEnds, Cache, SeatNotes, Seen};
+use seat_state::{BatchEnds, Cache, SeatNotes, Seen};
 use size_table::blocks_of;
 use super_block::{Geometry, SUPERBLOCK_WORDS};
 

@@ -12,7 +12,7 @@ ghost use Rattle.heap_rule.specs.Seats.{AreOpenedSeats, dealt_seats};
 use crate::owned_opening::{Room, opened_rooms};
 use crate::seat::Seat;
 use heap_table::{Shared, TableSeat, open_table, split_first};
-use seat_notes::{NEW_SEAT, Owners};
+use seat_state::{NEW_SEAT, Owners};
 use std::alloc::{AllocError, Global};
 use std::collections::VecDeque;
 use super_block::{Geometry, Ready};

@@ -10,7 +10,7 @@ ghost use Rattle.heap_rule.specs.Seated.{IsSeatOf};
 
 use crate::seat::Seat;
 use heap_table::Shared;
-use seat_notes::{Part, part_at};
+use seat_state::{Part, part_at};
 use size_table::SizeClass;
 use super_block::{Block, LAST_CLASS, SUPERBLOCK_WORDS, WORD_BYTES, block_words};
 

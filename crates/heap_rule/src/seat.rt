@@ -3,7 +3,7 @@
 use crate::owned::Owned;
 use heap_table::TableSeat;
 use line_memory::{Pending, RecentStores};
-use seat_notes::SeatNotes;
+use seat_state::SeatNotes;
 use std::marker::Model;
 use super_block::Geometry;
 

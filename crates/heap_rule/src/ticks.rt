@@ -13,7 +13,7 @@ use crate::seat::Seat;
 use core_model::{Event, Shift};
 use heap_table::{Shared, draw};
 use line_memory::Stopped;
-use seat_notes::ticket_place;
+use seat_state::ticket_place;
 
 impl Seat {
     /// Draws a ticket, with a change of the seat's parts where there is one; a seat that has

@@ -15,7 +15,7 @@ use Rattle.heap_model.proofs.MemberLemmas.{in_none, head_or_rest, map_in}
 use Rattle.heap_model.proofs.CountingLemmas.{total_some, one_if_true, one_if_false, times_some, is_number, number_below}
 use Rattle.heap_at_rest.proofs.PartLemmas.{long_takes}
 use Rattle.heap_at_rest.proofs.ListLemmas.{in_map, times_of}
-use Rattle.heap_at_rest.proofs.LeftLemmas.{counts_large}
+use Rattle.heap_at_rest.proofs.RecoveryLeftLemmas.{counts_large}
 use Rattle.heap_shape.specs.Shape.{Place, in_list, is_full, in_large, is_new, Shape, stands_in}
 use Rattle.heap_shape.specs.Standing.{first_of, IsFirstOf, HasOneOwner, a_free, a_held, HasFreeBlocks, IsFullSuperblock, IsAs}
 use Rattle.heap_shape.specs.Whole.{IsShape}

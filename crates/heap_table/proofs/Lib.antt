@@ -6,5 +6,5 @@ pub mod ClosingLemmas
 pub mod RuleLemmas
 pub mod BudgetLemmas
 pub mod UntakenLemmas
-pub mod StepLemmas
+pub mod TableStepLemmas
 pub mod HandingLemmas

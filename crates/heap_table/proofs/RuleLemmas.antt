@@ -18,7 +18,7 @@ use Rattle.core_model.proofs.SoundLemmas.{in_table, sound_step}
 use Rattle.core_model.specs.Carriers.{AreSeatsAndCarriers}
 use Rattle.core_model.proofs.CarrierLemmas.{same_roles}
 use Rattle.core_model.proofs.RoleLemmas.{role_after}
-use Rattle.seat_notes.proofs.WordLemmas.{read_is}
+use Rattle.seat_state.proofs.WordLemmas.{read_is}
 use Rattle.heap_table.specs.SeatViews.{SeatViews, IsSingle, all_views}
 use Rattle.heap_table.specs.Reached.{IsReached, by_event, by_record, learned}
 use Rattle.heap_table.specs.Rule.{Opening, HasAllSeats, Holds, setup_for, state_of}

@@ -7,7 +7,7 @@ use Rattle.core_model.specs.Carriers.{AreSeatsAndCarriers}
 use Rattle.core_model.specs.Sound.{Sound}
 use Rattle.core_model.specs.Steps.{TableState}
 use Rattle.core_model.specs.Opening.{setup_of, opened_view, opened_state}
-use Rattle.seat_notes.specs.OwnerLists.{OwnerLists}
+use Rattle.seat_state.specs.OwnerLists.{OwnerLists}
 use Rattle.super_block.specs.Contents.{Contents}
 use Rattle.heap_table.specs.Reached.{IsReached}
 use Rattle.heap_table.specs.SeatViews.{SeatViews, all_views}

@@ -8,7 +8,7 @@ ghost use Rattle.heap_table.specs.SeatViews.{first_view, other_views};
 use crate::rule::{Known, OpenedHeap, TableSeat};
 use crate::shared::Shared;
 use atomic_table::{Split, Table};
-use seat_notes::{Owners, opened_table};
+use seat_state::{Owners, opened_table};
 use std::alloc::{AllocError, Global};
 use super_block::Ready;
 

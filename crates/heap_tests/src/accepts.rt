@@ -5,7 +5,7 @@ use crate::fixtures::{MANY, must_hold, recovered};
 use crate::offers::{ONE_FREE, hold_two, offer};
 use crate::schedules::parse;
 use crash_core::{Core, StepAnswer};
-use image_text::number;
+use test_images::number;
 use std::process::Abort;
 use std::test::Fail;
 

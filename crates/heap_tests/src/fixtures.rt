@@ -4,7 +4,7 @@ ghost use Rattle.std.specs.Prelude.{◌≤◌};
 use block_heap::{AllocFault, Block, HeapSeat, SeqHeap};
 use dictionary::{DictFilter, root_kinds};
 use heap_recover::{RecoverFault, Recovered, recover};
-use image_text::{image_of, number};
+use test_images::{image_of, number};
 use line_memory::ConstantChance;
 use std::alloc::Global;
 use std::process::Abort;

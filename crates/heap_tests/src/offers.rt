@@ -4,7 +4,7 @@ use crate::cores::{DRAW, held_after_a_crash, must_take, opened, take};
 use crate::fixtures::{MANY, must_hold, recovered};
 use crate::schedules::parse;
 use crash_core::{Core, Event, StepAnswer};
-use image_text::number;
+use test_images::number;
 use std::process::Abort;
 use std::test::Fail;
 use super_block::Block;

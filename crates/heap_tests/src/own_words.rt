@@ -2,7 +2,7 @@
 use crate::guards::{is_row, steps, try_guard, try_guards};
 use crate::pieces::image;
 use crash_core::Event::{self, Load, Settle, Store};
-use image_text::number;
+use test_images::number;
 use std::process::Abort;
 use std::test::Fail;
 

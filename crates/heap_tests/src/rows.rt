@@ -9,7 +9,7 @@ use crate::cores::{held_after_a_crash, opened, take_drawn};
 use crate::fixtures::{MANY, must_hold, recovered};
 use crate::schedules::parse;
 use crash_core::{Core, StepAnswer};
-use image_text::number;
+use test_images::number;
 use std::alloc::Global;
 use std::process::Abort;
 use std::test::Fail;

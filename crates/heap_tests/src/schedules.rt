@@ -3,7 +3,7 @@
 //! A schedule has lines, between commas: the number of a seat, and an event or a change of the
 //! seat's parts with its numbers, as in `0 head 4, 0 link, 0 store link:0 7`.
 use crash_core::{Event, Shift};
-use image_text::number;
+use test_images::number;
 use std::test::Fail;
 
 /// The number that the word tells, or 0 where there is no word.

@@ -17,7 +17,7 @@ use Rattle.core_model.proofs.OpenedLemmas.{opened}
 use Rattle.core_model.proofs.SoundLemmas.{sound_runs}
 use Rattle.core_model.proofs.HeaderLemmas.{crash_header}
 use Rattle.crash_core.specs.declared.state.CoreState.{CoreState}
-use Rattle.crash_core.specs.Standing.{StandsFor, RunsOn}
+use Rattle.crash_core.specs.Standing.{Represents, RunsOn}
 use Rattle.heap_model.proofs.HeaderLemmas.{good_header}
 use Rattle.dict_model.specs.Links.{kind_count}
 use Rattle.image_run.specs.Replaying.{events_of, replay_setup, replay_opening, IsReplayed}
@@ -35,20 +35,20 @@ first_owns held seats some = record {
 -- what the core does is what the seats do
 pub ended : (words : List ℕ) (held : List Block) (seats : ℕ) (lines : List (ℕ × Event)) (block_owners root_owners : List ℕ) (events : List (ℕ × Event)) (answers : List StepAnswer)
     (old new : CoreState) → block_owners ≡ replicate (length held) 0 → root_owners ≡ replicate roots 0 → events ≡ events_of lines
-    → StandsFor old (replay_setup words seats) (opened_state (replay_setup words seats) held block_owners root_owners seats) → RunsOn old events answers new
-    → (s : TableState) × Runs (replay_setup words seats) (replay_opening words held seats) (events_of lines) answers s × StandsFor new (replay_setup words seats) s
+    → Represents old (replay_setup words seats) (opened_state (replay_setup words seats) held block_owners root_owners seats) → RunsOn old events answers new
+    → (s : TableState) × Runs (replay_setup words seats) (replay_opening words held seats) (events_of lines) answers s × Represents new (replay_setup words seats) s
 ended words held seats lines block_owners root_owners events answers old new blocks_are roots_are events_are stands runs =
-    let here = subst (λ (l : List ℕ). StandsFor old (replay_setup words seats) (opened_state (replay_setup words seats) held l (replicate roots 0) seats)) blocks_are
-    (subst (λ (l : List ℕ). StandsFor old (replay_setup words seats) (opened_state (replay_setup words seats) held block_owners l seats)) roots_are stands) in
+    let here = subst (λ (l : List ℕ). Represents old (replay_setup words seats) (opened_state (replay_setup words seats) held l (replicate roots 0) seats)) blocks_are
+    (subst (λ (l : List ℕ). Represents old (replay_setup words seats) (opened_state (replay_setup words seats) held block_owners l seats)) roots_are stands) in
     let ran = runs (replay_setup words seats) (replay_opening words held seats) here in
     (ran.0, subst (λ (es : List (ℕ × Event)). Runs (replay_setup words seats) (replay_opening words held seats) es answers ran.0) events_are ran.1, ran.2)
 
 -- and of the state that they come to it gives the tickets, and an image that a crash leaves
 pub replayed : (words : List ℕ) (held : List Block) (seats : ℕ) (lines : List (ℕ × Event)) (answers : List StepAnswer) (tickets : ℕ) (left : List ℕ) (new : CoreState)
-    → (s : TableState) × Runs (replay_setup words seats) (replay_opening words held seats) (events_of lines) answers s × StandsFor new (replay_setup words seats) s
-    → ((k : Setup) (s : TableState) → StandsFor new k s → tickets ≡ (memory_of k.capacity s.words).drawn)
-    → ((k : Setup) (s : TableState) → StandsFor new k s → IsCrashImage (durable_image k.capacity s.words) (slice_index left))
-    → ((k : Setup) (s : TableState) → StandsFor new k s → length left ≡ image_words k.capacity)
+    → (s : TableState) × Runs (replay_setup words seats) (replay_opening words held seats) (events_of lines) answers s × Represents new (replay_setup words seats) s
+    → ((k : Setup) (s : TableState) → Represents new k s → tickets ≡ (memory_of k.capacity s.words).drawn)
+    → ((k : Setup) (s : TableState) → Represents new k s → IsCrashImage (durable_image k.capacity s.words) (slice_index left))
+    → ((k : Setup) (s : TableState) → Represents new k s → length left ≡ image_words k.capacity)
     → IsReplayed words held seats lines answers tickets left
 replayed words held seats lines answers tickets left new end drawn crash long = record {
   state = end.0;

@@ -3,7 +3,7 @@ mod SettledLemmas
 pub mod TextLemmas
 pub mod RecoveredLemmas
 pub mod CarryLemmas
-pub mod LeftLemmas
+pub mod CommandLeftLemmas
 pub mod PutLemmas
 mod UntakenLemmas
 pub mod OneRecoveryLemmas

@@ -4,7 +4,7 @@
 
 mod fault;
 mod laws;
-mod left;
+mod recovering;
 mod lines;
 mod options;
 mod product;

@@ -7,14 +7,14 @@ ghost use Rattle.crash_image.specs.Crash.{GivesAll, transient_words};
 ghost use Rattle.core_model.specs.Held.{durable_image};
 ghost use Rattle.core_model.specs.Steps.{TableState};
 ghost use Rattle.core_model.specs.View.{Setup};
-ghost use Rattle.crash_core.specs.Standing.{StandsFor};
+ghost use Rattle.crash_core.specs.Standing.{Represents};
 ghost use Rattle.dict_model.specs.Links.{kind_count};
 ghost use Rattle.tool_ports.specs.Chances.{ComesFrom, ComesFromSeed};
 ghost use Rattle.trace_text.specs.Answered.{answers_text_of, tickets_line_of};
 ghost use Rattle.image_run.specs.Replaying.{CanBeReplayed, IsReplayed, LeavesOutside, ReplayAsks, Replays, StopsReplay};
 
 use crate::fault::ReplayFault;
-use crate::left::recover_left;
+use crate::recovering::recover_left;
 use crate::lines::{events_of, last_answers};
 use crate::options::MOST_BUDGET;
 use crate::product::Product;
@@ -110,15 +110,15 @@ fn left_by_words<C: Chances>(
     scramble: &mut CrashWords<'_, C>,
 ) -> Result<Vec<u64>, AllocError>
     ensures ok { IfOk result (λ left. (k : Setup) (s : TableState)
-        → StandsFor core.now.state k s
+        → Represents core.now.state k s
         → IsCrashImage (durable_image k.capacity s.words) (slice_index left.items)) }
     ensures length { IfOk result (λ left. (k : Setup) (s : TableState)
-        → StandsFor core.now.state k s → length left.items ≡ image_words k.capacity) }
+        → Represents core.now.state k s → length left.items ≡ image_words k.capacity) }
     ensures same_reference { scramble.new.chances.ghost_name ≡ scramble.old.chances.ghost_name }
     ensures chances { ComesFrom C.chance_gives C.word_gives
         scramble.old.chances.now scramble.new.chances.now }
     ensures drawn { IfOk result (λ left. (k : Setup) (s : TableState)
-        → StandsFor core.now.state k s → GivesAll C.word_gives scramble.old.chances.now
+        → Represents core.now.state k s → GivesAll C.word_gives scramble.old.chances.now
         (map (slice_index left.items) (transient_words k.capacity)) scramble.new.chances.now) }
 {
     core.image(alloc, scramble)

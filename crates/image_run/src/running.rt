@@ -8,7 +8,7 @@ ghost use Rattle.tool_ports.specs.Chances.{ComesFromSeed};
 ghost use Rattle.image_run.specs.Reporting.{Reports};
 ghost use Rattle.image_run.specs.Running.{RunAsks, RunsRequests, options_of};
 
-use crate::left::recover_inside;
+use crate::recovering::recover_inside;
 use crate::options::RunOptions;
 use crate::product::Product;
 use crate::reporting::recovered_text;

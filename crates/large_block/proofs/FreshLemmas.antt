@@ -18,19 +18,19 @@ use Rattle.core_model.proofs.PlaceLemmas.{cell_at_index}
 use Rattle.heap_table.specs.Plays.{HasSoundState, IsEvent}
 use Rattle.heap_rule.specs.Fences.{Owns}
 use Rattle.heap_rule.specs.Seated.{SeatView, Tells}
-use Rattle.heap_rule.proofs.LeftLemmas.{fresh_lost, fresh_won}
+use Rattle.heap_rule.proofs.WordsLeftLemmas.{fresh_lost, fresh_won}
 use Rattle.heap_rule.proofs.RawLemmas.{durable_long, raw_inside, volatile_long}
 use Rattle.large_block.specs.declared.fresh.Take.{Take as TakeAnswer}
 use Rattle.large_block.specs.declared.fresh.Take.TheVariants.{Got, Past}
-use Rattle.large_block.specs.Fresh.{AreBlankFrom, AreInThisHandAlone, HasKept, HasLostMark, HasMarked, HasTakenFresh, Marks, SeesMark, Takes, with_fresh}
-use Rattle.seat_lists.specs.Pops.{looked}
-use Rattle.seat_lists.proofs.PopLemmas.{drawn_as}
-use Rattle.seat_rows.specs.Costs.{Costs, no_costs, one_draw, one_win}
-use Rattle.seat_rows.specs.Rows.{HasDrawn, IsMade, Parts, Row, Stops, ViewRow, after_ticket, next_of, parts}
-use Rattle.seat_rows.specs.Words.{KeepsWord, left_at, seen_at}
-use Rattle.seat_rows.proofs.EventLemmas.{fresh_lost_row}
-use Rattle.seat_rows.proofs.RowLemmas.{row_then, row_within, stops_later, view_row_none, view_row_then, view_row_within}
-use Rattle.seat_rows.proofs.WordLemmas.{durable_then}
+use Rattle.large_block.specs.Fresh.{AreBlankFrom, AreInThisHandAlone, HasKept, HasLostMark, HasMarked, HasTakenFresh, Marks, SeesUsed, Takes, with_fresh}
+use Rattle.superblock_lists.specs.Pops.{looked}
+use Rattle.superblock_lists.proofs.PopLemmas.{drawn_as}
+use Rattle.seat_costs.specs.Costs.{Costs, no_costs, one_draw, one_win}
+use Rattle.seat_costs.specs.Rows.{HasDrawn, IsMade, Parts, Row, Stops, ViewRow, after_ticket, next_of, parts}
+use Rattle.seat_costs.specs.Words.{KeepsWord, left_at, seen_at}
+use Rattle.seat_costs.proofs.EventLemmas.{fresh_lost_row}
+use Rattle.seat_costs.proofs.RowLemmas.{row_then, row_within, stops_later, view_row_none, view_row_then, view_row_within}
+use Rattle.seat_costs.proofs.WordLemmas.{durable_then}
 
 -- 0 that is known stays known where 0 is learned
 zero_still : (values : List (Option ℕ)) (at word : ℕ) → get_or values word None ≡ Some 0 → get_or (learn values at 0) word None ≡ Some 0
@@ -179,7 +179,7 @@ drawn_ticket None next less = absurd (omega arith)
 drawn_ticket (Some ticket) next less = (ticket, refl, omega arith, omega arith)
 
 -- all in a row
-pub taken_then : (v t u w : View) (n used : ℕ) → SeesMark used v t → HasMarked n used t u → HasKept (used + n) u w → HasTakenFresh n used v w
+pub taken_then : (v t u w : View) (n used : ℕ) → SeesUsed used v t → HasMarked n used t u → HasKept (used + n) u w → HasTakenFresh n used v w
 taken_then v t u w n used sees marked kept = record {
   going = kept.going;
   parts_are = kept.parts_are ∙ marked.parts_are ∙ ap (with_fresh used n) sees.goes_on.parts_are;
@@ -202,7 +202,7 @@ taken_then v t u w n used sees marked kept = record {
   look : w.used_look ≡ looked used t
   look = kept.look ∙ marked.look ∙ sees.look
 
-pub lost_later : (v t w : View) (used : ℕ) → SeesMark used v t → ViewRow one_draw v t → HasLostMark 1 t w → HasLostMark 2 v w
+pub lost_later : (v t w : View) (used : ℕ) → SeesUsed used v t → ViewRow one_draw v t → HasLostMark 1 t w → HasLostMark 2 v w
 lost_later v t w used sees row lost = let go = sees.goes_on in record {
   ran = go.ran;
   going = lost.going;

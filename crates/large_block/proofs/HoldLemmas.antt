@@ -17,12 +17,12 @@ use Rattle.heap_rule.proofs.RawLemmas.{raw_inside}
 use Rattle.large_block.specs.Infos.{HasInfo}
 use Rattle.large_block.specs.Holds.{HasHeld, IsFreshClaim, with_large}
 use Rattle.large_block.proofs.FreshLemmas.{raw_owns, zero_kept}
-use Rattle.seat_rows.specs.Costs.{one_draw}
-use Rattle.seat_rows.specs.Draws.{Settles}
-use Rattle.seat_rows.specs.Rows.{Parts, Row, Stops, parts}
-use Rattle.seat_rows.specs.Words.{KeepsWord}
-use Rattle.seat_rows.proofs.DrawLemmas.{row_of_stop, shifted_is, stops}
-use Rattle.seat_rows.proofs.RowLemmas.{row_of, stops_later}
+use Rattle.seat_costs.specs.Costs.{one_draw}
+use Rattle.seat_costs.specs.Draws.{Settles}
+use Rattle.seat_costs.specs.Rows.{Parts, Row, Stops, parts}
+use Rattle.seat_costs.specs.Words.{KeepsWord}
+use Rattle.seat_costs.proofs.DrawLemmas.{row_of_stop, shifted_is, stops}
+use Rattle.seat_costs.proofs.RowLemmas.{row_of, stops_later}
 
 -- they lie in the image
 module _ (v : View) (has : HasSoundState v) (d n : ℕ) (claim : IsFreshClaim d n v) where

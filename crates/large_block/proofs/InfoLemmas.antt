@@ -13,13 +13,13 @@ use Rattle.heap_rule.specs.Seated.{HasNewStore, KeepsStores, SeatView}
 use Rattle.heap_rule.specs.Shown.{Can, CanStore, Shows}
 use Rattle.heap_rule.proofs.RawLemmas.{durable_long, raw_inside, settle_left, store_shown, volatile_long}
 use Rattle.large_block.specs.Infos.{HasInfo}
-use Rattle.seat_lists.proofs.PopLemmas.{still_owns}
-use Rattle.seat_rows.specs.Costs.{one_draw}
-use Rattle.seat_rows.specs.Rows.{HasDrawn, Row, parts}
-use Rattle.seat_rows.specs.Words.{IsHeldWord, KeepsWord, times_held}
-use Rattle.seat_rows.proofs.RowLemmas.{row_of, row_then}
-use Rattle.seat_rows.proofs.StoreLemmas.{row_of_store, settle_row, store_row}
-use Rattle.seat_rows.proofs.WordLemmas.{settled_word, stored_other, word_then}
+use Rattle.superblock_lists.proofs.PopLemmas.{still_owns}
+use Rattle.seat_costs.specs.Costs.{one_draw}
+use Rattle.seat_costs.specs.Rows.{HasDrawn, Row, parts}
+use Rattle.seat_costs.specs.Words.{IsHeldWord, KeepsWord, times_held}
+use Rattle.seat_costs.proofs.RowLemmas.{row_of, row_then}
+use Rattle.seat_costs.proofs.StoreLemmas.{row_of_store, settle_row, store_row}
+use Rattle.seat_costs.proofs.WordLemmas.{settled_word, stored_other, word_then}
 
 module _ (v : View) (has : HasSoundState v) (d : ℕ) (raw : 0 < times_raw d v) where
   info_is : cell_at v.setup.capacity (info_word d) ≡ info_cell d

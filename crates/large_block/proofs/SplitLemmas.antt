@@ -24,15 +24,15 @@ use Rattle.heap_rule.proofs.HeldLemmas.{held_placed}
 use Rattle.heap_rule.proofs.RawLemmas.{raw_inside, raw_once, store_shown}
 use Rattle.large_block.specs.Splits.{HasCleared, HasClearedAll, HasSplit, MayHaveSplit, all_cleared, down, with_cleared, with_split}
 use Rattle.large_block.proofs.FreshLemmas.{fresh_claimed}
-use Rattle.seat_rows.specs.Costs.{no_costs, one_draw}
-use Rattle.seat_rows.specs.Draws.{Settles}
-use Rattle.seat_rows.specs.Rows.{HasDrawn, HoldingRow, Parts, Row, Stops, parts}
-use Rattle.seat_rows.specs.Words.{IsHeldWord, KeepsWord, times_held}
-use Rattle.seat_rows.proofs.DrawLemmas.{row_of_stop, shifted_is, was_going}
-use Rattle.seat_rows.proofs.RowLemmas.{holding_then, holding_within, row_then, row_within, stops_passed}
-use Rattle.seat_rows.proofs.ShiftLemmas.{told_shift_row}
-use Rattle.seat_rows.proofs.StoreLemmas.{row_of_store, store_row}
-use Rattle.seat_rows.proofs.WordLemmas.{stored_other, word_then}
+use Rattle.seat_costs.specs.Costs.{no_costs, one_draw}
+use Rattle.seat_costs.specs.Draws.{Settles}
+use Rattle.seat_costs.specs.Rows.{HasDrawn, HoldingRow, Parts, Row, Stops, parts}
+use Rattle.seat_costs.specs.Words.{IsHeldWord, KeepsWord, times_held}
+use Rattle.seat_costs.proofs.DrawLemmas.{row_of_stop, shifted_is, was_going}
+use Rattle.seat_costs.proofs.RowLemmas.{holding_then, holding_within, row_then, row_within, stops_passed}
+use Rattle.seat_costs.proofs.ShiftLemmas.{told_shift_row}
+use Rattle.seat_costs.proofs.StoreLemmas.{row_of_store, store_row}
+use Rattle.seat_costs.proofs.WordLemmas.{stored_other, word_then}
 
 -- what does not stand in a list is not taken out of it
 without_absent : (x : ℕ) (ys : List ℕ) → times x ys ≡ 0 → without x ys ≡ ys

@@ -7,9 +7,9 @@ use Rattle.heap_rule.specs.Shown.{Shows, ShowsDurable}
 use Rattle.heap_table.specs.Plays.{HasSoundState}
 use Rattle.large_block.specs.declared.fresh.Take.{Take}
 use Rattle.large_block.specs.declared.fresh.Take.TheVariants.{Got, Past}
-use Rattle.seat_lists.specs.Pops.{GoesOn, looked}
-use Rattle.seat_rows.specs.Costs.{one_loss}
-use Rattle.seat_rows.specs.Rows.{IsMade, Parts, ViewRow, next_of, parts}
+use Rattle.superblock_lists.specs.Pops.{GoesOn, looked}
+use Rattle.seat_costs.specs.Costs.{one_loss}
+use Rattle.seat_costs.specs.Rows.{IsMade, Parts, ViewRow, next_of, parts}
 
 -- n superblocks from d on are claimed too, without a class
 abbrev pub with_fresh : ℕ → ℕ → Parts → Parts
@@ -23,7 +23,7 @@ pub record AreBlankFrom (d n : ℕ) (v : View) : Type 0 where
   pub durable_anchor : (e : ℕ) → d ≤ e → e < d + n → ShowsDurable v (anchor_cell e) 0
 
 -- the mark was seen, and it is the last look at it
-pub record SeesMark (used : ℕ) (v w : View) : Type 0 where
+pub record SeesUsed (used : ℕ) (v w : View) : Type 0 where
   pub goes_on : GoesOn v w
   pub is_seen : w.seen_used ≡ Some used
   pub within : used ≤ v.setup.capacity

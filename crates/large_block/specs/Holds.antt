@@ -6,7 +6,7 @@ use Rattle.heap_model.specs.Geometry.{start_word, superblock_words}
 use Rattle.core_model.specs.Effects.{without_range}
 use Rattle.core_model.specs.View.{View}
 use Rattle.large_block.specs.Fresh.{AreBlankFrom}
-use Rattle.seat_rows.specs.Rows.{Parts, parts}
+use Rattle.seat_costs.specs.Rows.{Parts, parts}
 
 -- n superblocks from d on are claimed without a class, no crash forgets that they were taken, and nothing is in their descriptors
 pub record IsFreshClaim (d n : ℕ) (v : View) : Type 0 where

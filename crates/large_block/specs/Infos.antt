@@ -5,8 +5,8 @@ use Rattle.core_model.specs.Cells.{info_cell}
 use Rattle.core_model.specs.View.{View}
 use Rattle.heap_rule.specs.Fences.{Owns}
 use Rattle.heap_rule.specs.Shown.{Shows, ShowsDurable}
-use Rattle.seat_rows.specs.Rows.{parts}
-use Rattle.seat_rows.specs.Words.{KeepsWord}
+use Rattle.seat_costs.specs.Rows.{parts}
+use Rattle.seat_costs.specs.Words.{KeepsWord}
 
 -- the info of superblock d is this, and durably; of all other own words what was known is known
 pub record HasInfo (d info : ℕ) (v w : View) : Type 0 where

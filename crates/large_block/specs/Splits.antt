@@ -5,7 +5,7 @@ use Rattle.core_model.specs.Cells.{anchor_cell}
 use Rattle.core_model.specs.Effects.{span_count, steps, without_span}
 use Rattle.core_model.specs.View.{View}
 use Rattle.heap_rule.specs.Shown.{Shows}
-use Rattle.seat_rows.specs.Rows.{Parts, parts}
+use Rattle.seat_costs.specs.Rows.{Parts, parts}
 
 -- the large block from d on is held no more, and its superblocks count as empty
 abbrev pub with_split : ℕ → Parts → Parts

@@ -2,15 +2,15 @@
 
 ghost use Rattle.heap_rule.specs.Seated.{IsSeatOf};
 ghost use Rattle.std.specs.Prelude.{◌≡◌, ◌≤◌, ◌+◌, ◌-◌, ◌*◌, ℕ, Some, IfOk, OnOk, IfErr};
-ghost use Rattle.seat_rows.specs.Asked.{HasAsked};
-ghost use Rattle.seat_rows.specs.Costs.{no_costs, one_draw, one_win};
-ghost use Rattle.seat_rows.specs.Rows.{Row, Stops};
-ghost use Rattle.large_block.specs.Fresh.{AreInThisHandAlone, HasKept, Marks, SeesMark, Takes, TriesTake};
+ghost use Rattle.seat_costs.specs.Asked.{HasAsked};
+ghost use Rattle.seat_costs.specs.Costs.{no_costs, one_draw, one_win};
+ghost use Rattle.seat_costs.specs.Rows.{Row, Stops};
+ghost use Rattle.large_block.specs.Fresh.{AreInThisHandAlone, HasKept, Marks, SeesUsed, Takes, TriesTake};
 
 use heap_rule::{Seat, Shared};
 use line_memory::{Chance, Stopped};
-use seat_lists::a_claimed_superblock_is_in_one_hand;
-use seat_rows::{a_row_bounds_its_draws, draw};
+use superblock_lists::a_claimed_superblock_is_in_one_hand;
+use seat_costs::{a_row_bounds_its_draws, draw};
 
 /// What the taking of superblocks gives.
 #[derive(Clone, Copy, Debug, PartialEq, Eq)]
@@ -22,9 +22,9 @@ pub enum Take {
 }
 
 /// Reads the mark below which superblocks have been taken.
-fn look_mark<C: Chance>(seat: &mut Seat, shared: &Shared, chance: &mut C) -> Result<u64, Stopped>
+fn look_used<C: Chance>(seat: &mut Seat, shared: &Shared, chance: &mut C) -> Result<u64, Stopped>
     requires seat { IsSeatOf shared.now seat.old }
-    ensures seen { IfOk result (λ used. SeesMark used seat.old.view seat.new.view) }
+    ensures seen { IfOk result (λ used. SeesUsed used seat.old.view seat.new.view) }
     ensures stopped { IfErr result (λ e. Stops e.step seat.old.view seat.new.view) }
     ensures row { Row one_draw seat.old seat.new }
     ensures asked { HasAsked C.draw_gives seat.old.view seat.new.view chance.old chance.new }
@@ -87,7 +87,7 @@ fn try_take<C: Chance>(
     ensures asked { HasAsked C.draw_gives seat.old.view seat.new.view chance.old chance.new }
     ensures seat { IsSeatOf shared.now seat.new }
 {
-    let used = look_mark(seat, shared, chance)?;
+    let used = look_used(seat, shared, chance)?;
     if n > seat.capacity(shared) - used {
         return Ok(Some(Take::Past { used }));
     }

@@ -2,16 +2,16 @@
 
 ghost use Rattle.heap_rule.specs.Seated.{IsSeatOf};
 ghost use Rattle.std.specs.Prelude.{◌≡◌, IfOk, OnErr, IfErr};
-ghost use Rattle.seat_rows.specs.Asked.{HasAsked};
-ghost use Rattle.seat_rows.specs.Costs.{no_costs};
-ghost use Rattle.seat_rows.specs.Rows.{HoldingRow, Row, Stops};
+ghost use Rattle.seat_costs.specs.Asked.{HasAsked};
+ghost use Rattle.seat_costs.specs.Costs.{no_costs};
+ghost use Rattle.seat_costs.specs.Rows.{HoldingRow, Row, Stops};
 ghost use Rattle.large_block.specs.Holds.{HasHeld, IsFreshClaim};
 
 use crate::infos::set_info;
 use core_model::Shift;
 use heap_rule::{Seat, Shared};
 use line_memory::{Chance, Stopped};
-use seat_rows::draw_with;
+use seat_costs::draw_with;
 use super_block::{Block, Geometry, Info, SUPERBLOCK_WORDS};
 
 /// Holds `n` superblocks from `d` on as a large block, which it answers. They are claimed without a
@@ -37,7 +37,7 @@ pub fn hold<C: Chance>(
     ensures asked { HasAsked C.draw_gives seat.old.view seat.new.view chance.old chance.new }
     ensures seat { IsSeatOf shared.now seat.new }
 {
-    seat.has_a_sound_state();
+    seat.recall_soundness();
     let first_word = Geometry::new(seat.capacity(shared)).start(d);
     set_info(seat, shared, d, Info::Large(n).pack(), chance)?;
     draw_with(seat, shared, Some(Shift::Large { d, n }), chance)?;

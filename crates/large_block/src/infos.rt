@@ -3,14 +3,14 @@
 ghost use Rattle.heap_rule.specs.Seated.{IsSeatOf};
 ghost use Rattle.std.specs.Prelude.{◌≡◌, ◌<◌, OnOk, IfErr};
 ghost use Rattle.core_model.specs.View.{times_raw};
-ghost use Rattle.seat_rows.specs.Asked.{HasAsked};
-ghost use Rattle.seat_rows.specs.Costs.{one_draw};
-ghost use Rattle.seat_rows.specs.Rows.{Row, Stops};
+ghost use Rattle.seat_costs.specs.Asked.{HasAsked};
+ghost use Rattle.seat_costs.specs.Costs.{one_draw};
+ghost use Rattle.seat_costs.specs.Rows.{Row, Stops};
 ghost use Rattle.large_block.specs.Infos.{HasInfo};
 
 use heap_rule::{Seat, Shared};
 use line_memory::{Chance, Stopped};
-use seat_rows::draw;
+use seat_costs::draw;
 use super_block::Geometry;
 
 /// Stores the info of a superblock that is claimed without a class, and makes it durable. Pending
@@ -31,7 +31,7 @@ pub fn set_info<C: Chance>(
     ensures asked { HasAsked C.draw_gives seat.old.view seat.new.view chance.old chance.new }
     ensures seat { IsSeatOf shared.now seat.new }
 {
-    seat.has_a_sound_state();
+    seat.recall_soundness();
     let place = Geometry::new(seat.capacity(shared)).info(d);
     draw(seat, shared, chance)?;
     seat.store_word(shared, place, info);

@@ -6,15 +6,15 @@ ghost use Rattle.heap_model.specs.Counting.{times};
 ghost use Rattle.core_model.specs.Cells.{superblock_at};
 ghost use Rattle.core_model.specs.Effects.{span_count};
 ghost use Rattle.core_model.specs.Guards.{MaySplit};
-ghost use Rattle.seat_rows.specs.Asked.{HasAsked};
-ghost use Rattle.seat_rows.specs.Costs.{no_costs, one_draw};
-ghost use Rattle.seat_rows.specs.Rows.{HoldingRow, Row, Stops, next_of};
+ghost use Rattle.seat_costs.specs.Asked.{HasAsked};
+ghost use Rattle.seat_costs.specs.Costs.{no_costs, one_draw};
+ghost use Rattle.seat_costs.specs.Rows.{HoldingRow, Row, Stops, next_of};
 ghost use Rattle.large_block.specs.Splits.{HasCleared, HasClearedAll, HasSplit, MayHaveSplit};
 
 use core_model::Shift;
 use heap_rule::{Seat, Shared};
 use line_memory::{Chance, Stopped};
-use seat_rows::{draw, draw_with};
+use seat_costs::{draw, draw_with};
 use super_block::{Block, Geometry, SUPERBLOCK_WORDS, WORD_BYTES};
 
 /// Adjoining superblocks that a large block takes.
@@ -36,7 +36,7 @@ pub fn superblocks_of(seat: &Seat, shared: &Shared, block: u64) -> Superblocks
     ensures some { 1 ≤ result.count }
     ensures inside { result.first + result.count ≤ seat.now.view.setup.capacity }
 {
-    seat.has_a_sound_state();
+    seat.recall_soundness();
     let start = Geometry::new(seat.capacity(shared)).start(0);
     let held = seat.block(shared, WORD_BYTES * block);
     Superblocks {
@@ -61,7 +61,7 @@ fn clear_anchor<C: Chance>(
     ensures asked { HasAsked C.draw_gives seat.old.view seat.new.view chance.old chance.new }
     ensures seat { IsSeatOf shared.now seat.new }
 {
-    seat.has_a_sound_state();
+    seat.recall_soundness();
     let anchor = Geometry::new(seat.capacity(shared)).anchor(e);
     draw(seat, shared, chance)?;
     seat.store_word(shared, anchor, 0);
@@ -122,12 +122,12 @@ pub fn split<C: Chance>(
     ensures asked { HasAsked C.draw_gives seat.old.view seat.new.view chance.old chance.new }
     ensures seat { IsSeatOf shared.now seat.new }
 {
-    seat.has_a_sound_state();
+    seat.recall_soundness();
     let span = superblocks_of(seat, shared, block.first_word);
     let shift = Shift::Split {
         block: block.first_word,
     };
     draw_with(seat, shared, Some(shift), chance)?;
-    seat.has_a_sound_state();
+    seat.recall_soundness();
     clear_anchors(seat, shared, span, chance)
 }

@@ -1,3 +1,3 @@
 pub mod CallerLemmas
 pub mod MarkLemmas
-pub mod StepLemmas
+pub mod LineStepLemmas

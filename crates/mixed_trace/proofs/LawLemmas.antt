@@ -9,7 +9,7 @@ use Rattle.heap_model.specs.Header.{IsOldWellFormed, capacity_of, used_of, kinds
 use Rattle.heap_model.specs.Reach.{Links, Reach, IsReached, IsReachedIn, IsOutside, IsTraced, AreInside, words_in, by_start, by_link, is_root as is_plain_root, is_linked as is_plain_linked}
 use Rattle.heap_model.proofs.ImageLemmas.{length-words_from, words_from-agree}
 use Rattle.heap_model.specs.Pointers.{IsPointerTo, Leads}
-use Rattle.filter_trace.proofs.StepLemmas.{leads_by_name}
+use Rattle.filter_trace.proofs.TraceStepLemmas.{leads_by_name}
 use Rattle.region_header.specs.Migration.{current_words, HasSameHeap}
 use Rattle.region_header.proofs.MigrationLemmas.{current_same, current_kinds}
 use Rattle.region_header.proofs.ReachedLemmas.{other_way, same_block, same_part}

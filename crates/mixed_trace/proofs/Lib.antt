@@ -1,4 +1,4 @@
-pub mod StepLemmas
+pub mod MixedStepLemmas
 pub mod WorkLemmas
 pub mod RecoveryLemmas
 pub mod LawLemmas

@@ -17,7 +17,7 @@ use Rattle.mixed_trace.specs.declared.mode.Mode.TheVariants.{Kind, All}
 use Rattle.mixed_trace.specs.Reach.{FitsBelow, CountsAs, ReachMixed, IsTracedMixed, is_root, is_linked, IsOutsideMixed}
 use Rattle.mixed_trace.specs.Codes.{code, HasMode, AreReachedMixed, TellsOutsideMixed}
 use Rattle.mixed_trace.specs.Steps.{TellsAs, IsFollowedAs, FollowsEach, IsRootAmong, IsCounted, IsFollowedPair, IsMixedWork}
-use Rattle.mixed_trace.proofs.StepLemmas.{code_one, counts_fit, still_as, as_has}
+use Rattle.mixed_trace.proofs.MixedStepLemmas.{code_one, counts_fit, still_as, as_has}
 
 -- a reached pair names a block
 pub mixed_block : (image : Image) (modes : ℕ → Mode) (links : Links) (b : Block) (mode : Mode) → ReachMixed image modes links b mode → IsBlock (layout_of image) b

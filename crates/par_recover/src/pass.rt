@@ -12,7 +12,7 @@ ghost use Rattle.par_recover.specs.Marked.{TellsAll};
 use crate::marked::marked_blocks;
 use crate::surveys::survey_marked;
 use filter_trace::Marks;
-use heap_recover::{Found, TakenPass, rebuild_superblock};
+use heap_recover::{Found, RebuildPass, rebuild_superblock};
 use std::alloc::{AllocError, Global};
 use std::cell::Cell;
 use std::thread::Threads;
@@ -26,7 +26,7 @@ pub struct InPieces<'rt, R> {
     pub room: Cell<Vec<Block>>,
 }
 
-impl<'rt, R: Threads + Sync> TakenPass for InPieces<'rt, R> {
+impl<'rt, R: Threads + Sync> RebuildPass for InPieces<'rt, R> {
     ghost ready = { λ _. IsSync R.row };
 
     fn rebuild_taken(

@@ -5,17 +5,17 @@ ghost use Rattle.core_model.specs.View.{times_claimed};
 ghost use Rattle.heap_model.specs.Sizes.{IsClass};
 ghost use Rattle.heap_rule.specs.Seated.{IsSeatOf};
 ghost use Rattle.heap_rule.specs.Shown.{CanList};
-ghost use Rattle.seat_rows.specs.Asked.{HasAsked};
-ghost use Rattle.seat_rows.specs.Costs.{one_push, one_win};
-ghost use Rattle.seat_rows.specs.Rows.{Row, Stops};
-ghost use Rattle.seat_lists.specs.Hands.{IsInThisHandAlone};
-ghost use Rattle.seat_lists.specs.Pops.{Pops};
-ghost use Rattle.seat_lists.specs.Pushes.{HasPushed};
+ghost use Rattle.seat_costs.specs.Asked.{HasAsked};
+ghost use Rattle.seat_costs.specs.Costs.{one_push, one_win};
+ghost use Rattle.seat_costs.specs.Rows.{Row, Stops};
+ghost use Rattle.superblock_lists.specs.Hands.{IsInThisHandAlone};
+ghost use Rattle.superblock_lists.specs.Pops.{Pops};
+ghost use Rattle.superblock_lists.specs.Pushes.{HasPushed};
 
 use heap_rule::{Seat, Shared};
 use line_memory::{Chance, Stopped};
-use seat_lists::{Pop, a_claimed_superblock_is_in_one_hand, pop_from, push_to};
-use seat_rows::a_row_bounds_its_draws;
+use superblock_lists::{Pop, a_claimed_superblock_is_in_one_hand, pop_from, push_to};
+use seat_costs::a_row_bounds_its_draws;
 use size_table::SizeClass;
 
 /// Pops the first superblock of the class's list: it is claimed with the class, and in this hand

@@ -11,7 +11,7 @@ use dictionary_heap::recover_dictionary;
 use heap_rule::{Shared, open_shared};
 use line_memory::ConstantChance;
 use region_header::{Bytes, format};
-use seat_owners::owners_by_trace;
+use seat_owners::owners_of_mapped;
 use std::alloc::{AllocError, Global};
 use std::collections::VecDeque;
 use std::test::Fail;
@@ -68,7 +68,7 @@ pub fn open(alloc: Global, mapped: MappedHeap, requests: &[Request]) -> Result<O
     ensures worker { IfOk result (λ o. (o.job.worker.number ≡ 0) × (o.job.worker.workers ≡ 2)) }
 {
     let longest = longest_puts(alloc, requests)?;
-    let owners = owners_by_trace(alloc, &mapped, 2)?;
+    let owners = owners_of_mapped(alloc, &mapped, 2)?;
     let (heap, maps) = mapped.into_parts();
     let (shared, seats) = open_shared(alloc, heap, &owners, 2, BUDGET)?;
     let mut seats = VecDeque::from_vec(seats);

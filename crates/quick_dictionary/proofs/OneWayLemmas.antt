@@ -12,7 +12,7 @@ use Rattle.heap_model.specs.Recovered.{IsFreeSuperblock, AreAscending}
 use Rattle.heap_model.specs.Recovery.{IsListed, IsKeptWord, HasInfoAndAnchor, in_header as of_header, is_root, is_reserved, first_number}
 use Rattle.heap_model.proofs.MemberLemmas.{in_none, head_or_rest}
 use Rattle.heap_at_rest.proofs.StandingLemmas.{Standing, is_untaken, is_free, is_partial, is_fully_kept, is_in_large, cases_superblock}
-use Rattle.heap_at_rest.proofs.LeftLemmas.{listed_cases, partial_listed, full_not_partial, large_not_partial, full_holds}
+use Rattle.heap_at_rest.proofs.RecoveryLeftLemmas.{listed_cases, partial_listed, full_not_partial, large_not_partial, full_holds}
 use Rattle.heap_recover.specs.declared.answer.Recovered.{Recovered}
 use Rattle.heap_recover.proofs.AscendingLemmas.{ascending_one}
 use Rattle.quick_recover.specs.Reopened.{IsReopened, IsReopenedAs}

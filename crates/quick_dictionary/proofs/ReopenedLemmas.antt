@@ -10,7 +10,7 @@ use Rattle.heap_model.specs.Header.{kinds_of}
 use Rattle.heap_model.proofs.BlockLemmas.{block_inside}
 use Rattle.heap_model.proofs.ReachLemmas.{reached_block}
 use Rattle.heap_at_rest.proofs.LayoutLemmas.{same_there}
-use Rattle.heap_at_rest.proofs.LeftLemmas.{IsLeft}
+use Rattle.heap_at_rest.proofs.RecoveryLeftLemmas.{IsLeft}
 use Rattle.heap_at_rest.proofs.PartLemmas.{part_taken}
 use Rattle.heap_at_rest.proofs.RecoveredLemmas.{same_capacity, same_used, info_left, heap_left}
 use Rattle.heap_at_rest.proofs.StandingLemmas.{Standing, is_untaken, is_free, is_partial, is_fully_kept, is_in_large, cases_superblock}

@@ -16,7 +16,7 @@ use Rattle.heap_model.specs.Counting.{times}
 use Rattle.heap_model.specs.Rest.{IsAnchored, IsReady}
 use Rattle.heap_model.proofs.MemberLemmas.{in_none, head_or_rest, order_head, order_rest}
 use Rattle.heap_model.proofs.CountingLemmas.{times_none, one_if_true, one_if_false}
-use Rattle.heap_at_rest.proofs.LeftLemmas.{HasSpares, LeavesHeap, full_not_partial}
+use Rattle.heap_at_rest.proofs.RecoveryLeftLemmas.{HasSpares, LeavesHeap, full_not_partial}
 use Rattle.heap_at_rest.proofs.RecoveredLemmas.{same_capacity}
 use Rattle.heap_at_rest.proofs.ReadyLemmas.{left_ready}
 use Rattle.heap_recover.specs.declared.roles.Role.{Role}

@@ -5,7 +5,7 @@ use crate::asserts::must_hold;
 use crate::openings::{are_same, open, open_owned, recovered, row_recovered};
 use crate::other::OTHER;
 use heap_recover::{Recovered, Was};
-use image_text::change;
+use test_images::change;
 use quick_recover::{Path, Quick};
 use std::alloc::Global;
 use std::process::Abort;

@@ -4,7 +4,7 @@
 use crate::asserts::{column, must_hold};
 use crate::openings::{row_opened, row_recovered};
 use block_heap::SeqHeap;
-use image_text::number;
+use test_images::number;
 use line_memory::ConstantChance;
 use quick_recover::Path;
 use std::alloc::Global;

@@ -8,7 +8,7 @@ use crate::rest_check::{is_at_rest, start};
 use crate::told::{are_free, are_held, has_told};
 use crate::words::write;
 use heap_recover::{RecoverFault, Recovered, Was, recover};
-use image_text::{change, image_of, info_word, number, old_image_of};
+use test_images::{change, image_of, info_word, number, old_image_of};
 use region_header::BadHeader;
 use size_table::{SizeClass, blocks_of};
 use std::alloc::{AllocError, Global};

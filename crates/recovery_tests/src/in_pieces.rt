@@ -5,7 +5,7 @@ use crate::asserts::must_hold;
 use crate::pairs::{Pairs, kinds};
 use crate::words::write;
 use heap_recover::{RecoverFault, Recovered, recover};
-use image_text::{change, image_of, info_word, number, old_image_of};
+use test_images::{change, image_of, info_word, number, old_image_of};
 use par_recover::{recover_owned_par, recover_par};
 use std::alloc::Global;
 use std::process::Abort;

@@ -4,7 +4,7 @@ use crate::asserts::{column, must_hold};
 use crate::openings::{are_same, row_opened, row_opened_owned, row_recovered};
 use crate::told::{are_free, are_held};
 use heap_recover::{RecoverFault, Was};
-use image_text::number;
+use test_images::number;
 use quick_recover::{Path, Quick};
 use std::alloc::Global;
 use std::process::Abort;

@@ -5,7 +5,7 @@ ghost use Rattle.heap_model.specs.Geometry.{roots};
 ghost use Rattle.mixed_trace.specs.Reach.{FitsBelow};
 
 use heap_model::Block;
-use image_text::{change, image_of, number, old_image_of};
+use test_images::{change, image_of, number, old_image_of};
 use mixed_trace::Mode;
 use std::alloc::{AllocError, Global};
 use std::test::Fail;

@@ -1,3 +1,3 @@
 pub mod OriginLemmas
-pub mod StepLemmas
+pub mod ReachStepLemmas
 pub mod TraceLemmas

@@ -24,7 +24,7 @@ use Rattle.root_reach.specs.Origins.{Covers, same, several, origin_in, origin_at
 use Rattle.root_reach.specs.Reaching.{Tells, ReachesFrom, HasLabels, AreOrigins, IsReachedBeside}
 use Rattle.root_reach.specs.Steps.{Propagates, IsPropagated, HasPropagated, AreFindings, PropagatesRoots, PropagatesLinks, IsWorklist}
 use Rattle.root_reach.proofs.OriginLemmas.{one_root}
-use Rattle.root_reach.proofs.StepLemmas.{no_more, more_and_more, still_followed, all_still, follow_found, follow_grows, follow_followed}
+use Rattle.root_reach.proofs.ReachStepLemmas.{no_more, more_and_more, still_followed, all_still, follow_found, follow_grows, follow_followed}
 
 -- a label is 0, 1 or 2 ranks up
 small_rank : (label : ℕ) → rank label ≤ 2

@@ -8,9 +8,9 @@ use Rattle.heap_seat.specs.Sound.{IsSeat}
 use Rattle.dict_model.specs.Links.{shards}
 use Rattle.dict_model.specs.Requests.{Request, Reply, done, after, after_one, IsReply, AreReplies}
 use Rattle.dict_model.specs.Shards.{Map, MapOf}
-use Rattle.dict_seat.specs.Changes.{MayChange, Changes}
-use Rattle.dict_seat.specs.Maps.{GivesMap}
-use Rattle.dict_seat.specs.Removal.{IsShard}
+use Rattle.dict_requests.specs.Changes.{MayChange, Changes}
+use Rattle.dict_requests.specs.Maps.{GivesMap}
+use Rattle.dict_requests.specs.Removal.{IsShard}
 use Rattle.run_model.specs.Needs.{is_to}
 use Rattle.run_model.specs.Opened.{HasMaps}
 use Rattle.run_model.specs.Progress.{Answers, MayAnswer, HasAnswered}
@@ -21,7 +21,7 @@ use Rattle.run_model.specs.Working.{TakesRequest, TakesRequests}
 use Rattle.heap_seat.specs.declared.fault.Looks.{Looks}
 use Rattle.run_model.proofs.OneMapLemmas.{small_shard}
 use Rattle.run_model.proofs.StandsLemmas.{others_stay}
-use Rattle.dict_seat.proofs.OthersLemmas.{gives_others}
+use Rattle.dict_requests.proofs.OthersLemmas.{gives_others}
 
 -- the map after one request more
 after_push : (map : Map) (xs : List (Request × Reply)) (x : Request × Reply) → after map (xs ++ (x ∷ [])) ≡ after_one (after map xs) x.0 x.1

@@ -13,11 +13,11 @@ use Rattle.heap_seat.specs.View.{View}
 use Rattle.heap_seat.specs.Words.{in_root, in_block, MayBe, MayRead, MixesOwn, NamesAll, KeepsWord, KeepsOwn, StoresKinds}
 use Rattle.dict_model.specs.Links.{shards, dict_links}
 use Rattle.dict_model.proofs.LinkLemmas.{link_in_block, link_listed}
-use Rattle.dict_seat.specs.Maps.{KeepsOtherShards}
-use Rattle.dict_seat.specs.Reached.{MayReach, ReachesOnlyHeld}
-use Rattle.dict_seat.specs.Trails.{IsDurableAt}
-use Rattle.dict_seat.proofs.GrownLemmas.{root_reach, link_reach, link_in}
-use Rattle.dict_seat.proofs.TrailLemmas.{settled_in, settled_stays}
+use Rattle.dict_requests.specs.Maps.{KeepsOtherShards}
+use Rattle.dict_requests.specs.Reached.{MayReach, ReachesOnlyHeld}
+use Rattle.dict_requests.specs.Trails.{IsDurableAt}
+use Rattle.dict_requests.proofs.GrownLemmas.{root_reach, link_reach, link_in}
+use Rattle.dict_requests.proofs.TrailLemmas.{settled_in, settled_stays}
 use Rattle.run_model.specs.Opened.{HasAllRoots}
 use Rattle.run_model.specs.Runs.{IsOtherRoot}
 use Rattle.run_model.specs.Stands.{IsOwnOther, HasOthers}

@@ -9,7 +9,7 @@ use Rattle.heap_seat.specs.View.{View}
 use Rattle.heap_seat.specs.Words.{IsOwn, StoresKinds}
 use Rattle.dict_model.specs.Links.{shards, dict_links, kind_count}
 use Rattle.dict_model.specs.Shards.{Map, MapOf}
-use Rattle.dict_seat.specs.Trails.{IsDurableAt}
+use Rattle.dict_requests.specs.Trails.{IsDurableAt}
 
 -- each root has a kind that there is, and each shard of the image is a map
 pub record HasMaps (image : Image) : Type 0 where

@@ -5,8 +5,8 @@ use Rattle.heap_seat.specs.View.{View}
 use Rattle.dict_model.specs.Links.{shards}
 use Rattle.dict_model.specs.Requests.{Request, Reply, done, after, after_one, IsReply, AreReplies}
 use Rattle.dict_model.specs.Shards.{Map, MapOf}
-use Rattle.dict_seat.specs.Changes.{MayChange}
-use Rattle.dict_seat.specs.Maps.{GivesMap}
+use Rattle.dict_requests.specs.Changes.{MayChange}
+use Rattle.dict_requests.specs.Maps.{GivesMap}
 use Rattle.run_model.specs.Workers.{shard_asked}
 use Rattle.run_model.specs.Runs.{of_shard}
 use Rattle.run_model.specs.Stands.{StandsOver}

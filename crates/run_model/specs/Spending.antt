@@ -7,7 +7,7 @@ use Rattle.heap_seat.specs.Looks.{KnowsNoLess}
 use Rattle.heap_seat.specs.Rows.{IsRow}
 use Rattle.dict_model.specs.Links.{shards}
 use Rattle.dict_model.specs.Requests.{Request, put, get, del, move, Reply, full}
-use Rattle.dict_seat.specs.Puts.{WasNull, RootIsSet}
+use Rattle.dict_requests.specs.Puts.{WasNull, RootIsSet}
 use Rattle.run_model.specs.Needs.{node_span}
 use Rattle.run_model.specs.Workers.{shard_asked}
 use Rattle.run_model.specs.Runs.{span_taken, first_span}

@@ -9,8 +9,8 @@ use Rattle.heap_model.specs.Reach.{ReachFrom}
 use Rattle.heap_seat.specs.View.{View}
 use Rattle.heap_seat.specs.Words.{StoresKinds}
 use Rattle.dict_model.specs.Links.{dict_links}
-use Rattle.dict_seat.specs.Reached.{ReachesOnlyHeld}
-use Rattle.dict_seat.specs.Trails.{IsDurableAt}
+use Rattle.dict_requests.specs.Reached.{ReachesOnlyHeld}
+use Rattle.dict_requests.specs.Trails.{IsDurableAt}
 use Rattle.run_model.specs.Runs.{IsOtherRoot}
 
 -- a root of the seat that is no shard's

@@ -12,10 +12,10 @@ use Rattle.dict_model.specs.Links.{shards}
 use Rattle.dict_model.specs.Nodes.{largest_value, shard_of, value_words, node_bytes, table_bytes}
 use Rattle.dict_model.specs.Requests.{Request, put, get, del, move, Reply, full}
 use Rattle.dict_model.specs.Shards.{Map, MapOf}
-use Rattle.dict_seat.specs.Gets.{words_of}
-use Rattle.dict_seat.specs.Maps.{GivesMap}
-use Rattle.dict_seat.specs.Puts.{RootIsSet, WasTurnedDown}
-use Rattle.dict_seat.specs.Walks.{ListsKeys}
+use Rattle.dict_requests.specs.Gets.{words_of}
+use Rattle.dict_requests.specs.Maps.{GivesMap}
+use Rattle.dict_requests.specs.Puts.{RootIsSet, WasTurnedDown}
+use Rattle.dict_requests.specs.Walks.{ListsKeys}
 use Rattle.run_model.specs.Workers.{Replies, shard_asked}
 use Rattle.run_model.specs.Progress.{Answers, MayAnswer, HasAnswered}
 use Rattle.run_model.specs.Spending.{TakesFew, HadNoRoom, IsPut}

@@ -8,8 +8,8 @@ use Rattle.heap_seat.specs.View.{View}
 use Rattle.dict_model.specs.Nodes.{shard_of}
 use Rattle.dict_model.specs.Requests.{Request, put, get, move, Reply, done, full}
 use Rattle.dict_model.specs.Shards.{Map}
-use Rattle.dict_seat.specs.Maps.{GivesMap}
-use Rattle.dict_seat.specs.Walks.{ListsKeys}
+use Rattle.dict_requests.specs.Maps.{GivesMap}
+use Rattle.dict_requests.specs.Walks.{ListsKeys}
 use Rattle.run_model.specs.Working.{AsksFor, TakesRequest}
 
 -- a seat that sees this in the root of shard 5

@@ -13,7 +13,7 @@ use Rattle.dict_model.specs.Links.{shards}
 use Rattle.dict_model.specs.Requests.{Request, put, Reply, done, after, after_one}
 use Rattle.dict_model.specs.Shards.{Map, MapOf}
 use Rattle.dict_model.proofs.ShardLemmas.{one_map_of}
-use Rattle.dict_seat.specs.Maps.{IsMapIn, GivesMap}
+use Rattle.dict_requests.specs.Maps.{IsMapIn, GivesMap}
 use Rattle.run_model.specs.Needs.{is_to}
 use Rattle.run_model.specs.Opened.{HasMaps}
 use Rattle.run_model.specs.Progress.{MayAnswer}

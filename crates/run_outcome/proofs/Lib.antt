@@ -6,7 +6,7 @@ pub mod CountLemmas
 pub mod FullLemmas
 pub mod HeaderLemmas
 pub mod HeldLemmas
-pub mod LeftLemmas
+pub mod RunLeftLemmas
 pub mod MapLeftLemmas
 pub mod MoveLemmas
 pub mod OrderlyLemmas

@@ -9,9 +9,9 @@ use Rattle.seat_view.specs.CacheState.{heap_view}
 use Rattle.dict_model.specs.Links.{shards, table_kind}
 use Rattle.dict_model.specs.Requests.{Request, after}
 use Rattle.dict_model.specs.Shards.{Map, MapOf}
-use Rattle.dict_seat.specs.Maps.{IsMapIn}
-use Rattle.dict_seat.proofs.ImageLemmas.{walk_of}
-use Rattle.dict_seat.proofs.SeatsLemmas.{walk_alone, image_kind}
+use Rattle.dict_requests.specs.Maps.{IsMapIn}
+use Rattle.dict_requests.proofs.ImageLemmas.{walk_of}
+use Rattle.dict_requests.proofs.SeatsLemmas.{walk_alone, image_kind}
 use Rattle.run_model.specs.Arrivals.{IsWholeMap, worker_arrivals, arrived_for}
 use Rattle.run_model.specs.Needs.{is_to}
 use Rattle.run_model.specs.Runs.{answered, of_shard, worker_answered, worker_unanswered, IsMapLeft, LeavesMaps}

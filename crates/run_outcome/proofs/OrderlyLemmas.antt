@@ -16,7 +16,7 @@ use Rattle.heap_seat.specs.Words.{IsOwn, in_root}
 use Rattle.heap_rule.specs.Left.{IsCloseOf}
 use Rattle.heap_rule.proofs.ClosedLemmas.{closes}
 use Rattle.heap_rule.proofs.CrashLemmas.{close_volatile}
-use Rattle.seat_rows.proofs.WordLemmas.{at_cell, owns_held}
+use Rattle.seat_costs.proofs.WordLemmas.{at_cell, owns_held}
 use Rattle.seat_view.specs.CacheState.{CacheState, heap_view}
 use Rattle.seat_view.proofs.HeldLemmas.{held_is, own_held, seat_law}
 use Rattle.seat_view.proofs.ListedBlocks.{listed}
@@ -26,13 +26,13 @@ use Rattle.closed_heap.proofs.ClosedLemmas.{closed_is_orderly, closed_holds}
 use Rattle.dict_model.specs.Links.{dict_links, kind_count}
 use Rattle.dict_model.specs.Requests.{Request}
 use Rattle.dict_model.specs.Shards.{LeadsTo}
-use Rattle.dict_seat.specs.Reached.{Reaches}
-use Rattle.dict_seat.specs.Seats.{MixesSeats}
-use Rattle.dict_seat.proofs.ExactLemmas.{sees_held}
-use Rattle.dict_seat.proofs.GrownLemmas.{link_own, reached_held}
-use Rattle.dict_seat.proofs.SeatsLemmas.{reached_by}
+use Rattle.dict_requests.specs.Reached.{Reaches}
+use Rattle.dict_requests.specs.Seats.{MixesSeats}
+use Rattle.dict_requests.proofs.ExactLemmas.{sees_held}
+use Rattle.dict_requests.proofs.GrownLemmas.{link_own, reached_held}
+use Rattle.dict_requests.proofs.SeatsLemmas.{reached_by}
 use Rattle.run_model.specs.Workers.{Replies}
-use Rattle.dict_seat.proofs.ShardReachLemmas.{block_lists}
+use Rattle.dict_requests.proofs.ShardReachLemmas.{block_lists}
 use Rattle.run_outcome.specs.Closed.{LeavesOrderly}
 use Rattle.run_outcome.specs.Together.{HaveWorked}
 use Rattle.run_outcome.proofs.ShareLemmas.{has_state, mixes, share}

@@ -17,7 +17,7 @@ use Rattle.seat_view.specs.CacheState.{heap_view}
 use Rattle.seat_view.proofs.HeldLemmas.{held_is, seat_law, mixed_law, named_law, stored_law}
 use Rattle.dict_model.specs.Links.{shards}
 use Rattle.dict_model.specs.Requests.{Request, put}
-use Rattle.dict_seat.specs.Seats.{ShareHeap, MixesSeats}
+use Rattle.dict_requests.specs.Seats.{ShareHeap, MixesSeats}
 use Rattle.run_model.specs.Sending.{Sent}
 use Rattle.run_model.specs.Workers.{Replies, worker_of, root_owner}
 use Rattle.run_model.specs.Runs.{IsOtherRoot}

@@ -6,7 +6,7 @@ use Rattle.heap_model.specs.Rest.{IsReady}
 use Rattle.core_model.specs.Carriers.{IsCarrier}
 use Rattle.core_model.specs.Opening.{setup_of}
 use Rattle.core_model.specs.View.{View}
-use Rattle.seat_notes.specs.OwnerLists.{OwnerLists}
+use Rattle.seat_state.specs.OwnerLists.{OwnerLists}
 use Rattle.dict_model.specs.Requests.{Request}
 use Rattle.dict_model.specs.Shards.{Map}
 use Rattle.heap_table.specs.AtTable.{IsClosedReached, IsClosedSound}

@@ -6,11 +6,11 @@ use Rattle.heap_model.specs.Sizes.{blocks_of}
 use Rattle.heap_model.specs.Words.{head_first}
 use Rattle.core_model.specs.View.{LastLook, View, of_class}
 use Rattle.heap_rule.specs.Seated.{SeatView}
-use Rattle.seat_rows.specs.Costs.{Costs, no_costs, one_draw}
-use Rattle.seat_rows.specs.Rows.{HoldingRow, IsHeldBoth, Row, SameLooks, head_look, next_of, parts}
-use Rattle.seat_rows.proofs.RowLemmas.{but_fewer, holding_within, row_but, row_then, row_within, then_holding}
+use Rattle.seat_costs.specs.Costs.{Costs, no_costs, one_draw}
+use Rattle.seat_costs.specs.Rows.{HoldingRow, IsHeldBoth, Row, SameLooks, head_look, next_of, parts}
+use Rattle.seat_costs.proofs.RowLemmas.{but_fewer, holding_within, row_but, row_then, row_within, then_holding}
 use Rattle.seat_calls.specs.Small.{HasAllocated, alloc_costs, light_alloc, with_allocated}
-use Rattle.seat_fill.specs.Refills.{HasFilled, HasSeenEmpty, IsFilledInOrder}
+use Rattle.cache_fill.specs.Refills.{HasFilled, HasSeenEmpty, IsFilledInOrder}
 
 -- the costs of filling a cache
 abbrev refill_costs : ℕ → ℕ → Costs

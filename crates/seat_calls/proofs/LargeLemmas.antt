@@ -14,11 +14,11 @@ use Rattle.large_block.specs.Holds.{HasHeld, with_large}
 use Rattle.large_block.specs.Splits.{down}
 use Rattle.large_block.proofs.FreshLemmas.{drawn_ticket}
 use Rattle.seat_calls.specs.Large.{HasAllocatedLarge, HasNoRoom, large_costs, large_free_costs, list_costs}
-use Rattle.seat_lists.specs.Pushes.{HasPushed, without_claim_of}
-use Rattle.seat_rows.specs.Costs.{Costs, no_costs, one_push}
-use Rattle.seat_rows.specs.Idle.{IsIdle}
-use Rattle.seat_rows.specs.Rows.{HoldingRow, Parts, Row, next_of, parts}
-use Rattle.seat_rows.proofs.RowLemmas.{holding_then, holding_within, row_then, row_within, then_holding}
+use Rattle.superblock_lists.specs.Pushes.{HasPushed, without_claim_of}
+use Rattle.seat_costs.specs.Costs.{Costs, no_costs, one_push}
+use Rattle.seat_costs.specs.Idle.{IsIdle}
+use Rattle.seat_costs.specs.Rows.{HoldingRow, Parts, Row, next_of, parts}
+use Rattle.seat_costs.proofs.RowLemmas.{holding_then, holding_within, row_then, row_within, then_holding}
 
 -- none is left of the superblocks that a large block takes
 none_left : (d n k m : ℕ) → k + m ≤ n → without_range d n (steps (d + k) 1 m) ≡ []

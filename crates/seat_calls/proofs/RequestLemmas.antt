@@ -27,12 +27,12 @@ use Rattle.heap_rule.proofs.HeldLemmas.{held_placed}
 use Rattle.heap_rule.proofs.SettleLemmas.{own_index, own_there}
 use Rattle.heap_rule.proofs.ViewLemmas.{block_class}
 use Rattle.large_block.specs.Splits.{MayHaveSplit}
-use Rattle.seat_rows.specs.Costs.{IsWithin, no_costs, one_draw}
-use Rattle.seat_rows.specs.Rows.{HoldingRow, IsHeldBoth, Parts, Row, RowBut}
-use Rattle.seat_rows.specs.Words.{IsHeldWord, times_held}
-use Rattle.seat_rows.proofs.RowLemmas.{but_fewer, holding_within, row_within}
-use Rattle.seat_rows.proofs.WordLemmas.{owns_held, still_held}
-use Rattle.seat_fill.specs.Refills.{IsFilledInOrder}
+use Rattle.seat_costs.specs.Costs.{IsWithin, no_costs, one_draw}
+use Rattle.seat_costs.specs.Rows.{HoldingRow, IsHeldBoth, Parts, Row, RowBut}
+use Rattle.seat_costs.specs.Words.{IsHeldWord, times_held}
+use Rattle.seat_costs.proofs.RowLemmas.{but_fewer, holding_within, row_within}
+use Rattle.seat_costs.proofs.WordLemmas.{owns_held, still_held}
+use Rattle.cache_fill.specs.Refills.{IsFilledInOrder}
 use Rattle.seat_calls.specs.Large.{AllocatesNoLarge, HasAllocatedLarge, HasFreedLarge, large_costs, large_free_costs}
 use Rattle.seat_calls.specs.Requests.{Answers, IsGivenBack, IsSmallBlock, IsSpan, by_class, by_span, light_free_costs, light_request, most_free_costs, of_a_class, of_a_span, request_costs}
 use Rattle.seat_calls.specs.Small.{AllocatesNone, HasAllocated, HasFreed, IfGoing, IsHeldOutside, alloc_costs, block_of, free_costs, light_alloc}

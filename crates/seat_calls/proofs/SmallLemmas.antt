@@ -19,29 +19,29 @@ use Rattle.core_model.specs.View.{Batch, View, of_class, times_block, no_batch}
 use Rattle.core_model.proofs.OwnerLemmas.{in_lists_total}
 use Rattle.core_model.proofs.PlaceLemmas.{and_both, and_is, cell_at_index, not-eq, skip}
 use Rattle.core_model.proofs.ShiftLemmas.{first_rest, in_classes_set, within_without}
-use Rattle.seat_notes.proofs.EndLemmas.{last_there}
-use Rattle.seat_notes.proofs.BlockRanges.{in_classes_word}
+use Rattle.seat_state.proofs.EndLemmas.{last_there}
+use Rattle.seat_state.proofs.BlockRanges.{in_classes_word}
 use Rattle.heap_rule.specs.Fences.{Owns}
 use Rattle.heap_rule.specs.Seated.{SeatView, TellsDraw}
 use Rattle.heap_rule.specs.Shown.{Can, CanFree, CanStore, Shows}
-use Rattle.heap_rule.proofs.LeftLemmas.{draw_frees}
+use Rattle.heap_rule.proofs.WordsLeftLemmas.{draw_frees}
 use Rattle.heap_rule.proofs.RawLemmas.{store_shown}
 use Rattle.heap_rule.proofs.SettleLemmas.{own_index}
 use Rattle.heap_rule.proofs.StoredLemmas.{of_none}
 use Rattle.heap_rule.proofs.ViewLemmas.{block_once, block_range}
 use Rattle.heap_table.specs.Plays.{HasSoundState, IsEvent}
-use Rattle.seat_flush.specs.Flushes.{HasFlushed, cache_costs, cache_runs, with_cache}
-use Rattle.seat_flush.specs.Runs.{runs_of}
-use Rattle.seat_flush.proofs.RunLemmas.{runs_few}
-use Rattle.seat_lists.proofs.PopLemmas.{drawn_as, still_owns}
-use Rattle.seat_rows.specs.Costs.{Costs, IsWithin, no_costs, one_draw}
-use Rattle.seat_rows.specs.Draws.{Settles}
-use Rattle.seat_rows.specs.Idle.{IsIdle}
-use Rattle.seat_rows.specs.Rows.{HasDrawn, HoldingRow, Parts, Passes, Row, RowBut, SameLooks, Stops, StoringRow, parts}
-use Rattle.seat_rows.specs.Words.{IsHeldWord, times_held}
-use Rattle.seat_rows.proofs.DrawLemmas.{early_rest, early_words, row_of_stop, shifted_is, stops}
-use Rattle.seat_rows.proofs.RowLemmas.{but_fewer, but_then, row_but, stops_passed}
-use Rattle.seat_rows.proofs.WordLemmas.{owns_held, still_held}
+use Rattle.cache_flush.specs.Flushes.{HasFlushed, cache_costs, cache_runs, with_cache}
+use Rattle.cache_flush.specs.Runs.{runs_of}
+use Rattle.cache_flush.proofs.RunLemmas.{runs_few}
+use Rattle.superblock_lists.proofs.PopLemmas.{drawn_as, still_owns}
+use Rattle.seat_costs.specs.Costs.{Costs, IsWithin, no_costs, one_draw}
+use Rattle.seat_costs.specs.Draws.{Settles}
+use Rattle.seat_costs.specs.Idle.{IsIdle}
+use Rattle.seat_costs.specs.Rows.{HasDrawn, HoldingRow, Parts, Passes, Row, RowBut, SameLooks, Stops, StoringRow, parts}
+use Rattle.seat_costs.specs.Words.{IsHeldWord, times_held}
+use Rattle.seat_costs.proofs.DrawLemmas.{early_rest, early_words, row_of_stop, shifted_is, stops}
+use Rattle.seat_costs.proofs.RowLemmas.{but_fewer, but_then, row_but, stops_passed}
+use Rattle.seat_costs.proofs.WordLemmas.{owns_held, still_held}
 use Rattle.seat_calls.specs.Small.{HasAllocated, HasCached, HasFreed, HasWay, IsHeldOutside, MayHoldLess, block_of, free_costs, with_freed}
 
 -- a held block is the seat's once, and so neither cached nor in the batch

@@ -7,9 +7,9 @@ use Rattle.heap_seat.specs.declared.fault.AllocFault.TheVariants.{Full, Stopped}
 use Rattle.heap_seat.specs.declared.fault.Looks.{Looks}
 use Rattle.core_model.specs.Effects.{without_span}
 use Rattle.core_model.specs.View.{View}
-use Rattle.seat_fill.specs.Refills.{IsLook}
-use Rattle.seat_rows.specs.Costs.{Costs, no_costs}
-use Rattle.seat_rows.specs.Rows.{IsMade, Stops, next_of, parts}
+use Rattle.cache_fill.specs.Refills.{IsLook}
+use Rattle.seat_costs.specs.Costs.{Costs, no_costs}
+use Rattle.seat_costs.specs.Rows.{IsMade, Stops, next_of, parts}
 
 -- a block of n superblocks is held, which are the first that were not taken, as the last look at the mark said: there is room for them, and they count as taken
 pub record HasAllocatedLarge (n : ℕ) (b : Block) (v w : View) : Type 0 where

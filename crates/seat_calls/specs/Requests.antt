@@ -9,9 +9,9 @@ use Rattle.heap_seat.specs.declared.fault.AllocFault.TheVariants.{Full, Stopped}
 use Rattle.heap_seat.specs.declared.fault.Looks.{Looks}
 use Rattle.core_model.specs.Effects.{span_count}
 use Rattle.core_model.specs.View.{View, of_class}
-use Rattle.seat_rows.specs.Costs.{Costs, no_costs}
-use Rattle.seat_rows.specs.Rows.{Stops}
-use Rattle.seat_fill.specs.Refills.{IsFull}
+use Rattle.seat_costs.specs.Costs.{Costs, no_costs}
+use Rattle.seat_costs.specs.Rows.{Stops}
+use Rattle.cache_fill.specs.Refills.{IsFull}
 use Rattle.large_block.specs.Splits.{MayHaveSplit}
 use Rattle.seat_calls.specs.Large.{HasAllocatedLarge, HasFreedLarge, HasNoRoom}
 use Rattle.seat_calls.specs.Small.{HasAllocated, HasFreed, MayHoldLess}

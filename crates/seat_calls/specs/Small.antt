@@ -8,14 +8,14 @@ use Rattle.core_model.specs.Cells.{data_cell}
 use Rattle.core_model.specs.Effects.{first_of}
 use Rattle.core_model.specs.View.{View, of_class}
 use Rattle.heap_rule.specs.Shown.{Shows}
-use Rattle.seat_rows.specs.Costs.{Costs, no_costs}
+use Rattle.seat_costs.specs.Costs.{Costs, no_costs}
 use Rattle.heap_seat.specs.declared.fault.AllocFault.{AllocFault}
-use Rattle.seat_flush.specs.Flushes.{GivesRuns}
-use Rattle.seat_flush.specs.Runs.{runs_of}
+use Rattle.cache_flush.specs.Flushes.{GivesRuns}
+use Rattle.cache_flush.specs.Runs.{runs_of}
 use Rattle.heap_seat.specs.declared.fault.AllocFault.TheVariants.{Full, Stopped}
-use Rattle.seat_fill.specs.Refills.{IsFull}
-use Rattle.seat_rows.specs.Rows.{Parts, Stops, parts}
-use Rattle.seat_rows.specs.Words.{IsHeldWord}
+use Rattle.cache_fill.specs.Refills.{IsFull}
+use Rattle.seat_costs.specs.Rows.{Parts, Stops, parts}
+use Rattle.seat_costs.specs.Words.{IsHeldWord}
 
 -- the block is held, and the cache of the class has these blocks
 abbrev pub with_allocated : ℕ → ℕ → List ℕ → Parts → Parts

@@ -4,9 +4,9 @@
 ghost use Rattle.std.specs.Prelude.{◌≡◌, ◌<◌, ◌≤◌, ◌+◌, None, [], IfOk, OnOk, OnErr, IfErr};
 ghost use Rattle.heap_model.specs.Sizes.{span_of};
 ghost use Rattle.heap_rule.specs.Seated.{IsSeatOf};
-ghost use Rattle.seat_rows.specs.Asked.{HasAsked};
-ghost use Rattle.seat_rows.specs.Idle.{IsIdle};
-ghost use Rattle.seat_rows.specs.Rows.{HoldingRow, Row, Stops, next_of};
+ghost use Rattle.seat_costs.specs.Asked.{HasAsked};
+ghost use Rattle.seat_costs.specs.Idle.{IsIdle};
+ghost use Rattle.seat_costs.specs.Rows.{HoldingRow, Row, Stops, next_of};
 ghost use Rattle.core_model.specs.Cells.{superblock_at};
 ghost use Rattle.core_model.specs.Effects.{span_count};
 ghost use Rattle.core_model.specs.Guards.{MaySplit};

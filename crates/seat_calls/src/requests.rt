@@ -5,11 +5,11 @@ ghost use Rattle.core_model.specs.Held.{IsHeld};
 ghost use Rattle.heap_model.specs.Sizes.{IsLeastClassFor};
 ghost use Rattle.core_model.specs.View.{of_class};
 ghost use Rattle.heap_rule.specs.Seated.{IsSeatOf};
-ghost use Rattle.seat_rows.specs.Asked.{HasAsked};
-ghost use Rattle.seat_rows.specs.Costs.{one_draw};
-ghost use Rattle.seat_rows.specs.Idle.{HasShortCaches, IsIdle};
-ghost use Rattle.seat_rows.specs.Rows.{HoldingRow, Row, RowBut, Stops, next_of};
-ghost use Rattle.seat_fill.specs.Refills.{IsFilledInOrder};
+ghost use Rattle.seat_costs.specs.Asked.{HasAsked};
+ghost use Rattle.seat_costs.specs.Costs.{one_draw};
+ghost use Rattle.seat_costs.specs.Idle.{HasShortCaches, IsIdle};
+ghost use Rattle.seat_costs.specs.Rows.{HoldingRow, Row, RowBut, Stops, next_of};
+ghost use Rattle.cache_fill.specs.Refills.{IsFilledInOrder};
 ghost use Rattle.seat_calls.specs.Requests.{Answers, IsGivenBack, MayBeGivenBack, light_free_costs, light_request, most_free_costs, request_costs};
 ghost use Rattle.seat_calls.specs.Small.{IfGoing, IsHeldOutside};
 
@@ -87,7 +87,7 @@ pub fn free<C: Chance>(
     ensures asked { HasAsked C.draw_gives seat.old.view seat.new.view chance.old chance.new }
     ensures seat { IsSeatOf shared.now seat.new }
 {
-    seat.has_a_sound_state();
+    seat.recall_soundness();
     match SizeClass::for_bytes(WORD_BYTES * block.words) {
         Some(class) => free_small(seat, shared, block.first_word, class, chance),
         None => free_large(seat, shared, block, chance),

@@ -6,20 +6,20 @@ ghost use Rattle.heap_model.specs.Counting.{times};
 ghost use Rattle.heap_model.specs.Sizes.{blocks_of};
 ghost use Rattle.core_model.specs.View.{of_class};
 ghost use Rattle.heap_rule.specs.Seated.{IsSeatOf};
-ghost use Rattle.seat_rows.specs.Asked.{HasAsked};
-ghost use Rattle.seat_rows.specs.Costs.{no_costs, one_draw};
-ghost use Rattle.seat_rows.specs.Idle.{HasShortCaches, IsIdle};
-ghost use Rattle.seat_rows.specs.Rows.{HoldingRow, Row, RowBut, SameLooks, Stops, StoringRow, next_of};
-ghost use Rattle.seat_fill.specs.Refills.{IsFilledInOrder};
+ghost use Rattle.seat_costs.specs.Asked.{HasAsked};
+ghost use Rattle.seat_costs.specs.Costs.{no_costs, one_draw};
+ghost use Rattle.seat_costs.specs.Idle.{HasShortCaches, IsIdle};
+ghost use Rattle.seat_costs.specs.Rows.{HoldingRow, Row, RowBut, SameLooks, Stops, StoringRow, next_of};
+ghost use Rattle.cache_fill.specs.Refills.{IsFilledInOrder};
 ghost use Rattle.seat_calls.specs.Small.{AllocatesNone, HasAllocated, HasCached, HasFreed, HasWay, IfGoing, IsHeldOutside, MayHoldLess, alloc_costs, block_of, free_costs, light_alloc};
 
 use core_model::Shift;
 use heap_rule::{Seat, Shared};
 use heap_seat::AllocFault;
 use line_memory::{Chance, Stopped};
-use seat_fill::{Filling, refill};
-use seat_flush::flush;
-use seat_rows::{draw, draw_with};
+use cache_fill::{Filling, refill};
+use cache_flush::flush;
+use seat_costs::{draw, draw_with};
 use size_table::{SizeClass, blocks_of};
 use super_block::{Block, block_words};
 
@@ -45,7 +45,7 @@ fn alloc_cached<C: Chance>(
     ensures asked { HasAsked C.draw_gives seat.old.view seat.new.view chance.old chance.new }
     ensures seat { IsSeatOf shared.now seat.new }
 {
-    seat.has_a_sound_state();
+    seat.recall_soundness();
     let (first_word, _) = seat.cache(shared, class);
     let shift = Shift::Alloc {
         class: class.number as u64,
@@ -92,7 +92,7 @@ pub fn alloc_small<C: Chance>(
     ensures asked { HasAsked C.draw_gives seat.old.view seat.new.view chance.old chance.new }
     ensures seat { IsSeatOf shared.now seat.new }
 {
-    seat.has_a_sound_state();
+    seat.recall_soundness();
     let (_, count) = seat.cache(shared, class);
     if count > 0 {
         let block = alloc_cached(seat, shared, class, chance)?;
@@ -124,7 +124,7 @@ fn lead_to_cache<C: Chance>(
     ensures asked { HasAsked C.draw_gives seat.old.view seat.new.view chance.old chance.new }
     ensures seat { IsSeatOf shared.now seat.new }
 {
-    seat.has_a_sound_state();
+    seat.recall_soundness();
     draw(seat, shared, chance)?;
     let (first, count) = seat.cache(shared, class);
     if count == 0 {
@@ -153,7 +153,7 @@ fn free_cached<C: Chance>(
     ensures asked { HasAsked C.draw_gives seat.old.view seat.new.view chance.old chance.new }
     ensures seat { IsSeatOf shared.now seat.new }
 {
-    seat.has_a_sound_state();
+    seat.recall_soundness();
     lead_to_cache(seat, shared, block, class, chance)?;
     draw_with(seat, shared, Some(Shift::Free { block }), chance)
 }
@@ -188,7 +188,7 @@ pub fn free_small<C: Chance>(
     ensures asked { HasAsked C.draw_gives seat.old.view seat.new.view chance.old chance.new }
     ensures seat { IsSeatOf shared.now seat.new }
 {
-    seat.has_a_sound_state();
+    seat.recall_soundness();
     free_cached(seat, shared, block, class, chance)?;
     let (_, count) = seat.cache(shared, class);
     if count < blocks_of(class.number) {

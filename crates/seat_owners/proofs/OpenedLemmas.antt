@@ -25,8 +25,8 @@ use Rattle.heap_rule.proofs.RecordLemmas.{only_at}
 use Rattle.heap_rule.proofs.SettleLemmas.{own_below}
 use Rattle.heap_seat.specs.Words.{IsOwn}
 use Rattle.dict_model.specs.Links.{dict_links}
-use Rattle.dict_seat.specs.Trails.{IsDurableAt}
-use Rattle.seat_rows.proofs.WordLemmas.{owns_held}
+use Rattle.dict_requests.specs.Trails.{IsDurableAt}
+use Rattle.seat_costs.proofs.WordLemmas.{owns_held}
 use Rattle.seat_view.specs.CacheState.{CacheState, CallCounts, counts_of, heap_view, heap_view_of, held_blocks}
 use Rattle.seat_view.proofs.HeldLemmas.{held_is, word_held}
 use Rattle.seat_view.proofs.ListedBlocks.{listed}

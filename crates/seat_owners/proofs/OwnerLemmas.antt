@@ -12,7 +12,7 @@ use Rattle.heap_model.proofs.ImageLemmas.{length-words_from, get_or-words_from}
 use Rattle.heap_model.proofs.ReachLemmas.{closure_least, more_roots}
 use Rattle.root_reach.specs.Reaching.{IsReachedBeside}
 use Rattle.dict_model.specs.Links.{shards, dict_links}
-use Rattle.dict_seat.proofs.ShardReachLemmas.{reached_alone}
+use Rattle.dict_requests.proofs.ShardReachLemmas.{reached_alone}
 use Rattle.run_model.specs.Opened.{HasMaps}
 use Rattle.run_model.specs.Workers.{root_owner}
 use Rattle.seat_owners.specs.Owning.{AreOwnedUpTo, AreOwnersByRoot, IsOwnedBy}

@@ -16,7 +16,7 @@ use dictionary::{MappedHeap, origins_of};
 use filter_trace::Scan;
 use heap_model::Block;
 use root_reach::Origins;
-use seat_notes::Owners;
+use seat_state::Owners;
 use std::alloc::{AllocError, Global};
 use super_block::{Directory, ROOTS, Ready};
 
@@ -40,7 +40,7 @@ pub fn owners_of(alloc: Global, heap: &Ready, workers: usize) -> Result<Owners, 
 }
 
 /// The same of a heap whose maps were read, by what their trace told.
-pub fn owners_by_trace(
+pub fn owners_of_mapped(
     alloc: Global,
     mapped: &MappedHeap,
     workers: usize,

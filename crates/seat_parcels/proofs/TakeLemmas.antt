@@ -6,7 +6,7 @@ use Rattle.atomic_table.specs.Seated.{TableId}
 use Rattle.heap_rule.specs.Carried.{CarrierView}
 use Rattle.heap_seat.specs.Handing.{Accepts}
 use Rattle.heap_seat.specs.View.{View}
-use Rattle.dict_seat.specs.Moving.{IsNodeOf}
+use Rattle.dict_requests.specs.Moving.{IsNodeOf}
 use Rattle.seat_view.specs.CacheState.{CacheState}
 use Rattle.shard_moves.specs.Inboxes.{TakesFirst}
 use Rattle.seat_parcels.specs.declared.parcel.Parcel.{Parcel}

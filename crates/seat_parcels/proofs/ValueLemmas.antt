@@ -5,7 +5,7 @@ use Rattle.atomic_table.specs.Seated.{TableId}
 use Rattle.heap_seat.specs.Handing.{Contents}
 use Rattle.heap_seat.specs.Words.{MayBe}
 use Rattle.dict_model.specs.Nodes.{value_in}
-use Rattle.dict_seat.specs.Moving.{IsNodeIn, MixesBlock}
+use Rattle.dict_requests.specs.Moving.{IsNodeIn, MixesBlock}
 use Rattle.heap_rule.specs.Carried.{CarrierView}
 use Rattle.thread_cache.specs.Handing.{contents_of}
 use Rattle.seat_parcels.specs.declared.parcel.Parcel.{Parcel}

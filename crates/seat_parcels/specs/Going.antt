@@ -1,6 +1,6 @@
 -- What goes on of a seat over its calls and over the blocks that it offers or accepts.
 use Rattle.std.specs.Prelude.{◌≡◌, ℕ}
-use Rattle.seat_rows.specs.Asked.{HasAsked}
+use Rattle.seat_costs.specs.Asked.{HasAsked}
 use Rattle.seat_view.specs.CacheState.{CacheValue}
 use Rattle.thread_cache.specs.Keeps.{KeepsCounts}
 

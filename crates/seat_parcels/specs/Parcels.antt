@@ -3,7 +3,7 @@ use Rattle.std.specs.Prelude.{◌≡◌, ℕ, List, Option, None, Some, map}
 use Rattle.heap_model.specs.Image.{Image}
 use Rattle.heap_seat.specs.Handing.{Contents}
 use Rattle.dict_model.specs.Nodes.{value_in}
-use Rattle.dict_seat.specs.Moving.{IsNodeIn}
+use Rattle.dict_requests.specs.Moving.{IsNodeIn}
 use Rattle.atomic_table.specs.Seated.{TableId}
 use Rattle.heap_rule.specs.Carried.{CarrierView}
 use Rattle.run_model.specs.Sending.{Sent}

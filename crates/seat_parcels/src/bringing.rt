@@ -12,7 +12,7 @@ ghost use Rattle.seat_parcels.specs.Trays.{IsInStepWith};
 
 use crate::intray::{ArrivalsOf, InTray};
 use crate::parcel::Parcel;
-use dict_seat::a_node_goes_with_its_value;
+use dict_requests::a_node_goes_with_its_value;
 use heap_model::Block;
 use line_memory::{Chance, Stopped};
 use shard_moves::Inbox;

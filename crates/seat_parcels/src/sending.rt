@@ -5,7 +5,7 @@ ghost use Rattle.std.specs.Prelude.{◌≡◌};
 use crate::fact::{HeapOf, QueuesOf};
 use crate::parcel::Parcel;
 use crate::postbox::PostBox;
-use dict_seat::a_node_goes_with_its_value;
+use dict_requests::a_node_goes_with_its_value;
 use heap_model::Block;
 use line_memory::{Chance, Stopped};
 use shard_moves::Outbox;

@@ -25,9 +25,9 @@ use Rattle.core_model.proofs.ShiftLemmas.{in_classes_set, within_without}
 use Rattle.core_model.proofs.SpanLemmas.{in_range, without_span_is}
 use Rattle.core_model.proofs.TotalLemmas.{eq-eqb-one, ne-eqb-none}
 use Rattle.heap_table.specs.Plays.{HasSoundState}
-use Rattle.seat_rows.specs.Words.{IsHeldWord, times_held}
-use Rattle.seat_rows.proofs.OnceLemmas.{own_once}
-use Rattle.seat_rows.proofs.WordLemmas.{held_own}
+use Rattle.seat_costs.specs.Words.{IsHeldWord, times_held}
+use Rattle.seat_costs.proofs.OnceLemmas.{own_once}
+use Rattle.seat_costs.proofs.WordLemmas.{held_own}
 use Rattle.seat_view.specs.CacheState.{CacheState, CallCounts, counts_of, heap_view, heap_view_of, held_blocks, large_blocks, small_blocks}
 use Rattle.seat_view.specs.Changes.{GivesBlock, GivesSpan, HoldsBlock, HoldsSpan, Loses}
 use Rattle.seat_view.proofs.HeldLemmas.{block_word, decided, contains_cons, held_is, small_there}

@@ -25,7 +25,7 @@ use Rattle.heap_rule.specs.declared.owned.Holding.TheVariants as holding
 use Rattle.heap_rule.specs.Holdings.{HoldsAlone}
 use Rattle.heap_rule.proofs.HeldLemmas.{held_apart, held_placed, one_large}
 use Rattle.core_model.proofs.LinkFrameLemmas.{span_covers}
-use Rattle.seat_rows.specs.Words.{IsHeldWord, times_held}
+use Rattle.seat_costs.specs.Words.{IsHeldWord, times_held}
 use Rattle.seat_view.specs.CacheState.{held_blocks, large_blocks, small_blocks}
 use Rattle.seat_view.proofs.HeldLemmas.{block_cell, small_there, word_of_block}
 use Rattle.seat_view.proofs.ChangedBlocks.{as_block, word_once}

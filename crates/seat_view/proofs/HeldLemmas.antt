@@ -24,7 +24,7 @@ use Rattle.core_model.specs.Held.{IsHeld, a_small, a_large}
 use Rattle.core_model.specs.View.{Span, View, Setup, takes, times_large, known}
 use Rattle.core_model.proofs.PlaceLemmas.{and_is, cell_at_index}
 use Rattle.core_model.proofs.TotalLemmas.{eq-eqb-one}
-use Rattle.seat_notes.proofs.BlockRanges.{in_classes_word}
+use Rattle.seat_state.proofs.BlockRanges.{in_classes_word}
 use Rattle.heap_rule.specs.Images.{HasPickedRecords}
 use Rattle.heap_rule.specs.Left.{Lasts, MayBeLeft, mixed, crashed, closed}
 use Rattle.heap_rule.proofs.CrashLemmas.{left_fixed, left_mixes, left_named}
@@ -35,10 +35,10 @@ use Rattle.heap_rule.proofs.SeatImageLemmas.{picked_image}
 use Rattle.line_memory.specs.Marks.{mark_at, marked_words}
 use Rattle.line_memory.specs.Marked.{marked_words-has, marked_words-only}
 use Rattle.heap_rule.specs.Seated.{SeatView}
-use Rattle.seat_rows.specs.Costs.{Costs}
-use Rattle.seat_rows.specs.Rows.{Passes, Row, ViewRow, after_ticket, next_of}
-use Rattle.seat_rows.specs.Words.{IsHeldWord, KeepsWord as KeepsRowWord, MayBe as MayBeOf, left_at, seen_at, times_held}
-use Rattle.seat_rows.proofs.WordLemmas.{at_cell, owns_held}
+use Rattle.seat_costs.specs.Costs.{Costs}
+use Rattle.seat_costs.specs.Rows.{Passes, Row, ViewRow, after_ticket, next_of}
+use Rattle.seat_costs.specs.Words.{IsHeldWord, KeepsWord as KeepsRowWord, MayBe as MayBeOf, left_at, seen_at, times_held}
+use Rattle.seat_costs.proofs.WordLemmas.{at_cell, owns_held}
 use Rattle.seat_view.specs.CacheState.{CacheState, CallCounts, heap_view_of, blocks_of_words, small_blocks, large_blocks, held_blocks, heap_view, opened_kinds, IsStateOf}
 
 -- a fact that can be decided, and that does not fail

@@ -12,9 +12,9 @@ use Rattle.atomic_table.specs.Seated.{TableId}
 use Rattle.core_model.specs.View.{LastLook, Setup, Span, View}
 use Rattle.heap_table.specs.Plays.{HasSoundState}
 use Rattle.heap_rule.specs.Seated.{SeatView}
-use Rattle.seat_rows.specs.Idle.{HasShortCaches, IsIdle}
-use Rattle.seat_rows.specs.Rows.{next_of}
-use Rattle.seat_rows.specs.Words.{left_at, seen_at}
+use Rattle.seat_costs.specs.Idle.{HasShortCaches, IsIdle}
+use Rattle.seat_costs.specs.Rows.{next_of}
+use Rattle.seat_costs.specs.Words.{left_at, seen_at}
 
 -- between its calls a seat that goes on is idle, and its caches are short
 abbrev pub IsBetweenCalls : View → Type 0

@@ -10,8 +10,8 @@ ghost use Rattle.heap_seat.specs.Words.{HasPicked, IsOwn, KeepsOwn, KeepsPending
 ghost use Rattle.heap_table.specs.Plays.{HasSoundState};
 ghost use Rattle.heap_rule.specs.Left.{MayBeLeft};
 ghost use Rattle.heap_rule.specs.Seated.{SeatView};
-ghost use Rattle.seat_rows.specs.Costs.{Costs};
-ghost use Rattle.seat_rows.specs.Rows.{Passes, Row};
+ghost use Rattle.seat_costs.specs.Costs.{Costs};
+ghost use Rattle.seat_costs.specs.Rows.{Passes, Row};
 ghost use Rattle.seat_view.specs.CacheState.{CacheState, IsStateOf, heap_view};
 ghost use Rattle.seat_view.specs.Changes.{GivesBlock, GivesSpan, HoldsBlock, HoldsSpan, Loses};
 

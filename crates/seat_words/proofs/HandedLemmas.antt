@@ -7,7 +7,7 @@ use Rattle.core_model.specs.Carriers.{MayHand}
 use Rattle.core_model.specs.Held.{IsHeld, a_small, a_large}
 use Rattle.core_model.specs.View.{View, one_if_some}
 use Rattle.heap_table.specs.Plays.{HasSoundState}
-use Rattle.seat_rows.specs.Rows.{HasDrawn}
+use Rattle.seat_costs.specs.Rows.{HasDrawn}
 
 pub may_hand : (v w : View) → HasDrawn v w → HasSoundState w → MayHand w
 may_hand v w drawn has = record {

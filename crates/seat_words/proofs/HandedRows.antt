@@ -20,11 +20,11 @@ use Rattle.heap_rule.specs.Seated.{KeepsStores, SeatView}
 use Rattle.heap_rule.proofs.OwnedCarriers.{all_roots}
 use Rattle.heap_rule.proofs.RawLemmas.{volatile_long, durable_long}
 use Rattle.heap_rule.proofs.SettleLemmas.{own_below, own_index, own_there}
-use Rattle.seat_rows.specs.Costs.{one_draw}
-use Rattle.seat_rows.specs.Rows.{HasDrawn, Passes, Row, ViewRow}
-use Rattle.seat_rows.specs.Words.{IsHeldWord, KeepsWord, times_held}
-use Rattle.seat_rows.proofs.RowLemmas.{row_held, row_holds}
-use Rattle.seat_rows.proofs.WordLemmas.{owns_held, trimmed_word, word_same, word_then}
+use Rattle.seat_costs.specs.Costs.{one_draw}
+use Rattle.seat_costs.specs.Rows.{HasDrawn, Passes, Row, ViewRow}
+use Rattle.seat_costs.specs.Words.{IsHeldWord, KeepsWord, times_held}
+use Rattle.seat_costs.proofs.RowLemmas.{row_held, row_holds}
+use Rattle.seat_costs.proofs.WordLemmas.{owns_held, trimmed_word, word_same, word_then}
 use Rattle.seat_words.specs.Handed.{AcceptRow, ComesWith, GoesWith, OfferRow}
 
 -- words of chosen blocks

@@ -12,7 +12,7 @@ use Rattle.core_model.specs.Cells.{Cell, used_cell, head_cell, info_cell, anchor
 use Rattle.core_model.specs.Effects.{last_of, learn, stored, used_up}
 use Rattle.core_model.specs.View.{Batch, View, no_batch}
 use Rattle.core_model.proofs.OwnerLemmas.{which_class}
-use Rattle.seat_notes.proofs.BlockRanges.{in_classes_word}
+use Rattle.seat_state.proofs.BlockRanges.{in_classes_word}
 use Rattle.heap_table.specs.Plays.{HasSoundState, IsEvent}
 use Rattle.heap_rule.specs.Fences.{IsLineMarked, IsSeatFence, Owns}
 use Rattle.heap_rule.specs.Seated.{SeatView}
@@ -20,14 +20,14 @@ use Rattle.heap_rule.specs.Shown.{Can, CanStore}
 use Rattle.heap_rule.proofs.RawLemmas.{volatile_long}
 use Rattle.heap_rule.proofs.SettleLemmas.{own_below}
 use Rattle.heap_rule.proofs.ViewLemmas.{block_class}
-use Rattle.seat_rows.specs.Costs.{Costs}
-use Rattle.seat_rows.specs.Rows.{HasDrawn, Row, SameLooks, Stops, ViewRow, after_ticket, parts}
-use Rattle.seat_rows.specs.Words.{IsDurableAt, IsHeldWord, KeepsWord, MayBe, seen_at, times_held}
-use Rattle.seat_rows.proofs.OnceLemmas.{not_held}
-use Rattle.seat_rows.proofs.RowLemmas.{not_both}
-use Rattle.seat_rows.proofs.StoreLemmas.{fenced}
-use Rattle.seat_rows.proofs.WordLemmas.{owns_held}
-use Rattle.seat_lists.proofs.PopLemmas.{drawn_as}
+use Rattle.seat_costs.specs.Costs.{Costs}
+use Rattle.seat_costs.specs.Rows.{HasDrawn, Row, SameLooks, Stops, ViewRow, after_ticket, parts}
+use Rattle.seat_costs.specs.Words.{IsDurableAt, IsHeldWord, KeepsWord, MayBe, seen_at, times_held}
+use Rattle.seat_costs.proofs.OnceLemmas.{not_held}
+use Rattle.seat_costs.proofs.RowLemmas.{not_both}
+use Rattle.seat_costs.proofs.StoreLemmas.{fenced}
+use Rattle.seat_costs.proofs.WordLemmas.{owns_held}
+use Rattle.superblock_lists.proofs.PopLemmas.{drawn_as}
 use Rattle.seat_words.specs.Own.{Drew, HasFenced, HasValue, HasMarkedLine, MayHave, MayRead, RunsOn}
 
 -- what a draw and a step behind it leave, where the step changes no part

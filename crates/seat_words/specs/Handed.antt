@@ -7,9 +7,9 @@ use Rattle.core_model.specs.View.{View}
 use Rattle.heap_table.specs.Plays.{HasSoundState}
 use Rattle.heap_rule.specs.Carried.{CarrierView, Carries}
 use Rattle.heap_rule.specs.Seated.{SeatView}
-use Rattle.seat_rows.specs.Costs.{one_draw}
-use Rattle.seat_rows.specs.Rows.{HasDrawn, RowBut}
-use Rattle.seat_rows.specs.Words.{IsHeldWord, KeepsWord, left_at, seen_at}
+use Rattle.seat_costs.specs.Costs.{one_draw}
+use Rattle.seat_costs.specs.Rows.{HasDrawn, RowBut}
+use Rattle.seat_costs.specs.Words.{IsHeldWord, KeepsWord, left_at, seen_at}
 
 -- a ticket was drawn, and the block offered by it
 pub record HasOffered (b : Block) (carrier : CarrierView) (table : TableId) (v w : View) : Type 0 where

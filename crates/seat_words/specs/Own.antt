@@ -5,8 +5,8 @@ use Rattle.line_memory.specs.Marks.{IsMarked}
 use Rattle.core_model.specs.View.{View}
 use Rattle.heap_rule.specs.Fences.{Owns}
 use Rattle.heap_rule.specs.Seated.{SeatView}
-use Rattle.seat_rows.specs.Rows.{next_of, parts}
-use Rattle.seat_rows.specs.Words.{IsDurableAt, MayBe, left_at, seen_at}
+use Rattle.seat_costs.specs.Rows.{next_of, parts}
+use Rattle.seat_costs.specs.Words.{IsDurableAt, MayBe, left_at, seen_at}
 
 -- the call was done, with at least one ticket, and the seat goes on with its parts
 pub record RunsOn (v w : View) : Type 0 where

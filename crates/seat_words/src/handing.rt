@@ -3,14 +3,14 @@
 ghost use Rattle.std.specs.Prelude.{◌≡◌, ◌<◌, None, IfErr, IfOk, OnErr, OnOk};
 ghost use Rattle.core_model.specs.Held.{IsHeld};
 ghost use Rattle.heap_rule.specs.Seated.{IsSeatOf};
-ghost use Rattle.seat_rows.specs.Asked.{HasAsked};
-ghost use Rattle.seat_rows.specs.Costs.{one_draw};
-ghost use Rattle.seat_rows.specs.Rows.{Row, SameLooks, Stops, next_of};
+ghost use Rattle.seat_costs.specs.Asked.{HasAsked};
+ghost use Rattle.seat_costs.specs.Costs.{one_draw};
+ghost use Rattle.seat_costs.specs.Rows.{Row, SameLooks, Stops, next_of};
 ghost use Rattle.seat_words.specs.Handed.{AcceptRow, ComesWith, GoesWith, HasAccepted, HasOffered, OfferRow};
 
 use heap_rule::{Carrier, Seat, Shared};
 use line_memory::{Chance, Stopped};
-use seat_rows::draw;
+use seat_costs::draw;
 use super_block::Block;
 
 /// Gives a held block to a carrier. Where the seat stops it is still held.
@@ -36,7 +36,7 @@ pub fn offer<C: Chance>(
     ensures seat { IsSeatOf shared.now seat.new }
 {
     draw(seat, shared, chance)?;
-    seat.has_a_sound_state();
+    seat.recall_soundness();
     Ok(seat.offer(shared, block))
 }
 
@@ -65,9 +65,9 @@ pub fn accept<C: Chance>(
 {
     match draw(seat, shared, chance) {
         Ok(()) => {
-            seat.has_a_sound_state();
+            seat.recall_soundness();
             let block = seat.accept(shared, carrier);
-            seat.has_a_sound_state();
+            seat.recall_soundness();
             Ok(block)
         }
         Err(stopped) => Err((stopped, carrier)),

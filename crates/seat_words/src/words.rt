@@ -5,16 +5,16 @@ ghost use Rattle.core_model.specs.View.{no_batch};
 ghost use Rattle.heap_rule.specs.Fences.{Owns};
 ghost use Rattle.heap_rule.specs.Seated.{IsSeatOf};
 ghost use Rattle.line_memory.specs.Marks.{IsMarked};
-ghost use Rattle.seat_rows.specs.Asked.{HasAsked};
-ghost use Rattle.seat_rows.specs.Costs.{one_draw};
-ghost use Rattle.seat_rows.specs.Draws.{LeavesAsSettled};
-ghost use Rattle.seat_rows.specs.Rows.{Row, SameLooks, Stops, StoringRow};
-ghost use Rattle.seat_rows.specs.Words.{IsHeldWord};
+ghost use Rattle.seat_costs.specs.Asked.{HasAsked};
+ghost use Rattle.seat_costs.specs.Costs.{one_draw};
+ghost use Rattle.seat_costs.specs.Draws.{LeavesAsSettled};
+ghost use Rattle.seat_costs.specs.Rows.{Row, SameLooks, Stops, StoringRow};
+ghost use Rattle.seat_costs.specs.Words.{IsHeldWord};
 ghost use Rattle.seat_words.specs.Own.{Drew, HasFenced, HasValue, HasMarkedLine, MayHave};
 
 use heap_rule::{Seat, Shared};
 use line_memory::{Chance, Stopped};
-use seat_rows::draw;
+use seat_costs::draw;
 
 /// What loads see of an own word.
 pub fn load<C: Chance>(
@@ -66,7 +66,7 @@ pub fn store<C: Chance>(
     ensures asked { HasAsked C.draw_gives seat.old.view seat.new.view chance.old chance.new }
     ensures seat { IsSeatOf shared.now seat.new }
 {
-    seat.has_a_sound_state();
+    seat.recall_soundness();
     draw(seat, shared, chance)?;
     seat.store_word(shared, word, value);
     Ok(())

@@ -11,17 +11,17 @@ use Rattle.heap_seat.proofs.RowLemmas.{row_then, row_more, row_small, runs_then}
 use Rattle.heap_seat.proofs.CallerLemmas.{keeps_word_then}
 use Rattle.dict_model.specs.Nodes.{shard_of}
 use Rattle.dict_model.specs.Requests.{with_key}
-use Rattle.dict_seat.specs.Changes.{MayChange, Changes}
-use Rattle.dict_seat.specs.Moving.{MayBring, MovesFew}
-use Rattle.dict_seat.specs.Puts.{RootIsSet}
-use Rattle.dict_seat.specs.Quiet.{Grown}
-use Rattle.dict_seat.specs.Reached.{ReachesAllHeld, ReachesAllHeldBut}
-use Rattle.dict_seat.specs.Removal.{IsShard, IsLoose}
-use Rattle.dict_seat.specs.Walks.{ListsKeys}
-use Rattle.dict_seat.proofs.ChangeLemmas.{change_none, table_then, table_grown}
-use Rattle.dict_seat.proofs.CountLemmas.{lists_later}
-use Rattle.dict_seat.proofs.GrownLemmas.{grown_keeps, gives_grown, reached_before, shard_grown}
-use Rattle.dict_seat.proofs.HandingLemmas.{accepts_grown, accepted_loose, accepted_all, set_grown}
+use Rattle.dict_requests.specs.Changes.{MayChange, Changes}
+use Rattle.dict_requests.specs.Moving.{MayBring, MovesFew}
+use Rattle.dict_requests.specs.Puts.{RootIsSet}
+use Rattle.dict_requests.specs.Quiet.{Grown}
+use Rattle.dict_requests.specs.Reached.{ReachesAllHeld, ReachesAllHeldBut}
+use Rattle.dict_requests.specs.Removal.{IsShard, IsLoose}
+use Rattle.dict_requests.specs.Walks.{ListsKeys}
+use Rattle.dict_requests.proofs.ChangeLemmas.{change_none, table_then, table_grown}
+use Rattle.dict_requests.proofs.CountLemmas.{lists_later}
+use Rattle.dict_requests.proofs.GrownLemmas.{grown_keeps, gives_grown, reached_before, shard_grown}
+use Rattle.dict_requests.proofs.HandingLemmas.{accepts_grown, accepted_loose, accepted_all, set_grown}
 use Rattle.shard_moves.specs.Arriving.{HaveTables, MayArrive, HasArrived, StopsAtFirst}
 use Rattle.shard_moves.specs.Inboxes.{TakesFirst, IsLeft}
 use Rattle.run_model.specs.Sending.{Sent}

@@ -11,15 +11,15 @@ use Rattle.heap_seat.proofs.CallerLemmas.{keeps_word_then}
 use Rattle.dict_model.specs.Nodes.{shard_of}
 use Rattle.dict_model.specs.Requests.{move, done, full, none, without_key, IsReply, move_done, move_full, move_none}
 use Rattle.dict_model.specs.Shards.{Map}
-use Rattle.dict_seat.specs.Changes.{MayChange, Changes}
-use Rattle.dict_seat.specs.Maps.{IsMapIn}
-use Rattle.dict_seat.specs.Moving.{IsTakenOut, TakesOut, TellsKey, MovesFew}
-use Rattle.dict_seat.specs.Reached.{ReachesAllHeld, ReachesAllHeldBut}
-use Rattle.dict_seat.specs.Removal.{IsShard}
-use Rattle.dict_seat.proofs.ChangeLemmas.{freed, table_then, table_grown}
-use Rattle.dict_seat.proofs.DeleteLemmas.{shard_below}
-use Rattle.dict_seat.proofs.HandingLemmas.{offered, offered_all}
-use Rattle.dict_seat.proofs.GrownLemmas.{grown_keeps, only_grown, kind_kept, map_grown, mixes_grown}
+use Rattle.dict_requests.specs.Changes.{MayChange, Changes}
+use Rattle.dict_requests.specs.Maps.{IsMapIn}
+use Rattle.dict_requests.specs.Moving.{IsTakenOut, TakesOut, TellsKey, MovesFew}
+use Rattle.dict_requests.specs.Reached.{ReachesAllHeld, ReachesAllHeldBut}
+use Rattle.dict_requests.specs.Removal.{IsShard}
+use Rattle.dict_requests.proofs.ChangeLemmas.{freed, table_then, table_grown}
+use Rattle.dict_requests.proofs.DeleteLemmas.{shard_below}
+use Rattle.dict_requests.proofs.HandingLemmas.{offered, offered_all}
+use Rattle.dict_requests.proofs.GrownLemmas.{grown_keeps, only_grown, kind_kept, map_grown, mixes_grown}
 use Rattle.run_model.specs.Progress.{Answers}
 use Rattle.run_model.specs.Working.{MakesCalls}
 

@@ -15,10 +15,10 @@ use Rattle.heap_seat.proofs.RowLemmas.{row_none, row_then, row_more, runs_then, 
 use Rattle.dict_model.specs.Links.{shards}
 use Rattle.dict_model.specs.Nodes.{shard_of}
 use Rattle.dict_model.specs.Requests.{Request, put, Reply, done, with_key, put_done}
-use Rattle.dict_seat.specs.Reached.{ReachesAllHeld}
-use Rattle.dict_seat.specs.Walks.{ListsKeys}
-use Rattle.dict_seat.proofs.HandingLemmas.{set_changed}
-use Rattle.dict_seat.proofs.OthersLemmas.{others_give, shard_on}
+use Rattle.dict_requests.specs.Reached.{ReachesAllHeld}
+use Rattle.dict_requests.specs.Walks.{ListsKeys}
+use Rattle.dict_requests.proofs.HandingLemmas.{set_changed}
+use Rattle.dict_requests.proofs.OthersLemmas.{others_give, shard_on}
 use Rattle.run_model.specs.Progress.{Answers, HasAnswered}
 use Rattle.run_model.specs.Working.{TakesRequest, TakesRequests}
 use Rattle.run_model.proofs.GoesOnLemmas.{goes_on, takes_push}

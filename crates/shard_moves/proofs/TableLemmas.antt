@@ -17,14 +17,14 @@ use Rattle.dict_model.specs.Links.{shards}
 use Rattle.dict_model.specs.Nodes.{table_bytes}
 use Rattle.dict_model.specs.Requests.{Request, Reply}
 use Rattle.dict_model.specs.Shards.{Map}
-use Rattle.dict_seat.specs.Changes.{MayChange, Changes}
-use Rattle.dict_seat.specs.Maps.{IsMapIn}
-use Rattle.dict_seat.specs.Moving.{TableTakes, for_none, for_table}
-use Rattle.dict_seat.specs.Puts.{WasNull}
-use Rattle.dict_seat.specs.Reached.{ReachesAllHeld}
-use Rattle.dict_seat.specs.Removal.{IsShard}
-use Rattle.dict_seat.proofs.HandingLemmas.{set_changed}
-use Rattle.dict_seat.proofs.OthersLemmas.{shard_on}
+use Rattle.dict_requests.specs.Changes.{MayChange, Changes}
+use Rattle.dict_requests.specs.Maps.{IsMapIn}
+use Rattle.dict_requests.specs.Moving.{TableTakes, for_none, for_table}
+use Rattle.dict_requests.specs.Puts.{WasNull}
+use Rattle.dict_requests.specs.Reached.{ReachesAllHeld}
+use Rattle.dict_requests.specs.Removal.{IsShard}
+use Rattle.dict_requests.proofs.HandingLemmas.{set_changed}
+use Rattle.dict_requests.proofs.OthersLemmas.{shard_on}
 use Rattle.run_model.specs.Progress.{HasAnswered}
 use Rattle.run_model.specs.Spending.{sees_table, tables_made, tables_missing}
 use Rattle.run_model.proofs.CountLemmas.{count_rises, count_gains, set_value, value_set, null_unset}

@@ -7,10 +7,10 @@ use Rattle.heap_seat.specs.Tickets.{Runs}
 use Rattle.heap_seat.specs.View.{View}
 use Rattle.dict_model.specs.Nodes.{shard_of}
 use Rattle.dict_model.specs.Requests.{Request, put, Reply, with_key}
-use Rattle.dict_seat.specs.Changes.{Changes}
-use Rattle.dict_seat.specs.Puts.{RootIsSet}
-use Rattle.dict_seat.specs.Removal.{IsShard}
-use Rattle.dict_seat.specs.Walks.{ListsKeys}
+use Rattle.dict_requests.specs.Changes.{Changes}
+use Rattle.dict_requests.specs.Puts.{RootIsSet}
+use Rattle.dict_requests.specs.Removal.{IsShard}
+use Rattle.dict_requests.specs.Walks.{ListsKeys}
 use Rattle.run_model.specs.Progress.{MayAnswer, HasAnswered}
 use Rattle.run_model.specs.Working.{TakesRequests}
 use Rattle.run_model.specs.Sending.{Sent, puts_of}

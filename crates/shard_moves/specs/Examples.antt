@@ -9,8 +9,8 @@ use Rattle.heap_seat.specs.Examples.{look_with, seat_with}
 use Rattle.heap_seat.specs.View.{View}
 use Rattle.dict_model.specs.Nodes.{table_bytes}
 use Rattle.dict_model.specs.Requests.{put, done, full, none}
-use Rattle.dict_seat.specs.MovingExamples.{is_node, node, seeing, stored}
-use Rattle.dict_seat.specs.Moving.{IsNodeOf}
+use Rattle.dict_requests.specs.MovingExamples.{is_node, node, seeing, stored}
+use Rattle.dict_requests.specs.Moving.{IsNodeOf}
 use Rattle.shard_moves.specs.declared.away.MoveAnswer.TheVariants.{Done, Full, Missing}
 use Rattle.run_model.specs.Sending.{Sent, puts_of}
 use Rattle.run_model.specs.Spending.{tables_made, tables_missing}

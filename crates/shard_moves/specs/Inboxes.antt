@@ -3,7 +3,7 @@ use Rattle.std.specs.Prelude.{◌≡◌, ℕ, List, [], ◌∷◌, Option, None,
 use Rattle.heap_model.specs.declared.block.Block.{Block}
 use Rattle.heap_seat.specs.Handing.{Accepts}
 use Rattle.heap_seat.specs.View.{View}
-use Rattle.dict_seat.specs.Moving.{IsNodeOf}
+use Rattle.dict_requests.specs.Moving.{IsNodeOf}
 use Rattle.run_model.specs.Sending.{Sent}
 
 -- the first of those that were left has come, with its key, as a block that has its value

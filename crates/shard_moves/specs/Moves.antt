@@ -5,7 +5,7 @@ use Rattle.heap_seat.specs.View.{View}
 use Rattle.dict_model.specs.Nodes.{shard_of}
 use Rattle.dict_model.specs.Requests.{Reply, done, full, none}
 use Rattle.dict_model.specs.Shards.{Map}
-use Rattle.dict_seat.specs.Maps.{GivesMap}
+use Rattle.dict_requests.specs.Maps.{GivesMap}
 use Rattle.shard_moves.specs.declared.away.MoveAnswer.{MoveAnswer}
 use Rattle.shard_moves.specs.declared.away.MoveAnswer.TheVariants.{Done, Full, Missing}
 use Rattle.run_model.specs.Sending.{Sent}

@@ -3,7 +3,7 @@ use Rattle.std.specs.Prelude.{ℕ, List, ◌∷◌}
 use Rattle.std.specs.List.Sorted.{IsPermutation}
 use Rattle.heap_model.specs.declared.block.Block.{Block}
 use Rattle.heap_seat.specs.View.{View}
-use Rattle.dict_seat.specs.Moving.{IsNodeOf}
+use Rattle.dict_requests.specs.Moving.{IsNodeOf}
 use Rattle.run_model.specs.Sending.{Sent}
 
 -- the node was sent with the value that it has: it is one more of those that were sent, in whatever order they are told

@@ -7,7 +7,7 @@ use Rattle.heap_seat.specs.Looks.{KnowsNoLess}
 use Rattle.heap_seat.specs.View.{View}
 use Rattle.dict_model.specs.Links.{shards}
 use Rattle.dict_model.specs.Nodes.{table_bytes}
-use Rattle.dict_seat.specs.Puts.{RootIsSet, WasNull, WasTurnedDown}
+use Rattle.dict_requests.specs.Puts.{RootIsSet, WasNull, WasTurnedDown}
 
 -- whether the shard's flag is set
 abbrev pub is_flagged : List Bool → ℕ → Bool

@@ -6,7 +6,7 @@ ghost use Rattle.heap_seat.specs.Rows.{IsRow};
 ghost use Rattle.heap_seat.specs.Tickets.{Runs, Stops};
 ghost use Rattle.heap_seat.specs.View.{View};
 ghost use Rattle.dict_model.specs.Requests.{Request, Reply};
-ghost use Rattle.dict_seat.specs.Reached.{ReachesAllHeld};
+ghost use Rattle.dict_requests.specs.Reached.{ReachesAllHeld};
 ghost use Rattle.run_model.specs.Progress.{HasAnswered};
 ghost use Rattle.run_model.specs.Working.{TakesRequests};
 ghost use Rattle.run_model.specs.Sending.{puts_of};
@@ -14,7 +14,7 @@ ghost use Rattle.shard_moves.specs.Arriving.{HaveTables, ListAllKeys, ArrivesNex
 
 use crate::inbox::Inbox;
 use dict_model::SHARDS;
-use dict_seat::Shard;
+use dict_requests::Shard;
 use heap_seat::HeapSeat;
 use line_memory::Stopped;
 

@@ -5,9 +5,9 @@ ghost use Rattle.heap_seat.specs.Tickets.{Runs, Stops};
 ghost use Rattle.heap_seat.specs.View.{View};
 ghost use Rattle.dict_model.specs.Nodes.{shard_of};
 ghost use Rattle.dict_model.specs.Requests.{move, without_key};
-ghost use Rattle.dict_seat.specs.Changes.{MayChange};
-ghost use Rattle.dict_seat.specs.Reached.{ReachesAllHeld};
-ghost use Rattle.dict_seat.specs.Removal.{IsShard};
+ghost use Rattle.dict_requests.specs.Changes.{MayChange};
+ghost use Rattle.dict_requests.specs.Reached.{ReachesAllHeld};
+ghost use Rattle.dict_requests.specs.Removal.{IsShard};
 ghost use Rattle.run_model.specs.Progress.{Answers, MayAnswer};
 ghost use Rattle.run_model.specs.Working.{MakesCalls};
 ghost use Rattle.shard_moves.specs.declared.away.MoveAnswer.TheVariants.{Full, Done};
@@ -15,7 +15,7 @@ ghost use Rattle.shard_moves.specs.Moves.{reply_of, SendsFor};
 
 use crate::outbox::Outbox;
 use dict_model::SHARDS;
-use dict_seat::Shard;
+use dict_requests::Shard;
 use heap_seat::HeapSeat;
 use line_memory::Stopped;
 

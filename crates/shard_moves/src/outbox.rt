@@ -5,8 +5,8 @@ ghost use Rattle.heap_seat.specs.Handing.{Offers};
 ghost use Rattle.heap_seat.specs.Tickets.{Stops};
 ghost use Rattle.heap_seat.specs.View.{View};
 ghost use Rattle.heap_seat.specs.Words.{KeepsOwn};
-ghost use Rattle.dict_seat.specs.Moving.{IsNodeOf};
-ghost use Rattle.dict_seat.specs.Removal.{IsLoose};
+ghost use Rattle.dict_requests.specs.Moving.{IsNodeOf};
+ghost use Rattle.dict_requests.specs.Removal.{IsLoose};
 ghost use Rattle.run_model.specs.Sending.{Sent};
 ghost use Rattle.shard_moves.specs.Outboxes.{AddsNode};
 

@@ -9,16 +9,16 @@ ghost use Rattle.dict_model.specs.Links.{shards};
 ghost use Rattle.dict_model.specs.Nodes.{table_bytes};
 ghost use Rattle.dict_model.specs.Requests.{Request, Reply};
 ghost use Rattle.dict_model.specs.Shards.{Map};
-ghost use Rattle.dict_seat.specs.Changes.{MayChange, Changes};
-ghost use Rattle.dict_seat.specs.Moving.{TableTakes};
-ghost use Rattle.dict_seat.specs.Reached.{ReachesAllHeld};
-ghost use Rattle.dict_seat.specs.Removal.{IsShard};
+ghost use Rattle.dict_requests.specs.Changes.{MayChange, Changes};
+ghost use Rattle.dict_requests.specs.Moving.{TableTakes};
+ghost use Rattle.dict_requests.specs.Reached.{ReachesAllHeld};
+ghost use Rattle.dict_requests.specs.Removal.{IsShard};
 ghost use Rattle.run_model.specs.Progress.{HasAnswered};
 ghost use Rattle.run_model.specs.Spending.{tables_made, tables_missing};
 ghost use Rattle.shard_moves.specs.Tables.{is_flagged, flag_count, TellsTable};
 
 use dict_model::SHARDS;
-use dict_seat::{PutFault, Shard};
+use dict_requests::{PutFault, Shard};
 use heap_seat::HeapSeat;
 use line_memory::Stopped;
 

@@ -14,7 +14,7 @@ use Rattle.core_model.specs.View.{Setup, View}
 use Rattle.dict_model.specs.Nodes.{shard_of}
 use Rattle.dict_model.specs.Requests.{Request}
 use Rattle.dict_model.specs.Shards.{Map}
-use Rattle.seat_notes.specs.OwnerLists.{OwnerLists}
+use Rattle.seat_state.specs.OwnerLists.{OwnerLists}
 use Rattle.heap_table.specs.AtTable.{IsClosedReached, IsClosedSound, SharedView}
 use Rattle.heap_table.specs.Rule.{Opening, setup_for}
 use Rattle.heap_rule.specs.Carried.{CarrierView, carried_views}

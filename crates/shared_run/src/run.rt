@@ -5,7 +5,7 @@ ghost use Rattle.std.specs.Prelude.{◌≡◌, ◌^◌, ◌<◌, ◌≤◌, ◌�
 ghost use Rattle.heap_model.specs.Header.{capacity_of};
 ghost use Rattle.heap_model.specs.Rest.{IsReady};
 ghost use Rattle.dict_model.specs.Links.{shards};
-ghost use Rattle.seat_notes.specs.OwnerLists.{OwnerLists};
+ghost use Rattle.seat_state.specs.OwnerLists.{OwnerLists};
 ghost use Rattle.dictionary.specs.Reading.{AreMaps};
 ghost use Rattle.run_model.specs.Opened.{IsDictionary};
 ghost use Rattle.run_model.specs.Runs.{AnswerInOrder, IsFullRightly, answered, LeavesHeader, LeavesMaps, LeavesOthers, LeavesState, LeavesUsed, RepliesRightly, StopsRightly};
@@ -31,7 +31,7 @@ use line_memory::{Chance, Closed};
 use region_header::Bytes;
 use run_outcome::{what_the_workers_answered, what_the_workers_left, what_the_workers_spent};
 use run_rows::run_rows;
-use seat_owners::owners_by_trace;
+use seat_owners::owners_of_mapped;
 use std::alloc::{AllocError, Global};
 use std::collections::BTreeMap;
 use std::sync::Wait;
@@ -125,7 +125,7 @@ fn open<C: Chances>(
         chances.new) }
 {
     let longest = longest_puts(alloc, requests)?;
-    let owners = owners_by_trace(alloc, &mapped, workers)?;
+    let owners = owners_of_mapped(alloc, &mapped, workers)?;
     let (heap, maps) = mapped.into_parts();
     let (shared, seats) = open_shared(alloc, heap, &owners, workers, budget)?;
     let reading = Reading {

@@ -1,6 +1,6 @@
 //! The command `rebuild` stopped at each of its steps: what it prints, and that it is gone on with.
 use crate::calls::{make, must_hold, runs, store_with};
-use image_text::image_of;
+use test_images::image_of;
 use line_memory::ConstantChance;
 use region_header::words_to_bytes;
 use std::alloc::{AllocError, Global};

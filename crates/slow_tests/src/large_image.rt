@@ -1,7 +1,7 @@
 //! An image of 257 superblocks, one more than the old version may have, made, shown and drained;
 //! and one of as many bytes that has one superblock.
 use crate::calls::{must_hold, runs, store_with};
-use image_text::image_of;
+use test_images::image_of;
 use line_memory::ConstantChance;
 use region_header::words_to_bytes;
 use std::alloc::{AllocError, Global};

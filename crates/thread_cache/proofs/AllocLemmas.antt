@@ -18,12 +18,12 @@ use Rattle.line_memory.specs.Marked.{marked_words-has, marked_words-only}
 use Rattle.core_model.specs.View.{LastLook, View, of_class, one_if_some}
 use Rattle.heap_table.specs.Plays.{HasSoundState}
 use Rattle.heap_rule.specs.Seated.{SeatView}
-use Rattle.seat_rows.specs.Costs.{Costs, one_draw}
-use Rattle.seat_rows.specs.Idle.{HasShortCaches, IsIdle}
-use Rattle.seat_rows.specs.Rows.{HoldingRow, Parts, Passes, Row, head_look, next_of, parts}
-use Rattle.seat_rows.specs.Words.{IsDurableAt, IsHeldWord, KeepsWord as KeepsRowWord}
-use Rattle.seat_rows.proofs.RowLemmas.{not_both}
-use Rattle.seat_fill.specs.Refills.{IsFilledInOrder, IsFull, IsLook}
+use Rattle.seat_costs.specs.Costs.{Costs, one_draw}
+use Rattle.seat_costs.specs.Idle.{HasShortCaches, IsIdle}
+use Rattle.seat_costs.specs.Rows.{HoldingRow, Parts, Passes, Row, head_look, next_of, parts}
+use Rattle.seat_costs.specs.Words.{IsDurableAt, IsHeldWord, KeepsWord as KeepsRowWord}
+use Rattle.seat_costs.proofs.RowLemmas.{not_both}
+use Rattle.cache_fill.specs.Refills.{IsFilledInOrder, IsFull, IsLook}
 use Rattle.seat_calls.specs.Large.{HasAllocatedLarge}
 use Rattle.seat_calls.specs.Requests.{Answers, IsGranted, IsRefused, by_class, by_span, light_request, request_costs}
 use Rattle.seat_calls.specs.Small.{HasAllocated, IfGoing}

@@ -16,12 +16,12 @@ use Rattle.core_model.specs.Effects.{seen}
 use Rattle.core_model.specs.View.{LastLook, Role, Setup, View, of_class, one_if_some, role}
 use Rattle.heap_table.specs.Plays.{HasSoundState}
 use Rattle.heap_rule.specs.Seated.{SeatView}
-use Rattle.seat_rows.specs.Asked.{HasAsked}
-use Rattle.seat_rows.specs.Costs.{Costs, one_draw}
-use Rattle.seat_rows.specs.Rows.{Parts, Passes, Row, SameLooks, StoringRow, Stops, ViewRow, after_ticket, next_of}
-use Rattle.seat_rows.specs.Words.{IsHeldWord, KeepsWord as KeepsRowWord}
-use Rattle.seat_rows.proofs.RowLemmas.{not_both}
-use Rattle.seat_rows.proofs.WordLemmas.{owns_held}
+use Rattle.seat_costs.specs.Asked.{HasAsked}
+use Rattle.seat_costs.specs.Costs.{Costs, one_draw}
+use Rattle.seat_costs.specs.Rows.{Parts, Passes, Row, SameLooks, StoringRow, Stops, ViewRow, after_ticket, next_of}
+use Rattle.seat_costs.specs.Words.{IsHeldWord, KeepsWord as KeepsRowWord}
+use Rattle.seat_costs.proofs.RowLemmas.{not_both}
+use Rattle.seat_costs.proofs.WordLemmas.{owns_held}
 use Rattle.heap_rule.proofs.SettleLemmas.{own_below}
 use Rattle.seat_view.specs.CacheState.{CacheState, CacheValue, HasCounts, CallCounts, IsBetweenCalls, IsStateOf, counts_of, heap_view, heap_view_of, look_of, opened_kinds}
 use Rattle.seat_view.proofs.HeldLemmas.{kept_at, own_held, read_from, read_to, seat_law, word_law}

@@ -15,11 +15,11 @@ use Rattle.core_model.specs.Held.{IsHeld}
 use Rattle.core_model.specs.View.{Span, View, of_class, one_if_some}
 use Rattle.heap_table.specs.Plays.{HasSoundState}
 use Rattle.heap_rule.specs.Seated.{SeatView}
-use Rattle.seat_rows.specs.Costs.{Costs}
-use Rattle.seat_rows.specs.Idle.{HasShortCaches, IsIdle}
-use Rattle.seat_rows.specs.Rows.{Parts, Passes, RowBut, Stops, next_of}
-use Rattle.seat_rows.specs.Words.{IsHeldWord, KeepsWord as KeepsRowWord}
-use Rattle.seat_rows.proofs.RowLemmas.{not_both}
+use Rattle.seat_costs.specs.Costs.{Costs}
+use Rattle.seat_costs.specs.Idle.{HasShortCaches, IsIdle}
+use Rattle.seat_costs.specs.Rows.{Parts, Passes, RowBut, Stops, next_of}
+use Rattle.seat_costs.specs.Words.{IsHeldWord, KeepsWord as KeepsRowWord}
+use Rattle.seat_costs.proofs.RowLemmas.{not_both}
 use Rattle.seat_calls.specs.Requests.{IsGivenBack, IsSmallBlock, IsSpan, MayBeGivenBack, light_free_costs, most_free_costs, of_a_class, of_a_span}
 use Rattle.seat_calls.specs.Small.{IsHeldOutside}
 use Rattle.seat_view.specs.CacheState.{CacheState, CallCounts, IsBetweenCalls, counts_of, heap_view, heap_view_of, held_blocks}

@@ -21,9 +21,9 @@ use Rattle.heap_rule.specs.Holdings.{HoldsAlone}
 use Rattle.heap_rule.specs.Carried.{CarrierView, Carries}
 use Rattle.heap_rule.specs.Seated.{SeatView}
 use Rattle.heap_rule.proofs.OwnedCarriers.{all_roots}
-use Rattle.seat_rows.specs.Costs.{NoneFalls, RisesBy, one_draw}
-use Rattle.seat_rows.specs.Rows.{HasDrawn, Passes, Row, SameLooks, Stops, after_ticket, next_of}
-use Rattle.seat_rows.specs.Words.{IsHeldWord, KeepsWord as KeepsRowWord}
+use Rattle.seat_costs.specs.Costs.{NoneFalls, RisesBy, one_draw}
+use Rattle.seat_costs.specs.Rows.{HasDrawn, Passes, Row, SameLooks, Stops, after_ticket, next_of}
+use Rattle.seat_costs.specs.Words.{IsHeldWord, KeepsWord as KeepsRowWord}
 use Rattle.seat_view.specs.CacheState.{CacheState, CallCounts, IsBetweenCalls, IsStateOf, counts_of, heap_view, heap_view_of, held_blocks, look_of, opened_kinds}
 use Rattle.seat_view.proofs.HandedBlocks.{accept_has, accept_keeps, accept_new, accept_only, alone_held, alone_listed, alone_word, held_alike, offer_gone, offer_keeps, offer_only}
 use Rattle.seat_view.proofs.HeldLemmas.{held_is, own_held, word_held, word_law}

@@ -8,11 +8,11 @@ use Rattle.heap_model.proofs.SizeLemmas.{four_blocks}
 use Rattle.line_memory.specs.declared.memory.Stopped.{Stopped}
 use Rattle.core_model.specs.View.{View, of_class, one_if_some}
 use Rattle.heap_table.specs.Plays.{HasSoundState}
-use Rattle.seat_flush.specs.All.{HasFlushedAll, all_costs, cached}
-use Rattle.seat_flush.proofs.AllLemmas.{all_runs_few, first_none}
-use Rattle.seat_rows.specs.Idle.{HasShortCaches, IsIdle}
-use Rattle.seat_rows.specs.Rows.{Parts, Passes, Stops, next_of}
-use Rattle.seat_rows.proofs.RowLemmas.{not_both}
+use Rattle.cache_flush.specs.All.{HasFlushedAll, all_costs, cached}
+use Rattle.cache_flush.proofs.AllLemmas.{all_runs_few, first_none}
+use Rattle.seat_costs.specs.Idle.{HasShortCaches, IsIdle}
+use Rattle.seat_costs.specs.Rows.{Parts, Passes, Stops, next_of}
+use Rattle.seat_costs.proofs.RowLemmas.{not_both}
 use Rattle.seat_view.specs.CacheState.{IsBetweenCalls}
 use Rattle.thread_cache.proofs.LargeLemmas.{IsFew, IsPaid, draws_later, paid_most, stop_later}
 

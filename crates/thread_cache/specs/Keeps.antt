@@ -1,9 +1,9 @@
 -- What every call of a seat that allocates by caches leaves of the heap, and what it may cost.
 use Rattle.std.specs.Prelude.{◌≡◌, ◌≤◌, ℕ, ◌+◌, ◌*◌, ◌^◌, length}
 use Rattle.core_model.specs.View.{View, one_if_some, role}
-use Rattle.seat_rows.specs.Costs.{NoneFalls}
+use Rattle.seat_costs.specs.Costs.{NoneFalls}
 use Rattle.heap_rule.specs.Seated.{SeatView}
-use Rattle.seat_rows.specs.Asked.{HasAsked}
+use Rattle.seat_costs.specs.Asked.{HasAsked}
 use Rattle.seat_view.specs.CacheState.{CacheState, CacheValue, no_looks}
 
 -- the most tickets that a call of alloc or free draws, exchanges that it wins, and batches that it gives, but for those that losses and moves pay

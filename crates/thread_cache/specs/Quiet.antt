@@ -3,7 +3,7 @@ use Rattle.std.specs.Prelude.{◌≡◌, ◌≤◌, ℕ, [], Some}
 use Rattle.heap_model.specs.Sizes.{IsClass}
 use Rattle.heap_seat.specs.Calls.{IsLargeCall, SameRefusals}
 use Rattle.core_model.specs.View.{of_class}
-use Rattle.seat_flush.specs.All.{cached}
+use Rattle.cache_flush.specs.All.{cached}
 use Rattle.seat_view.specs.CacheState.{CacheState, heap_view}
 
 -- no cache has a block

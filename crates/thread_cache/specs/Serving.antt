@@ -6,9 +6,9 @@ use Rattle.heap_seat.specs.declared.fault.Looks.{Looks}
 use Rattle.core_model.specs.View.{View, of_class}
 use Rattle.seat_calls.specs.Large.{HasNoRoom}
 use Rattle.seat_calls.specs.Requests.{IsGivenBack, IsGranted, light_free_costs, light_request, most_free_costs, request_costs}
-use Rattle.seat_fill.specs.Refills.{IsFilledInOrder, IsFull}
-use Rattle.seat_rows.specs.Costs.{one_draw}
-use Rattle.seat_rows.specs.Rows.{IsMade, Passes, next_of, parts}
+use Rattle.cache_fill.specs.Refills.{IsFilledInOrder, IsFull}
+use Rattle.seat_costs.specs.Costs.{one_draw}
+use Rattle.seat_costs.specs.Rows.{IsMade, Passes, next_of, parts}
 
 -- a call that cuts, gives and takes nothing, and holds or frees no large block, draws 64 tickets at most, and 16 for each lost exchange and each superblock that it moves
 abbrev pub IsLight : View → View → Type 0

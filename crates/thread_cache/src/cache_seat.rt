@@ -57,7 +57,7 @@ impl<'a, C> Model for CacheSeat<'a, C> {
 impl<'a, C: Chance> CacheSeat<'a, C> {
     ghost use Rattle.std.specs.Prelude.{◌≡◌, None, OnOk, IfErr};
     ghost use Rattle.heap_rule.specs.Seated.{IsSeatOf};
-    ghost use Rattle.seat_rows.specs.Idle.{HasShortCaches, IsIdle};
+    ghost use Rattle.seat_costs.specs.Idle.{HasShortCaches, IsIdle};
     ghost use Rattle.heap_seat.specs.Tickets.{Stops};
     ghost use Rattle.seat_view.specs.CacheState.{heap_view};
     ghost use Rattle.thread_cache.specs.Keeps.{IsNew};
@@ -71,7 +71,7 @@ impl<'a, C: Chance> CacheSeat<'a, C> {
         ensures state { IsNew seat result.state }
         ensures chance { result.chance ≡ chance }
     {
-        seat.has_a_sound_state();
+        seat.recall_soundness();
         CacheSeat {
             shared,
             seat,

@@ -31,7 +31,7 @@ impl<'a, C: Chance> HeapSeat for CacheSeat<'a, C> {
     ghost use Rattle.heap_seat.specs.Words.{KeepsOwn};
     ghost use Rattle.heap_rule.specs.Left.{MayBeLeft};
     ghost use Rattle.seat_calls.specs.Requests.{most_free_costs, request_costs};
-    ghost use Rattle.seat_rows.specs.Rows.{Passes};
+    ghost use Rattle.seat_costs.specs.Rows.{Passes};
     ghost use Rattle.seat_view.specs.CacheState.{heap_view};
     ghost use Rattle.seat_view.proofs.HeldLemmas.{may_be_law, mixed_law, named_law, seat_law, stored_law};
     ghost use Rattle.thread_cache.specs.Keeps.{KeepsSeat};
@@ -73,9 +73,9 @@ impl<'a, C: Chance> HeapSeat for CacheSeat<'a, C> {
     {
         self.check_running()?;
         self.seat.has_a_low_budget();
-        self.seat.has_a_sound_state();
+        self.seat.recall_soundness();
         let answer = alloc(&mut self.seat, self.shared, bytes, &mut self.chance);
-        self.seat.has_a_sound_state();
+        self.seat.recall_soundness();
         self.large_calls += 1;
         match refusal_of(&answer) {
             Some(looks) => {
@@ -105,9 +105,9 @@ impl<'a, C: Chance> HeapSeat for CacheSeat<'a, C> {
     {
         self.check_running()?;
         self.seat.has_a_low_budget();
-        self.seat.has_a_sound_state();
+        self.seat.recall_soundness();
         let answer = free(&mut self.seat, self.shared, b, &mut self.chance);
-        self.seat.has_a_sound_state();
+        self.seat.recall_soundness();
         self.large_calls += 1;
         answer
     }
@@ -115,10 +115,10 @@ impl<'a, C: Chance> HeapSeat for CacheSeat<'a, C> {
     fn load(&mut self, s: Spot) -> Result<u64, Stopped> {
         self.check_running()?;
         self.seat.has_a_low_budget();
-        self.seat.has_a_sound_state();
+        self.seat.recall_soundness();
         let word = s.word();
         let answer = load(&mut self.seat, self.shared, word, &mut self.chance);
-        self.seat.has_a_sound_state();
+        self.seat.recall_soundness();
         self.small_calls += 1;
         answer
     }
@@ -126,10 +126,10 @@ impl<'a, C: Chance> HeapSeat for CacheSeat<'a, C> {
     fn store(&mut self, s: Spot, value: u64) -> Result<(), Stopped> {
         self.check_running()?;
         self.seat.has_a_low_budget();
-        self.seat.has_a_sound_state();
+        self.seat.recall_soundness();
         let word = s.word();
         let answer = store(&mut self.seat, self.shared, word, value, &mut self.chance);
-        self.seat.has_a_sound_state();
+        self.seat.recall_soundness();
         self.small_calls += 1;
         answer
     }
@@ -137,10 +137,10 @@ impl<'a, C: Chance> HeapSeat for CacheSeat<'a, C> {
     fn write_back(&mut self, s: Spot) -> Result<(), Stopped> {
         self.check_running()?;
         self.seat.has_a_low_budget();
-        self.seat.has_a_sound_state();
+        self.seat.recall_soundness();
         let word = s.word();
         let answer = write_back(&mut self.seat, self.shared, word, &mut self.chance);
-        self.seat.has_a_sound_state();
+        self.seat.recall_soundness();
         self.small_calls += 1;
         answer
     }
@@ -148,15 +148,15 @@ impl<'a, C: Chance> HeapSeat for CacheSeat<'a, C> {
     fn fence(&mut self) -> Result<(), Stopped> {
         self.check_running()?;
         self.seat.has_a_low_budget();
-        self.seat.has_a_sound_state();
+        self.seat.recall_soundness();
         let answer = fence(&mut self.seat, self.shared, &mut self.chance);
-        self.seat.has_a_sound_state();
+        self.seat.recall_soundness();
         self.small_calls += 1;
         answer
     }
 
     fn block(&self, offset: u64) -> Block {
-        self.seat.has_a_sound_state();
+        self.seat.recall_soundness();
         self.seat.block(self.shared, offset)
     }
 

@@ -14,7 +14,7 @@ impl<'a, C: Chance> CacheSeat<'a, C> {
     ghost use Rattle.heap_seat.specs.Handing.{Accepts, ComesWith, Offers};
     ghost use Rattle.heap_seat.specs.Tickets.{Stops};
     ghost use Rattle.heap_seat.specs.Words.{KeepsOwn};
-    ghost use Rattle.seat_rows.specs.Asked.{HasAsked};
+    ghost use Rattle.seat_costs.specs.Asked.{HasAsked};
     ghost use Rattle.seat_view.specs.CacheState.{heap_view};
     ghost use Rattle.thread_cache.specs.Handing.{IsSent, OnlyDraws, contents_of};
     ghost use Rattle.thread_cache.specs.Keeps.{KeepsCounts};
@@ -42,9 +42,9 @@ impl<'a, C: Chance> CacheSeat<'a, C> {
     {
         self.check_running()?;
         self.seat.has_a_low_budget();
-        self.seat.has_a_sound_state();
+        self.seat.recall_soundness();
         let answer = offer(&mut self.seat, self.shared, block, &mut self.chance);
-        self.seat.has_a_sound_state();
+        self.seat.recall_soundness();
         self.small_calls += 1;
         answer
     }
@@ -78,9 +78,9 @@ impl<'a, C: Chance> CacheSeat<'a, C> {
             Err(stopped) => Err((stopped, carrier)),
             Ok(()) => {
                 self.seat.has_a_low_budget();
-                self.seat.has_a_sound_state();
+                self.seat.recall_soundness();
                 let answer = accept(&mut self.seat, self.shared, carrier, &mut self.chance);
-                self.seat.has_a_sound_state();
+                self.seat.recall_soundness();
                 self.small_calls += 1;
                 answer
             }

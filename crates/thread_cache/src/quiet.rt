@@ -2,15 +2,15 @@
 
 use crate::cache_seat::CacheSeat;
 use line_memory::{Chance, Stopped};
-use seat_flush::flush_all;
+use cache_flush::flush_all;
 use size_table::{LAST_CLASS, SizeClass};
 
 impl<'a, C: Chance> CacheSeat<'a, C> {
     ghost use Rattle.std.specs.Prelude.{◌≡◌, ◌<◌, ◌≤◌, ℕ, None, Some, false, IsTrue, OnOk, IfErr};
     ghost use Rattle.heap_seat.specs.Tickets.{Stops};
     ghost use Rattle.heap_seat.specs.Words.{IsOwn, KeepsOwn, KeepsPending};
-    ghost use Rattle.seat_flush.specs.All.{HasFlushedAll, all_costs, cached};
-    ghost use Rattle.seat_rows.specs.Rows.{Passes};
+    ghost use Rattle.cache_flush.specs.All.{HasFlushedAll, all_costs, cached};
+    ghost use Rattle.seat_costs.specs.Rows.{Passes};
     ghost use Rattle.seat_view.specs.CacheState.{heap_view};
     ghost use Rattle.thread_cache.specs.Keeps.{KeepsSeat};
     ghost use Rattle.thread_cache.specs.Quiet.{HasEmptyCaches, IsQuietCall};
@@ -57,9 +57,9 @@ impl<'a, C: Chance> CacheSeat<'a, C> {
             return Ok(());
         }
         self.seat.has_a_low_budget();
-        self.seat.has_a_sound_state();
+        self.seat.recall_soundness();
         let answer = flush_all(&mut self.seat, self.shared, &mut self.chance);
-        self.seat.has_a_sound_state();
+        self.seat.recall_soundness();
         self.large_calls += 1;
         answer
     }

@@ -22,7 +22,7 @@ use tool_ports::ImageStore;
 
 /// The report without keys on the image of this name, recovered with no filter, and its map where
 /// that is asked for. No kinds of roots are checked, and no word is refused.
-pub fn tell_by_words<I: ImageStore>(
+pub fn report_conservatively<I: ImageStore>(
     alloc: Global,
     name: &str,
     with_map: bool,

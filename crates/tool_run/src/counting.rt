@@ -28,7 +28,7 @@ use tool_ports::ImageStore;
 /// By which way the image of this name was opened, the report without keys on it, and its map where
 /// that is asked for. A word that points outside refuses it only where its anchors don't tell what
 /// it holds.
-pub fn count_named<I: ImageStore>(
+pub fn count_command<I: ImageStore>(
     alloc: Global,
     name: &str,
     with_map: bool,

@@ -12,15 +12,15 @@ ghost use Rattle.tool_run.specs.Making.{Makes, RefusesOutside, ReadsSource, IsFo
 ghost use Rattle.tool_run.specs.Outcome.{HoldsOutside};
 ghost use Rattle.tool_run.specs.Seeding.{seed_of, BeginBy};
 
-use crate::conservative::tell_by_words;
-use crate::counting::count_named;
+use crate::conservative::report_conservatively;
+use crate::counting::count_command;
 use crate::draining::drain_image;
 use crate::fault::Fault;
 use crate::generating::generate;
 use crate::rebuilding::rebuild_named;
 use crate::recovering::recover_shown;
 use crate::replaying::replay_named;
-use crate::working::work_named;
+use crate::working::run_command;
 use dictionary::read_maps;
 use image_run::{Product, recovered_text};
 use region_header::{Bytes, format, words_to_bytes};
@@ -85,7 +85,7 @@ pub fn make<R: Threads + Wait + Sync, I: ImageStore, T: Source, G: Gate + Sync, 
         Invocation::Drain { image, class } => { drain_image(alloc, image, class, images, chances) }
         Invocation::Gen { plan } => Ok(generate(alloc, plan)?),
         Invocation::Run { image, options } => {
-            work_named(rt, alloc, image, options, images, trace, gate, chances)
+            run_command(rt, alloc, image, options, images, trace, gate, chances)
         }
         Invocation::Rebuild {
             image,
@@ -96,9 +96,9 @@ pub fn make<R: Threads + Wait + Sync, I: ImageStore, T: Source, G: Gate + Sync, 
             replay_named(alloc, image, seed, images, trace, chances)
         }
         Invocation::Conservative { image, with_map } => {
-            tell_by_words(alloc, image, with_map, images)
+            report_conservatively(alloc, image, with_map, images)
         }
-        Invocation::Count { image, with_map } => count_named(alloc, image, with_map, images),
+        Invocation::Count { image, with_map } => count_command(alloc, image, with_map, images),
     }
 }
 

@@ -28,7 +28,7 @@ pub const LONGEST_TRACE: usize = 1 << 24;
 
 /// Runs the trace that the source has left over the image of this name, and makes the image that is
 /// left and the text on the run.
-pub fn work_named<R: Threads + Wait + Sync, I: ImageStore, T: Source, G: Gate + Sync, C: Chances>(
+pub fn run_command<R: Threads + Wait + Sync, I: ImageStore, T: Source, G: Gate + Sync, C: Chances>(
     rt: &R,
     alloc: Global,
     name: &str,

@@ -1,7 +1,7 @@
 //! Calls of the tool over a store, an input and an output in memory, as a turn of a session tells
 //! them.
 use crate::turn::{first_behind, first_line, input_of, numbers};
-use image_text::number;
+use test_images::number;
 use line_memory::ConstantChance;
 use std::alloc::{AllocError, Global};
 use std::process::Abort;

@@ -1,5 +1,5 @@
 //! Images told as texts, for sessions.
-use image_text::{change, image_of, number};
+use test_images::{change, image_of, number};
 use region_header::words_to_bytes;
 use std::alloc::Global;
 use std::test::Fail;

@@ -17,6 +17,6 @@ mod KeyLemmas
 pub mod WrittenLemmas
 pub mod EventLemmas
 pub mod SizeLemmas
-pub mod StepLemmas
+pub mod ParseStepLemmas
 pub mod ScheduleLemmas
 mod OutsideExamples

@@ -11,7 +11,7 @@ use Rattle.trace_text.proofs.EventLemmas.{is_word, word_passes, alone, one_numbe
 use Rattle.trace_text.proofs.NumberLemmas.{number_begins, number_has_no, one_number}
 use Rattle.trace_text.proofs.PieceLemmas.{has_separator}
 use Rattle.trace_text.proofs.ScheduleLemmas.{event_by, find, of_none, of_one, found}
-use Rattle.trace_text.proofs.StepLemmas.{step_parts, seats_number}
+use Rattle.trace_text.proofs.ParseStepLemmas.{step_parts, seats_number}
 use Rattle.trace_text.proofs.WordLemmas.{move_has_space, move_words}
 
 -- more than 8 seats

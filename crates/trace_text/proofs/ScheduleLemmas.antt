@@ -16,7 +16,7 @@ use Rattle.trace_text.specs.Schedule.{parts_of, spaced, IsEventWords, IsStepLine
 use Rattle.trace_text.proofs.EventLemmas.{IsWord, short_parts, each_is_short}
 use Rattle.trace_text.proofs.NumberLemmas.{number_has_no, one_number}
 use Rattle.trace_text.proofs.PieceLemmas.{same_parts, has_separator}
-use Rattle.trace_text.proofs.StepLemmas.{step_parts, seats_number}
+use Rattle.trace_text.proofs.ParseStepLemmas.{step_parts, seats_number}
 use Rattle.trace_text.proofs.WrittenLemmas.{one_list, written_or_outside, one_outside}
 
 -- the same words are the same verb and the same numbers

@@ -7,8 +7,8 @@ use Rattle.heap_seat.specs.Tickets.{Stops}
 use Rattle.heap_seat.specs.View.{View}
 use Rattle.line_memory.specs.declared.memory.Stopped.{Stopped}
 use Rattle.dict_model.specs.Requests.{Request, Reply}
-use Rattle.dict_seat.specs.Reached.{ReachesAllHeld}
-use Rattle.dict_seat.proofs.ExactCallLemmas.{all_quiet}
+use Rattle.dict_requests.specs.Reached.{ReachesAllHeld}
+use Rattle.dict_requests.proofs.ExactCallLemmas.{all_quiet}
 use Rattle.seat_view.specs.CacheState.{CacheState, CacheValue, heap_view, opened_kinds}
 use Rattle.seat_view.proofs.HeldLemmas.{seat_law}
 use Rattle.thread_cache.specs.Quiet.{HasEmptyCaches}

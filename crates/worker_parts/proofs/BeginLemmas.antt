@@ -16,8 +16,8 @@ use Rattle.heap_seat.specs.Tickets.{Runs, Stops}
 use Rattle.heap_seat.specs.View.{View as HeapView}
 use Rattle.dict_model.specs.Links.{shards}
 use Rattle.dict_model.specs.Requests.{Request}
-use Rattle.dict_seat.specs.Reached.{ReachesAllHeld}
-use Rattle.dict_seat.specs.Removal.{IsShard}
+use Rattle.dict_requests.specs.Reached.{ReachesAllHeld}
+use Rattle.dict_requests.specs.Removal.{IsShard}
 use Rattle.run_model.specs.Needs.{is_moved_to, is_target_of}
 use Rattle.run_model.specs.Opened.{IsOpenedOver}
 use Rattle.run_model.specs.Progress.{HasAnswered}

@@ -9,7 +9,7 @@ use Rattle.dict_model.specs.Links.{shards}
 use Rattle.dict_model.specs.Nodes.{shard_of}
 use Rattle.dict_model.specs.Requests.{Request, put, get, del, move, Reply, after}
 use Rattle.dict_model.specs.Shards.{Map, MapOf}
-use Rattle.dict_seat.specs.Walks.{ListsKeys}
+use Rattle.dict_requests.specs.Walks.{ListsKeys}
 use Rattle.run_model.specs.Needs.{ListsKeysOf, puts_among}
 use Rattle.run_model.specs.Opened.{HasMaps}
 use Rattle.run_model.specs.Runs.{of_shard}

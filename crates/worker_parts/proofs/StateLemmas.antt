@@ -4,7 +4,7 @@ use Rattle.core_model.specs.View.{Role}
 use Rattle.heap_seat.specs.View.{View as HeapView}
 use Rattle.heap_seat.specs.declared.fault.Looks.{Looks}
 use Rattle.dict_model.specs.Requests.{Request, Reply}
-use Rattle.dict_seat.specs.Puts.{WasTurnedDown}
+use Rattle.dict_requests.specs.Puts.{WasTurnedDown}
 use Rattle.run_model.specs.Spending.{AreFullRightly}
 use Rattle.run_model.specs.Working.{TakesRequest, TakesRequests, WasRefused}
 use Rattle.seat_view.specs.CacheState.{CacheState, CacheValue, heap_view}

@@ -5,9 +5,9 @@ use Rattle.heap_seat.specs.View.{View}
 use Rattle.heap_table.specs.AtTable.{SharedView}
 use Rattle.dict_model.specs.Nodes.{shard_of}
 use Rattle.dict_model.specs.Requests.{Request, get, Reply, done, after_one}
-use Rattle.dict_seat.specs.Puts.{RootIsSet}
-use Rattle.dict_seat.specs.Removal.{IsShard}
-use Rattle.dict_seat.proofs.HandingLemmas.{set_changed}
+use Rattle.dict_requests.specs.Puts.{RootIsSet}
+use Rattle.dict_requests.specs.Removal.{IsShard}
+use Rattle.dict_requests.proofs.HandingLemmas.{set_changed}
 use Rattle.seat_view.specs.CacheState.{CacheState, heap_view}
 use Rattle.run_model.specs.Needs.{is_target_of}
 use Rattle.run_model.specs.Sending.{Sent}

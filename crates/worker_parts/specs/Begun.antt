@@ -7,8 +7,8 @@ use Rattle.core_model.specs.View.{View, role}
 use Rattle.heap_seat.specs.Rows.{IsRow}
 use Rattle.heap_table.specs.Rule.{Opening, opened_view_of}
 use Rattle.dict_model.specs.Links.{shards}
-use Rattle.dict_seat.specs.Reached.{ReachesAllHeld}
-use Rattle.seat_rows.specs.Idle.{HasShortCaches, IsIdle}
+use Rattle.dict_requests.specs.Reached.{ReachesAllHeld}
+use Rattle.seat_costs.specs.Idle.{HasShortCaches, IsIdle}
 use Rattle.seat_view.specs.CacheState.{CacheState, heap_view}
 use Rattle.run_model.specs.Opened.{IsOpenedOver}
 use Rattle.run_model.specs.Progress.{HasAnswered}

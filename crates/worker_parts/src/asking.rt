@@ -6,7 +6,7 @@ ghost use Rattle.std.specs.Vec.{vec_capacity};
 ghost use Rattle.heap_model.specs.Image.{Image};
 ghost use Rattle.dict_model.specs.Links.{shards};
 ghost use Rattle.dict_model.specs.Shards.{Map};
-ghost use Rattle.dict_seat.specs.Reached.{ReachesAllHeld};
+ghost use Rattle.dict_requests.specs.Reached.{ReachesAllHeld};
 ghost use Rattle.run_model.specs.Arrivals.{IsWholeMap};
 ghost use Rattle.run_model.specs.Needs.{is_target_of};
 ghost use Rattle.run_model.specs.Opened.{HasMaps};

@@ -6,16 +6,16 @@ use Rattle.heap_seat.specs.View.{View}
 use Rattle.dict_model.specs.Nodes.{shard_of, value_words, node_bytes, table_bytes}
 use Rattle.dict_model.specs.Requests.{Request, put, get, del, move, done, full, none, found, get_found, get_none, put_done, put_full, del_done, del_none, with_key, without_key, IsReply}
 use Rattle.dict_model.specs.Shards.{Map}
-use Rattle.dict_seat.specs.Answers.{Deletes, MakesFew}
-use Rattle.dict_seat.specs.Changes.{Changes}
-use Rattle.dict_seat.specs.Maps.{GivesMap}
-use Rattle.dict_seat.proofs.DelLemmas.{gives_same, without_missing}
+use Rattle.dict_requests.specs.Answers.{Deletes, MakesFew}
+use Rattle.dict_requests.specs.Changes.{Changes}
+use Rattle.dict_requests.specs.Maps.{GivesMap}
+use Rattle.dict_requests.proofs.DelLemmas.{gives_same, without_missing}
 use Rattle.run_model.specs.Spending.{TakesFew, for_node as only_node, with_table, HadNoRoom}
 use Rattle.run_model.specs.Workers.{shard_asked}
 use Rattle.run_model.specs.Working.{Fits, Replied, AsksFor, WasRefused, words_copied}
-use Rattle.dict_seat.specs.Gets.{IsAnswer, Gets, ReadsFew, words_of}
-use Rattle.dict_seat.specs.Puts.{IsRefused, PutRefused, WasTurnedDown, of_node, of_node_behind_table, of_table, PutTakes, for_node, for_both}
-use Rattle.dict_seat.specs.Removal.{IsShard}
+use Rattle.dict_requests.specs.Gets.{IsAnswer, Gets, ReadsFew, words_of}
+use Rattle.dict_requests.specs.Puts.{IsRefused, PutRefused, WasTurnedDown, of_node, of_node_behind_table, of_table, PutTakes, for_node, for_both}
+use Rattle.dict_requests.specs.Removal.{IsShard}
 use Rattle.heap_model.specs.Sizes.{span_of}
 use Rattle.heap_seat.specs.declared.fault.Looks.{Looks}
 use Rattle.worker_run.specs.Said.{IsShort}

@@ -10,10 +10,10 @@ use Rattle.heap_model.proofs.MemberLemmas.{in_head, in_rest}
 use Rattle.heap_seat.specs.View.{View}
 use Rattle.dict_model.specs.Nodes.{buckets, shard_of, bucket_of, key_in, find}
 use Rattle.dict_model.specs.Shards.{Map, Leading, map_of, IsMap, is_empty, has_table}
-use Rattle.dict_seat.specs.Answers.{MakesFew}
-use Rattle.dict_seat.specs.Maps.{GivesMap}
-use Rattle.dict_seat.specs.Walks.{ListsKeys}
-use Rattle.dict_seat.proofs.TrailLemmas.{now_image, now_completes}
+use Rattle.dict_requests.specs.Answers.{MakesFew}
+use Rattle.dict_requests.specs.Maps.{GivesMap}
+use Rattle.dict_requests.specs.Walks.{ListsKeys}
+use Rattle.dict_requests.proofs.TrailLemmas.{now_image, now_completes}
 
 -- the keys of the nodes of the first buckets
 keys_below : Image → (ℕ → List Block) → ℕ → List ℕ

@@ -2,7 +2,7 @@ pub mod AgainLemmas
 pub mod AnsweringLemmas
 pub mod ChanceLemmas
 pub mod KeyLemmas
-pub mod LeftLemmas
+pub mod ImageLeftLemmas
 pub mod MineLemmas
 pub mod OpenLemmas
 pub mod ProgressLemmas

@@ -7,7 +7,7 @@ use Rattle.heap_model.proofs.MemberLemmas.{in_none, in_head, in_rest, head_or_re
 use Rattle.heap_seat.specs.View.{View}
 use Rattle.dict_model.specs.Links.{shards}
 use Rattle.dict_model.specs.Requests.{Request, put, get, del, move}
-use Rattle.dict_seat.specs.Removal.{IsShard}
+use Rattle.dict_requests.specs.Removal.{IsShard}
 use Rattle.run_model.specs.Needs.{is_to, put_into}
 use Rattle.run_model.specs.Opened.{HasMaps}
 use Rattle.run_model.specs.Workers.{Replies, shard_asked, worker_of, is_of_worker, worker_requests}

@@ -16,15 +16,15 @@ use Rattle.heap_seat.specs.Sound.{IsSeat}
 use Rattle.dict_model.specs.Links.{shards, dict_links}
 use Rattle.dict_model.specs.Shards.{Map, LeadsTo, LeadsAlone, MapOf, IsMap}
 use Rattle.dict_model.proofs.MapLemmas.{IsUsed, map_wider, map_stays}
-use Rattle.dict_seat.specs.Maps.{IsMapIn, GivesMap}
-use Rattle.dict_seat.specs.Reached.{MayReach, IsNullOrHeld, Reaches, ReachesAllHeld, ReachesOnlyHeld}
+use Rattle.dict_requests.specs.Maps.{IsMapIn, GivesMap}
+use Rattle.dict_requests.specs.Reached.{MayReach, IsNullOrHeld, Reaches, ReachesAllHeld, ReachesOnlyHeld}
 use Rattle.dict_model.proofs.LinkLemmas.{link_in_block}
-use Rattle.dict_seat.proofs.ExactLemmas.{link_sees, root_sees, sees_held}
-use Rattle.dict_seat.proofs.GrownLemmas.{are_placed, reached_held, link_own}
-use Rattle.dict_seat.proofs.TrailLemmas.{settled_in}
+use Rattle.dict_requests.proofs.ExactLemmas.{link_sees, root_sees, sees_held}
+use Rattle.dict_requests.proofs.GrownLemmas.{are_placed, reached_held, link_own}
+use Rattle.dict_requests.proofs.TrailLemmas.{settled_in}
 use Rattle.run_model.specs.Opened.{IsOpenedOver, IsReachedFrom}
 use Rattle.run_model.specs.Stands.{IsOwnOther, HasOthers}
-use Rattle.dict_seat.proofs.ShardReachLemmas.{block_lists, used_in_image, reached_alone}
+use Rattle.dict_requests.proofs.ShardReachLemmas.{block_lists, used_in_image, reached_alone}
 
 -- a word is a pointer to one of the blocks, or to none
 led_or_not : (word : ℕ) (bs : List Block) → ((b : Block) × Contains bs b × IsPointerTo word (8 * b.first_word)) ⊎ ((b : Block) → Contains bs b → IsPointerTo word (8 * b.first_word) → ⊥)

@@ -9,15 +9,15 @@ use Rattle.heap_seat.specs.Sound.{IsSeat}
 use Rattle.dict_model.specs.Links.{shards}
 use Rattle.dict_model.specs.Requests.{Request, Reply, done, after, after_one}
 use Rattle.dict_model.specs.Shards.{Map, MapOf}
-use Rattle.dict_seat.specs.Maps.{IsMapIn, GivesMap}
+use Rattle.dict_requests.specs.Maps.{IsMapIn, GivesMap}
 use Rattle.run_model.specs.Opened.{IsOpenedOver, HasAllRoots}
 use Rattle.run_model.specs.Progress.{MayAnswer, HasAnswered}
 use Rattle.run_model.specs.Runs.{of_shard, IsMapLeft, LeavesOthers}
 use Rattle.run_model.specs.Stands.{StandsOver}
 use Rattle.run_model.specs.Workers.{shard_asked}
-use Rattle.worker_run.proofs.LeftLemmas.{nothing_outside, map_left}
+use Rattle.worker_run.proofs.ImageLeftLemmas.{nothing_outside, map_left}
 use Rattle.worker_run.proofs.OpenLemmas.{only_opened, gives_opened, others_opened}
-use Rattle.dict_seat.proofs.GrownLemmas.{grown_keeps, gives_grown, only_grown}
+use Rattle.dict_requests.proofs.GrownLemmas.{grown_keeps, gives_grown, only_grown}
 use Rattle.run_model.proofs.GoesOnLemmas.{other_gives, stands_on}
 use Rattle.run_model.proofs.StandsLemmas.{others_still, root_in_left, block_in_left, reach_in_left}
 

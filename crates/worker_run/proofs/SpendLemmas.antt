@@ -12,8 +12,8 @@ use Rattle.dict_model.specs.Requests.{Request, put, Reply, full, after}
 use Rattle.dict_model.specs.Links.{shards}
 use Rattle.dict_model.specs.Shards.{Map, MapOf}
 use Rattle.heap_seat.specs.Looks.{KnowsNoLess}
-use Rattle.dict_seat.specs.Removal.{IsShard}
-use Rattle.dict_seat.specs.Walks.{ListsKeys}
+use Rattle.dict_requests.specs.Removal.{IsShard}
+use Rattle.dict_requests.specs.Walks.{ListsKeys}
 use Rattle.run_model.specs.Needs.{ListsKeysOf, put_into}
 use Rattle.run_model.specs.Opened.{HasMaps}
 use Rattle.run_model.specs.Runs.{answered, unanswered, of_shard, span_taken}

@@ -12,8 +12,8 @@ use Rattle.heap_seat.specs.Words.{MayBe}
 use Rattle.dict_model.specs.Links.{shards}
 use Rattle.dict_model.specs.Requests.{Request, put, get, del, move, Reply}
 use Rattle.dict_model.specs.Shards.{Map, is_empty, has_table}
-use Rattle.dict_seat.specs.Maps.{IsMapIn, GivesMap}
-use Rattle.dict_seat.specs.Puts.{RootIsSet}
+use Rattle.dict_requests.specs.Maps.{IsMapIn, GivesMap}
+use Rattle.dict_requests.specs.Puts.{RootIsSet}
 use Rattle.run_model.specs.Needs.{is_to, put_into}
 use Rattle.run_model.specs.Progress.{MayAnswer}
 use Rattle.run_model.specs.Runs.{span_taken}

@@ -10,7 +10,7 @@ use Rattle.heap_seat.specs.Sound.{IsSeat}
 use Rattle.dict_model.specs.Nodes.{shard_of}
 use Rattle.dict_model.specs.Requests.{Request, put, get, del, move, Reply, done, full, none, found, after, after_one}
 use Rattle.dict_model.specs.Shards.{Map}
-use Rattle.dict_seat.proofs.TrailLemmas.{same_map}
+use Rattle.dict_requests.proofs.TrailLemmas.{same_map}
 use Rattle.run_model.specs.Needs.{is_to}
 use Rattle.run_model.specs.Opened.{HasMaps}
 use Rattle.run_model.specs.Progress.{Answers, MayAnswer, HasAnswered}
@@ -18,7 +18,7 @@ use Rattle.run_model.specs.Runs.{of_shard}
 use Rattle.run_model.specs.Workers.{Replies, shard_asked}
 use Rattle.run_model.specs.Working.{HasWorked, of_image, of_trace, HasRoom, Fits, Replied}
 use Rattle.worker_run.specs.Said.{Told, reply_of, replies_of}
-use Rattle.dict_seat.specs.Removal.{IsShard}
+use Rattle.dict_requests.specs.Removal.{IsShard}
 use Rattle.run_model.proofs.OneMapLemmas.{small_shard}
 use Rattle.run_model.proofs.GoesOnLemmas.{goes_on, asked_shard}
 

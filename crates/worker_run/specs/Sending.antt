@@ -5,7 +5,7 @@ use Rattle.heap_seat.specs.View.{View}
 use Rattle.dict_model.specs.Nodes.{shard_of}
 use Rattle.dict_model.specs.Requests.{Request, put, get, del, move, Reply, done, full}
 use Rattle.dict_model.specs.Shards.{Map}
-use Rattle.dict_seat.specs.Maps.{GivesMap}
+use Rattle.dict_requests.specs.Maps.{GivesMap}
 use Rattle.run_model.specs.Sending.{Sent, sends}
 use Rattle.run_model.specs.Workers.{shard_asked}
 

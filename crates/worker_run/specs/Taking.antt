@@ -2,7 +2,7 @@
 use Rattle.std.specs.Prelude.{◌+◌, ◌≤◌}
 use Rattle.heap_seat.specs.View.{View}
 use Rattle.dict_model.specs.Requests.{Request}
-use Rattle.dict_seat.specs.Puts.{WasNull}
+use Rattle.dict_requests.specs.Puts.{WasNull}
 use Rattle.run_model.specs.Needs.{node_span}
 use Rattle.run_model.specs.Workers.{shard_asked}
 use Rattle.run_model.specs.Spending.{IsPut}

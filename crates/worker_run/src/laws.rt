@@ -15,7 +15,7 @@ ghost use Rattle.heap_seat.specs.Sound.{IsSeat};
 ghost use Rattle.dict_model.specs.Links.{shards, kind_count, dict_links};
 ghost use Rattle.dict_model.specs.Requests.{Request, Reply, after};
 ghost use Rattle.dict_model.specs.Shards.{Map, MapOf};
-ghost use Rattle.dict_seat.specs.Removal.{IsShard};
+ghost use Rattle.dict_requests.specs.Removal.{IsShard};
 ghost use Rattle.run_model.specs.Needs.{ListsKeysOf};
 ghost use Rattle.run_model.specs.Runs.{of_shard, IsMapLeft, LeavesMaps, LeavesHeader, LeavesOthers};
 ghost use Rattle.run_model.specs.Opened.{HasMaps, IsDictionary, IsOpenedOver, HasAllRoots, CanBeRun};

@@ -3,7 +3,7 @@
 
 mod answer;
 mod laws;
-mod left;
+mod image_left;
 mod no_outbox;
 mod room;
 mod work;
@@ -15,7 +15,7 @@ pub use laws::{
     each_shard_of_a_seat_may_be_asked, what_a_run_leaves_can_be_run_again,
     what_a_run_leaves_is_a_dictionary, what_a_seat_kept_is_as_it_was,
 };
-pub use left::{CrashWords, closed_image, left_by_crash};
+pub use image_left::{CrashWords, closed_image, left_by_crash};
 pub use no_outbox::NoOutbox;
 pub use room::{longest_puts, make_rooms};
 pub use work::work_off;

@@ -7,7 +7,7 @@ ghost use Rattle.heap_seat.specs.View.{View};
 ghost use Rattle.dict_model.specs.Links.{shards};
 ghost use Rattle.dict_model.specs.Requests.{Request as Asked, Reply as Answer};
 ghost use Rattle.dict_model.specs.Shards.{Map};
-ghost use Rattle.dict_seat.specs.Reached.{ReachesAllHeld};
+ghost use Rattle.dict_requests.specs.Reached.{ReachesAllHeld};
 ghost use Rattle.run_model.specs.Arrivals.{IsWholeMap};
 ghost use Rattle.run_model.specs.Needs.{ListsKeysOf, put_into};
 ghost use Rattle.run_model.specs.Opened.{HasMaps};

@@ -1,8 +1,8 @@
 use Rattle.std.proofs.Common.{inr, true, false}
 use Rattle.dict_model.specs.Nodes.{shard_of}
 use Rattle.dict_model.specs.Requests.{without_key}
-use Rattle.dict_seat.specs.Changes.{MayChange}
-use Rattle.dict_seat.specs.Answers.{Deletes}
+use Rattle.dict_requests.specs.Changes.{MayChange}
+use Rattle.dict_requests.specs.Answers.{Deletes}
 use Rattle.c_dictionary.proofs.ClosedLemmas.{closed}
 use Rattle.c_dictionary.proofs.Numbers.{not_zero, not_one, not_low, low_goes}
 use Rattle.c_dictionary.proofs.Passing.{passes, becomes}

@@ -1,5 +1,5 @@
 use Rattle.std.proofs.Common.{Some, None}
-use Rattle.dict_seat.specs.Gets.{Gets}
+use Rattle.dict_requests.specs.Gets.{Gets}
 use Rattle.c_dictionary.proofs.ClosedLemmas.{closed}
 use Rattle.c_dictionary.proofs.Numbers.{not_zero, not_one, not_low, low_goes}
 use Rattle.c_dictionary.proofs.Passing.{passes, becomes}

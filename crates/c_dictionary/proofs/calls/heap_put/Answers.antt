@@ -3,7 +3,7 @@ use Rattle.heap_seat.specs.View.{View}
 use Rattle.block_heap.specs.SeqState.{seat_of}
 use Rattle.dict_model.specs.Nodes.{shard_of}
 use Rattle.dict_model.specs.Requests.{with_key}
-use Rattle.dict_seat.specs.Changes.{MayChange, Changes}
+use Rattle.dict_requests.specs.Changes.{MayChange, Changes}
 use Rattle.c_dictionary.specs.Passing.{MayPass}
 use Rattle.c_dictionary.specs.Ready.{IsReady}
 use Rattle.c_dictionary.proofs.ClosedLemmas.{closed}

@@ -3,8 +3,8 @@ use Rattle.block_heap.specs.SeqState.{seat_of}
 use Rattle.dict_model.specs.Nodes.{shard_of}
 use Rattle.dict_model.specs.Requests.{without_key}
 use Rattle.dict_model.specs.Shards.{Map}
-use Rattle.dict_seat.specs.Answers.{Deletes}
-use Rattle.dict_seat.specs.Changes.{Changes}
+use Rattle.dict_requests.specs.Answers.{Deletes}
+use Rattle.dict_requests.specs.Changes.{Changes}
 use Rattle.c_dictionary.specs.Dictionary.{Holds}
 use Rattle.c_dictionary.specs.declared.store.Store.{Store}
 use Rattle.c_dictionary.proofs.KeyLemmas.{lists_absent}

@@ -1,7 +1,7 @@
 use Rattle.std.proofs.Common.{ℕ, Option, Some, None, subst}
 use Rattle.block_heap.specs.SeqState.{seat_of}
 use Rattle.dict_model.specs.Shards.{Map}
-use Rattle.dict_seat.specs.Gets.{Gets}
+use Rattle.dict_requests.specs.Gets.{Gets}
 use Rattle.c_dictionary.specs.Dictionary.{Holds}
 use Rattle.c_dictionary.specs.declared.store.Store.{Store}
 use Rattle.c_dictionary.proofs.Numbers.{zero_two, one_two, zero_one, one_zero}

@@ -6,7 +6,7 @@ use Rattle.block_heap.specs.SeqState.{seat_of}
 use Rattle.dict_model.specs.Nodes.{shard_of, node_bytes}
 use Rattle.dict_model.specs.Requests.{with_key}
 use Rattle.dict_model.specs.Shards.{Map}
-use Rattle.dict_seat.specs.Puts.{PutAnswers}
+use Rattle.dict_requests.specs.Puts.{PutAnswers}
 use Rattle.heap_seat.specs.declared.fault.AllocFault.{AllocFault}
 use Rattle.heap_seat.specs.declared.fault.AllocFault.TheVariants.{Full}
 use Rattle.c_dictionary.specs.Dictionary.{Holds}

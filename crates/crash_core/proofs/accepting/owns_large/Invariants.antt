@@ -1,5 +1,5 @@
 use Rattle.std.proofs.Common.{◌≡◌, ◌<◌, ℕ, get_or}
-use Rattle.seat_notes.specs.Superblocks.{count_in, no_superblock, usage_for}
+use Rattle.seat_state.specs.Superblocks.{count_in, no_superblock, usage_for}
 use Rattle.crash_core.proofs.accepting.owns_large.Given as goal
 
 abbrev pub invariant-loop-d : goal.invariant-loop-d

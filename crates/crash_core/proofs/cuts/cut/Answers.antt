@@ -4,7 +4,7 @@ use Rattle.crash_core.specs.declared.owners.BlockPlace.TheVariants as place
 use Rattle.core_model.specs.Effects.{chain}
 use Rattle.crash_core.specs.Standing.{HasNewOwner}
 use Rattle.crash_core.proofs.ReadLemmas.{lengths}
-use Rattle.seat_notes.proofs.WordLemmas.{entry_is}
+use Rattle.seat_state.proofs.WordLemmas.{entry_is}
 use Rattle.crash_core.proofs.MoveSteps.{retold}
 use Rattle.crash_core.proofs.CutSteps.{cut, cut_fits, cut_below}
 use Rattle.crash_core.proofs.cuts.cut.Goals as goal

@@ -3,10 +3,10 @@ use Rattle.heap_model.specs.Chains.{Walks}
 use Rattle.heap_model.specs.Geometry.{start_word}
 use Rattle.core_model.specs.Memory.{next}
 use Rattle.core_model.specs.Effects.{class_blocks}
-use Rattle.seat_notes.specs.Superblocks.{cutting_in}
+use Rattle.seat_state.specs.Superblocks.{cutting_in}
 use Rattle.crash_core.specs.Standing.{memory_at}
-use Rattle.seat_notes.proofs.DecisionLemmas.{refused}
-use Rattle.seat_notes.proofs.WordLemmas.{entry_there}
+use Rattle.seat_state.proofs.DecisionLemmas.{refused}
+use Rattle.seat_state.proofs.WordLemmas.{entry_there}
 use Rattle.crash_core.proofs.CutSteps.{cut_unclaimed, cut_cached, cut_decided}
 use Rattle.crash_core.proofs.StandingLemmas.{seat_is}
 use Rattle.crash_core.proofs.cuts.may_cut.Goals as goal

@@ -1,6 +1,6 @@
 use Rattle.std.proofs.Common.{◌≡◌, ◌-◌, ◌+◌, ◌/◌, ◌<◌, get_or, length, length-set, refl, ap, sym, ◌∙◌, arith}
-use Rattle.seat_notes.specs.declared.superblocks.SuperblockUsage.TheVariants as usage
-use Rattle.seat_notes.specs.Superblocks.{usage_for, no_superblock, count_in}
+use Rattle.seat_state.specs.declared.superblocks.SuperblockUsage.TheVariants as usage
+use Rattle.seat_state.specs.Superblocks.{usage_for, no_superblock, count_in}
 use Rattle.core_model.specs.Cells.{superblock_at}
 use Rattle.core_model.specs.Effects.{span_count}
 use Rattle.core_model.specs.Handing.{after_offer, is_offered}

@@ -5,10 +5,10 @@ use Rattle.core_model.specs.Steps.{TableState, IsSoundState}
 use Rattle.core_model.proofs.HeldLemmas.{firm, crash_names}
 use Rattle.core_model.proofs.HeldOnceLemmas.{held_once}
 use Rattle.crash_core.specs.declared.state.CoreState.{CoreState}
-use Rattle.crash_core.specs.Standing.{StandsFor}
+use Rattle.crash_core.specs.Standing.{Represents}
 use Rattle.crash_core.proofs.laws.a_core_stands_for_a_sound_state.Goals as goal
 
-sound_of : (core : CoreState) (k : Setup) (s : TableState) → StandsFor core k s → IsSoundState k s
+sound_of : (core : CoreState) (k : Setup) (s : TableState) → Represents core k s → IsSoundState k s
 sound_of core k s stands = subst (λ words. Sound k words s.views) stands.words stands.keeps.sound
 
 pub returns-clause-sound : goal.returns-clause-sound

@@ -1,6 +1,6 @@
 use Rattle.std.proofs.Common.{◌≡◌, ◌∙◌, ◌-◌, get_or, ap, sym, subst, arith}
 use Rattle.heap_model.specs.Geometry.{link_word}
-use Rattle.seat_notes.proofs.WordLemmas.{entry_there}
+use Rattle.seat_state.proofs.WordLemmas.{entry_there}
 use Rattle.crash_core.proofs.KeptFacts.{first_below}
 use Rattle.crash_core.proofs.LookSteps.{no_link, empty_list, look_link}
 use Rattle.crash_core.proofs.looks.look_link.Goals as goal

@@ -1,6 +1,6 @@
 use Rattle.std.proofs.Common.{◌+◌, ◌<◌, refl, ap, sym, subst, ◌∙◌, arith}
-use Rattle.seat_notes.specs.Superblocks.{raw_in, split_in, classed_in}
-use Rattle.seat_notes.proofs.DecisionLemmas.{refused}
+use Rattle.seat_state.specs.Superblocks.{raw_in, split_in, classed_in}
+use Rattle.seat_state.proofs.DecisionLemmas.{refused}
 use Rattle.crash_core.proofs.LookDecision.{anchor_beyond, anchor_freely, anchor_unbatched, anchor_batched}
 use Rattle.crash_core.proofs.StandingLemmas.{seat_is}
 use Rattle.crash_core.proofs.looks.may_look_at.Goals as goal

@@ -1,5 +1,5 @@
 use Rattle.std.proofs.Common.{◌≡◌, refl, sym, ◌∙◌, arith}
-use Rattle.seat_notes.proofs.WordLemmas.{entry_is}
+use Rattle.seat_state.proofs.WordLemmas.{entry_is}
 use Rattle.crash_core.proofs.MoveSteps.{alloc, alloc_fits, retold}
 use Rattle.crash_core.proofs.StandingLemmas.{seat_is}
 use Rattle.crash_core.proofs.moves.alloc.Goals as goal

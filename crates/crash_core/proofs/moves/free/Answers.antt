@@ -1,6 +1,6 @@
 use Rattle.std.proofs.Common.{◌≡◌, sym, ◌∙◌, arith}
 use Rattle.heap_model.specs.Geometry.{largest_capacity_fits}
-use Rattle.seat_notes.proofs.WordLemmas.{entry_is, entry_there}
+use Rattle.seat_state.proofs.WordLemmas.{entry_is, entry_there}
 use Rattle.crash_core.proofs.MoveSteps.{retold}
 use Rattle.crash_core.proofs.FreeSteps.{free, count_short}
 use Rattle.crash_core.proofs.moves.free.Goals as goal

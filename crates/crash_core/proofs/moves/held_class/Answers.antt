@@ -2,7 +2,7 @@ use Rattle.std.proofs.Common.{◌-◌, ◌/◌, ap, sym, subst, ◌∙◌, arith
 use Rattle.heap_model.specs.Sizes.{IsClass}
 use Rattle.core_model.specs.Memory.{info}
 use Rattle.crash_core.specs.Standing.{memory_at}
-use Rattle.seat_notes.proofs.WordLemmas.{entry_there}
+use Rattle.seat_state.proofs.WordLemmas.{entry_there}
 use Rattle.crash_core.proofs.FreeSteps.{held_range, held_is}
 use Rattle.crash_core.proofs.moves.held_class.Goals as goal
 use Rattle.crash_core.proofs.StandingLemmas.{among, seat_is}

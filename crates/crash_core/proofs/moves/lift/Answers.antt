@@ -1,6 +1,6 @@
 use Rattle.std.proofs.Common.{◌≡◌, ◌-◌, ◌/◌, get_or, refl, ap, sym, ◌∙◌, arith}
 use Rattle.heap_model.specs.Geometry.{largest_capacity_fits}
-use Rattle.seat_notes.proofs.WordLemmas.{entry_is, entry_there}
+use Rattle.seat_state.proofs.WordLemmas.{entry_is, entry_there}
 use Rattle.crash_core.proofs.MoveSteps.{alloc_fits, retold}
 use Rattle.crash_core.proofs.LiftSteps.{lift, lift_alloc, lift_allocs, batch_short}
 use Rattle.crash_core.proofs.moves.lift.Goals as goal

@@ -1,6 +1,6 @@
 use Rattle.std.proofs.Common.{◌-◌, ◌/◌, get_or, refl, ap, sym, true≢false, arith}
-use Rattle.seat_notes.proofs.DecisionLemmas.{refused}
-use Rattle.seat_notes.proofs.WordLemmas.{entry_there}
+use Rattle.seat_state.proofs.DecisionLemmas.{refused}
+use Rattle.seat_state.proofs.WordLemmas.{entry_there}
 use Rattle.crash_core.proofs.MoveSteps.{alloc_fits}
 use Rattle.crash_core.proofs.LiftSteps.{lift_alloc, lift_empty, lift_unlinked, lift_apart, lift_behind, last_range}
 use Rattle.crash_core.proofs.moves.may_lift.Goals as goal

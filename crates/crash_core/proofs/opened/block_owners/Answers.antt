@@ -1,9 +1,9 @@
 use Rattle.std.proofs.Common.{◌+◌, ap, sym, subst, length, refl, lt-ltb, slice_index, arith}
 use Rattle.heap_model.specs.Geometry.{capacity_word, image_words}
 use Rattle.core_model.proofs.PlaceLemmas.{not-lt}
-use Rattle.seat_notes.proofs.PickedLemmas.{entry_of}
+use Rattle.seat_state.proofs.PickedLemmas.{entry_of}
 use Rattle.crash_core.proofs.OpenedBlocks.{HaveSeats, small_seated, large_seated, all_seated}
-use Rattle.seat_notes.proofs.HeldSoFar.{block_there, within}
+use Rattle.seat_state.proofs.HeldSoFar.{block_there, within}
 use Rattle.crash_core.proofs.opened.block_owners.Goals.{then-block-lt-SUPERBLOCK_WORDS, else-block-lt-SUPERBLOCK_WORDS}
 use Rattle.crash_core.proofs.opened.block_owners.Goals as goal
 

@@ -1,6 +1,6 @@
 use Rattle.std.proofs.Common.{◌∙◌, ap, subst, length, refl}
 use Rattle.crash_core.specs.OpenedOwners.{AreBlockOwners}
-use Rattle.seat_notes.specs.OpenedSuperblocks.{AreSuperblockOwners}
+use Rattle.seat_state.specs.OpenedSuperblocks.{AreSuperblockOwners}
 use Rattle.crash_core.proofs.OpenedCore.{stands}
 use Rattle.crash_core.proofs.opened.opened_core.Goals as goal
 

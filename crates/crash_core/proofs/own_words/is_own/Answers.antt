@@ -1,5 +1,5 @@
 use Rattle.core_model.specs.Cells.{data_cell}
-use Rattle.seat_notes.proofs.WordLemmas.{entry_there}
+use Rattle.seat_state.proofs.WordLemmas.{entry_there}
 use Rattle.crash_core.proofs.OwnDecision.{own_is, own_shared, own_root, own_info, own_anchor, own_link}
 use Rattle.crash_core.proofs.StandingLemmas.{seat_is}
 use Rattle.crash_core.proofs.own_words.is_own.Goals as goal

@@ -1,7 +1,7 @@
 use Rattle.std.proofs.Common.{◌+◌, ◌-◌, ◌*◌, ◌/◌, refl, sym, ap, ◌∙◌, arith}
 use Rattle.heap_model.specs.Sizes.{words_of_class}
-use Rattle.seat_notes.proofs.DecisionLemmas.{refused}
-use Rattle.seat_notes.proofs.WordLemmas.{entry_there}
+use Rattle.seat_state.proofs.DecisionLemmas.{refused}
+use Rattle.seat_state.proofs.WordLemmas.{entry_there}
 use Rattle.crash_core.proofs.OwnDecision.{data_whole, data_unclassed, data_block}
 use Rattle.crash_core.proofs.StandingLemmas.{seat_is}
 use Rattle.crash_core.proofs.own_words.is_own_data.Goals as goal

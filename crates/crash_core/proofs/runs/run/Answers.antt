@@ -1,7 +1,7 @@
 use Rattle.std.proofs.Common.{◌+◌, get_or, None, ap, sym, subst, ◌∙◌, arith}
 use Rattle.std.proofs.lemmas.List.Elements.{Contains-get_or}
 use Rattle.core_model.specs.declared.event.Event.TheVariants.{Tick}
-use Rattle.seat_notes.proofs.WordLemmas.{entry_is}
+use Rattle.seat_state.proofs.WordLemmas.{entry_is}
 use Rattle.crash_core.proofs.RunSteps.{IsRunning, running_on, running_whole}
 use Rattle.crash_core.proofs.runs.run.Goals as goal
 

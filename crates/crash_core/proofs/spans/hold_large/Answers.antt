@@ -1,5 +1,5 @@
 use Rattle.std.proofs.Common.{◌≡◌, ◌∙◌, refl, sym, arith}
-use Rattle.seat_notes.proofs.WordLemmas.{entry_is}
+use Rattle.seat_state.proofs.WordLemmas.{entry_is}
 use Rattle.crash_core.proofs.MoveSteps.{retold}
 use Rattle.crash_core.proofs.LargeSteps.{hold_large, large_all_fits}
 use Rattle.crash_core.proofs.spans.hold_large.Goals as goal

@@ -2,8 +2,8 @@ use Rattle.std.proofs.Common.{refl, sym, subst, true≢false, inl, inr, arith}
 use Rattle.std.proofs.lemmas.Bool.{cases_eq}
 use Rattle.core_model.specs.Memory.{memory_of}
 use Rattle.crash_core.specs.Standing.{MayJoin}
-use Rattle.seat_notes.proofs.DecisionLemmas.{refused}
-use Rattle.seat_notes.proofs.WordLemmas.{entry_there}
+use Rattle.seat_state.proofs.DecisionLemmas.{refused}
+use Rattle.seat_state.proofs.WordLemmas.{entry_there}
 use Rattle.crash_core.proofs.JoinDecision.{large_none, large_past, joins, all_join}
 use Rattle.crash_core.proofs.StandingLemmas.{seat_is}
 use Rattle.crash_core.proofs.spans.may_hold_large.Goals as goal

@@ -1,9 +1,9 @@
 use Rattle.std.proofs.Common.{◌≡◌, ◌+◌, ◌∙◌, cond, nat_eq, eq-eqb, refl, sym, ap, arith}
 use Rattle.heap_model.specs.Words.{large_info}
 use Rattle.core_model.proofs.PlaceLemmas.{pick, skip, not-eq}
-use Rattle.seat_notes.specs.Superblocks.{raw_in, split_in}
-use Rattle.seat_notes.proofs.DecisionLemmas.{refused}
-use Rattle.seat_notes.proofs.WordLemmas.{entry_there}
+use Rattle.seat_state.specs.Superblocks.{raw_in, split_in}
+use Rattle.seat_state.proofs.DecisionLemmas.{refused}
+use Rattle.seat_state.proofs.WordLemmas.{entry_there}
 use Rattle.crash_core.proofs.JoinDecision.{unclaimed, join_split, join_raw}
 use Rattle.crash_core.proofs.spans.may_join.Goals as goal
 use Rattle.crash_core.proofs.StandingLemmas.{seat_is}

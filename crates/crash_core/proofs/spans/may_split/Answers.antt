@@ -1,7 +1,7 @@
 use Rattle.std.proofs.Common.{◌-◌, ◌/◌, ◌%◌, get_or, ap, sym, ◌∙◌, arith}
-use Rattle.seat_notes.specs.Superblocks.{usage_for, no_superblock}
-use Rattle.seat_notes.proofs.DecisionLemmas.{refused}
-use Rattle.seat_notes.proofs.WordLemmas.{entry_there}
+use Rattle.seat_state.specs.Superblocks.{usage_for, no_superblock}
+use Rattle.seat_state.proofs.DecisionLemmas.{refused}
+use Rattle.seat_state.proofs.WordLemmas.{entry_there}
 use Rattle.crash_core.proofs.SplitSteps.{split_before, split_inside, split_there}
 use Rattle.crash_core.proofs.StandingLemmas.{seat_is}
 use Rattle.crash_core.proofs.spans.may_split.Goals as goal

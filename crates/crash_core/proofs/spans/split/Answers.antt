@@ -1,10 +1,10 @@
 use Rattle.std.proofs.Common.{◌≡◌, ◌-◌, ◌/◌, get_or, refl, ap, sym, subst, ◌∙◌, arith}
-use Rattle.seat_notes.specs.declared.superblocks.SuperblockUsage.TheVariants as usage
+use Rattle.seat_state.specs.declared.superblocks.SuperblockUsage.TheVariants as usage
 use Rattle.core_model.specs.Cells.{superblock_at}
 use Rattle.core_model.specs.Effects.{cleared, span_count}
-use Rattle.seat_notes.specs.Notes.{snapshot}
-use Rattle.seat_notes.specs.Superblocks.{usage_for, no_superblock, count_in, IsRange}
-use Rattle.seat_notes.proofs.WordLemmas.{entry_is}
+use Rattle.seat_state.specs.Notes.{snapshot}
+use Rattle.seat_state.specs.Superblocks.{usage_for, no_superblock, count_in, IsRange}
+use Rattle.seat_state.proofs.WordLemmas.{entry_is}
 use Rattle.crash_core.proofs.MoveSteps.{retold}
 use Rattle.crash_core.proofs.SplitSteps.{split, split_fits, split_count}
 use Rattle.crash_core.proofs.spans.split.Goals as goal

@@ -1,7 +1,7 @@
 use Rattle.std.proofs.Common.{sym, true≢false}
 use Rattle.core_model.specs.declared.event.Event.TheVariants.{Store}
 use Rattle.crash_core.proofs.StandingLemmas.{step_not, seat_is}
-use Rattle.seat_notes.proofs.WordLemmas.{entry_there}
+use Rattle.seat_state.proofs.WordLemmas.{entry_there}
 use Rattle.crash_core.proofs.StoreSteps.{shared}
 use Rattle.crash_core.proofs.stores.store.Goals as goal
 

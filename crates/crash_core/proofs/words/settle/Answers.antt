@@ -2,7 +2,7 @@ use Rattle.std.proofs.Common.{◌+◌, refl, ap, sym, true≢false, arith}
 use Rattle.core_model.specs.declared.event.Event.TheVariants.{Settle}
 use Rattle.crash_core.proofs.ReadLemmas.{lengths}
 use Rattle.crash_core.proofs.StandingLemmas.{step_not, seat_is}
-use Rattle.seat_notes.proofs.WordLemmas.{entry_there}
+use Rattle.seat_state.proofs.WordLemmas.{entry_there}
 use Rattle.crash_core.proofs.WordSteps.{settle, own_below}
 use Rattle.crash_core.proofs.words.settle.Goals as goal
 

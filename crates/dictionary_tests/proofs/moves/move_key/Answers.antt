@@ -7,12 +7,12 @@ use Rattle.heap_seat.specs.View.{View}
 use Rattle.heap_seat.specs.declared.fault.AllocFault.{AllocFault}
 use Rattle.dict_model.specs.Nodes.{shard_of}
 use Rattle.dict_model.specs.Requests.{with_key, without_key}
-use Rattle.dict_seat.specs.Changes.{MayChange}
-use Rattle.dict_seat.specs.Moving.{TableFails, TakesOut}
-use Rattle.dict_seat.specs.Puts.{RootIsSet}
-use Rattle.dict_seat.specs.Shards.{HasShards}
-use Rattle.dict_seat.proofs.HandingLemmas.{bring_shards, set_changed}
-use Rattle.dict_seat.proofs.OthersLemmas.{shards_on}
+use Rattle.dict_requests.specs.Changes.{MayChange}
+use Rattle.dict_requests.specs.Moving.{TableFails, TakesOut}
+use Rattle.dict_requests.specs.Puts.{RootIsSet}
+use Rattle.dict_requests.specs.Shards.{HasShards}
+use Rattle.dict_requests.proofs.HandingLemmas.{bring_shards, set_changed}
+use Rattle.dict_requests.proofs.OthersLemmas.{shards_on}
 use Rattle.dictionary_tests.proofs.moves.move_key.Goals as goal
 
 -- requests go on after a take

@@ -13,7 +13,7 @@ use Rattle.worker_run.specs.Left.{AreWholeImage}
 use Rattle.worker_run.specs.Said.{requests_of}
 use Rattle.worker_run.proofs.UnmovedLemmas.{no_room_needed}
 use Rattle.dictionary_heap.proofs.OpenedLemmas.{has_root, run_begins}
-use Rattle.dictionary_tests.proofs.LeftLemmas.{capacity_seen, capacity_durable, whole_seen, few_requests}
+use Rattle.dictionary_tests.proofs.TestLeftLemmas.{capacity_seen, capacity_durable, whole_seen, few_requests}
 use Rattle.dictionary_tests.proofs.runs.run_requests.Goals as goal
 
 pub work_off-stopped-requires : goal.work_off-stopped-requires

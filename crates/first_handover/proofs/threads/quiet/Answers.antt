@@ -13,7 +13,7 @@ returns-clause-back c =
     let new = c.new-seat.ensures.state in
     let kept = c.quiet-answer.ensures.kept.heap in
     let back = c.into_seat-seat.ensures in
-    back_from c.args.shared.now c.args.seat.view seat c.has_a_sound_state.ensures
+    back_from c.args.shared.now c.args.seat.view seat c.recall_soundness.ensures
     (seat_of c.args.shared.now c.args.seat first at seat c.requires.at.of new kept.0 kept.1.setup back.table back.view)
     (λ b there. held_at seat.view at.view b back.view
     (held_in (heap_view first) (heap_view at) b c.quiet-answer.ensures.unchanged.held (held_at first.view c.args.seat.view b new.view there)))

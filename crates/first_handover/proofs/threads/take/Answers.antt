@@ -21,13 +21,13 @@ returns c =
     let took = c.try_receive-taken.ensures in
     let new = c.new-seat.ensures.state in
     let back = c.into_seat-seat.ensures in record {
-      back = back_from c.args.shared.now v seat c.has_a_sound_state.ensures
+      back = back_from c.args.shared.now v seat c.recall_soundness.ensures
           (seat_of c.args.shared.now c.args.seat first at seat c.requires.at.of new took.same.table took.same.setup back.table back.view)
           (λ b there. held_at seat.view at.view b back.view (took.held b (held_at first.view v b new.view there)));
       received = λ value brings. if_some (HasReceived value (heap_view at)) (KnowsReceived value seat.view) taken.received
           (λ r got. record { state = at; view = back.view; has = got }) (took.received value brings);
       gets = if_some (λ (r : Received). Contains (held_blocks at.view) r.block) (λ r. IsHeld seat.view r.block) taken.received
-          (λ r there. held_is seat.view c.has_a_sound_state.ensures r.block (held_at seat.view at.view r.block back.view there)) took.gets;
+          (λ r there. held_is seat.view c.recall_soundness.ensures r.block (held_at seat.view at.view r.block back.view there)) took.gets;
       apart = if_some (λ (r : Received). (a : Block) → Contains (held_blocks first.view) a → AreApart a r.block) (λ r. (a : Block) → Contains (held_blocks v) a → AreApart a r.block) taken.received
           (λ r apart a there. apart a (held_at first.view v a new.view there)) took.apart;
       table = if_some (λ (x : CarrierView). x.table ≡ first.table) (λ x. x.table ≡ c.args.shared.now.table) taken.left

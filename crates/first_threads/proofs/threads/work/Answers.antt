@@ -20,7 +20,7 @@ returns c =
         setup = ap (λ (v : View). v.setup) back.view ∙ kept.1.setup ∙ ap (λ (v : View). v.setup) new.view ∙ of.setup;
       };
       role_is = ap role back.view ∙ kept.2 ∙ ap role new.view ∙ c.requires.role_is;
-      held = λ b tells. held_is c.into_seat-seat.result.view c.has_a_sound_state.ensures b
+      held = λ b tells. held_is c.into_seat-seat.result.view c.recall_soundness.ensures b
           (subst (λ (v : View). Contains (held_blocks v) b) (sym back.view) (c.build-chain.ensures.held b tells));
       quiet = subst (λ (v : View). OnOk c.build-chain.result (IsQuiet v)) (sym back.view) c.build-chain.ensures.quiet;
     }

@@ -1,6 +1,6 @@
 use Rattle.std.proofs.Common.{arith}
-use Rattle.seat_lists.proofs.HandLemmas.{alone}
-use Rattle.seat_lists.proofs.PushLemmas.{ok_then}
+use Rattle.superblock_lists.proofs.HandLemmas.{alone}
+use Rattle.superblock_lists.proofs.PushLemmas.{ok_then}
 use Rattle.free_list.proofs.lists.pop.Goals as goal
 
 pub returns-clause-alone : goal.returns-clause-alone

@@ -1,5 +1,5 @@
 use Rattle.std.proofs.Common.{◌+◌, get_or, take, subst, sym, arith}
-use Rattle.seat_notes.proofs.WordLemmas.{entry_is}
+use Rattle.seat_state.proofs.WordLemmas.{entry_is}
 use Rattle.heap_rule.specs.Owned.{IsMarking}
 use Rattle.heap_rule.proofs.MarkLemmas.{entry_times, marking_step}
 use Rattle.heap_rule.proofs.owned.mark_all.Goals as goal

@@ -1,8 +1,8 @@
 use Rattle.std.proofs.Common.{◌+◌, length, ap, sym, subst, ◌∙◌, arith}
 use Rattle.std.proofs.lemmas.List.{length-set}
 use Rattle.core_model.proofs.PlaceLemmas.{and_both}
-use Rattle.seat_notes.proofs.HeldSoFar.{all_held, block_there, within}
-use Rattle.seat_notes.proofs.PickedLemmas.{entry_of}
+use Rattle.seat_state.proofs.HeldSoFar.{all_held, block_there, within}
+use Rattle.seat_state.proofs.PickedLemmas.{entry_of}
 use Rattle.heap_rule.proofs.HeldMarks.{MarksFirst, marks_more, marks_same}
 use Rattle.heap_rule.proofs.owned_opening.held_by.Goals.{then-is_small_of, else-is_small_of}
 use Rattle.heap_rule.proofs.owned_opening.held_by.Goals as goal

@@ -1,5 +1,5 @@
 use Rattle.std.proofs.Common.{◌≡◌, ℕ, ◌<◌, get_or, length, vec_len}
-use Rattle.seat_notes.specs.Superblocks.{usage_for, no_superblock}
+use Rattle.seat_state.specs.Superblocks.{usage_for, no_superblock}
 use Rattle.heap_rule.specs.declared.owned.Ownership.TheVariants.{Nothing}
 use Rattle.heap_rule.specs.Owned.{ownership_for}
 use Rattle.heap_rule.proofs.owned_opening.ownerships_of.Given as goal

@@ -1,4 +1,4 @@
-use Rattle.heap_rule.proofs.LeftLemmas.{draw_done, draw_stops, draw_cuts, draw_frees}
+use Rattle.heap_rule.proofs.WordsLeftLemmas.{draw_done, draw_stops, draw_cuts, draw_frees}
 use Rattle.heap_rule.proofs.step_laws.a_draw_leaves_its_change_or_a_stop.Goals as goal
 
 pub returns-clause-done : goal.returns-clause-done

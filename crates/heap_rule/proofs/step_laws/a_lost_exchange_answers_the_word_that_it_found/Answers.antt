@@ -1,7 +1,7 @@
 use Rattle.std.proofs.Common.{None, refl}
 use Rattle.core_model.specs.declared.event.Event.TheVariants.{TakeFresh, Pop, Push, TakeAll, Give}
 use Rattle.core_model.specs.Effects.{lost, seen, seen_word}
-use Rattle.heap_rule.proofs.LeftLemmas.{fresh_lost, pop_lost, push_lost, take_all_lost, give_lost, told_lost}
+use Rattle.heap_rule.proofs.WordsLeftLemmas.{fresh_lost, pop_lost, push_lost, take_all_lost, give_lost, told_lost}
 use Rattle.heap_rule.proofs.step_laws.a_lost_exchange_answers_the_word_that_it_found.Goals as goal
 
 pub returns-clause-taken : goal.returns-clause-taken

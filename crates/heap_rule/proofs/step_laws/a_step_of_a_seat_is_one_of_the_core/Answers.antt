@@ -1,4 +1,4 @@
-use Rattle.heap_rule.proofs.LeftLemmas.{step_done, step_stops}
+use Rattle.heap_rule.proofs.WordsLeftLemmas.{step_done, step_stops}
 use Rattle.heap_rule.proofs.step_laws.a_step_of_a_seat_is_one_of_the_core.Goals as goal
 
 pub returns-clause-done : goal.returns-clause-done

@@ -1,4 +1,4 @@
-use Rattle.heap_rule.proofs.LeftLemmas.{fresh_won, fresh_lost, pop_won, pop_lost, push_won, push_lost, take_all_won, take_all_lost, give_won, give_lost}
+use Rattle.heap_rule.proofs.WordsLeftLemmas.{fresh_won, fresh_lost, pop_won, pop_lost, push_won, push_lost, take_all_won, take_all_lost, give_won, give_lost}
 use Rattle.heap_rule.proofs.step_laws.an_exchange_is_won_or_lost.Goals as goal
 
 pub returns-clause-taken : goal.returns-clause-taken

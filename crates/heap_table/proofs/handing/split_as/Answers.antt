@@ -6,7 +6,7 @@ use Rattle.core_model.specs.Held.{IsHeld}
 use Rattle.core_model.specs.View.{View}
 use Rattle.heap_table.specs.Rule.{Holds}
 use Rattle.heap_table.proofs.HandingLemmas.{offers}
-use Rattle.heap_table.proofs.StepLemmas.{the_view}
+use Rattle.heap_table.proofs.TableStepLemmas.{the_view}
 use Rattle.heap_table.proofs.handing.split_as.Goals as goal
 
 pub split_seat-requires : goal.split_seat-requires

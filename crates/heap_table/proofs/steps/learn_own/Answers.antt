@@ -5,7 +5,7 @@ use Rattle.heap_table.specs.SeatViews.{view_in}
 use Rattle.heap_table.specs.AtTable.{SharedView}
 use Rattle.heap_table.specs.Rule.{setup_for}
 use Rattle.heap_table.proofs.RuleLemmas.{allowed_learn_own}
-use Rattle.heap_table.proofs.StepLemmas.{after_learn_own}
+use Rattle.heap_table.proofs.TableStepLemmas.{after_learn_own}
 use Rattle.heap_table.proofs.steps.learn_own.Goals as goal
 
 pub load-requires : goal.load-requires

@@ -4,7 +4,7 @@ use Rattle.core_model.specs.View.{Setup}
 use Rattle.heap_table.specs.SeatViews.{view_in}
 use Rattle.heap_table.specs.AtTable.{SharedView}
 use Rattle.heap_table.specs.Rule.{setup_for}
-use Rattle.heap_table.proofs.StepLemmas.{place_below, raise_at, after_did}
+use Rattle.heap_table.proofs.TableStepLemmas.{place_below, raise_at, after_did}
 use Rattle.heap_table.proofs.steps.raise.Goals as goal
 
 pub raise_as-requires-clause-inside : goal.raise_as-requires-clause-inside

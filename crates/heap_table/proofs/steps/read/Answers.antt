@@ -1,7 +1,7 @@
 use Rattle.std.proofs.Common.{◌≡◌, get_or, sym, subst}
 use Rattle.core_model.specs.View.{View}
 use Rattle.heap_table.specs.Plays.{HasSoundState}
-use Rattle.heap_table.proofs.StepLemmas.{the_view}
+use Rattle.heap_table.proofs.TableStepLemmas.{the_view}
 use Rattle.heap_table.proofs.steps.read.Goals as goal
 
 pub returns-clause-found : goal.returns-clause-found

@@ -3,7 +3,7 @@ use Rattle.std.proofs.lemmas.Bool.{eqb-false}
 use Rattle.heap_table.specs.SeatViews.{view_in}
 use Rattle.heap_table.specs.AtTable.{SharedView}
 use Rattle.heap_table.specs.Rule.{setup_for}
-use Rattle.heap_table.proofs.StepLemmas.{put_at, after_find, found_there, found_other}
+use Rattle.heap_table.proofs.TableStepLemmas.{put_at, after_find, found_there, found_other}
 use Rattle.heap_table.proofs.steps.stands.Goals as goal
 
 pub find_as-requires-clause-step : goal.find_as-requires-clause-step

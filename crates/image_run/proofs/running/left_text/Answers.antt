@@ -4,7 +4,7 @@ use Rattle.dict_model.specs.Links.{shards}
 use Rattle.dictionary.specs.Reading.{AreMaps, TellsLowest}
 use Rattle.dictionary.specs.declared.fault.MapFault.{MapFault}
 use Rattle.image_run.specs.Reporting.{IsTextOf}
-use Rattle.image_run.proofs.LeftLemmas.{shard_good}
+use Rattle.image_run.proofs.CommandLeftLemmas.{shard_good}
 use Rattle.dictionary.proofs.SameLemmas.{maps_of_image}
 use Rattle.image_run.proofs.RecoveredLemmas.{recovers_to}
 use Rattle.image_run.proofs.TextLemmas.{reports, if_answer}

@@ -1,5 +1,5 @@
-use Rattle.seat_rows.proofs.EventLemmas.{keep_used_row}
-use Rattle.seat_rows.proofs.RowLemmas.{row_of, row_then}
+use Rattle.seat_costs.proofs.EventLemmas.{keep_used_row}
+use Rattle.seat_costs.proofs.RowLemmas.{row_of, row_then}
 use Rattle.large_block.proofs.FreshLemmas.{mark_kept}
 use Rattle.large_block.proofs.fresh.keep_mark.Goals as goal
 

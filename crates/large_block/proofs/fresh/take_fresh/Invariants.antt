@@ -1,8 +1,8 @@
 use Rattle.heap_rule.specs.Seated.{IsSeatOf}
 use Rattle.std.proofs.Common.{◌-◌}
-use Rattle.seat_rows.specs.Asked.{HasAsked}
-use Rattle.seat_rows.specs.Rows.{KeepsMarks}
-use Rattle.seat_rows.specs.Words.{IsHeldWord}
+use Rattle.seat_costs.specs.Asked.{HasAsked}
+use Rattle.seat_costs.specs.Rows.{KeepsMarks}
+use Rattle.seat_costs.specs.Words.{IsHeldWord}
 use Rattle.large_block.proofs.FreshLemmas.{Trying}
 use Rattle.large_block.proofs.fresh.take_fresh.Given as goal
 

@@ -1,7 +1,7 @@
 use Rattle.std.proofs.Common.{arith}
-use Rattle.seat_rows.specs.Costs.{one_win}
-use Rattle.seat_rows.proofs.FreshLemmas.{fresh_row}
-use Rattle.seat_rows.proofs.RowLemmas.{row_of, row_then, row_within}
+use Rattle.seat_costs.specs.Costs.{one_win}
+use Rattle.seat_costs.proofs.FreshLemmas.{fresh_row}
+use Rattle.seat_costs.proofs.RowLemmas.{row_of, row_then, row_within}
 use Rattle.large_block.proofs.FreshLemmas.{exchanged}
 use Rattle.large_block.proofs.fresh.take_seen.Goals as goal
 

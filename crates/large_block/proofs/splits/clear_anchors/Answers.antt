@@ -1,5 +1,5 @@
 use Rattle.std.proofs.Common.{arith}
-use Rattle.seat_rows.proofs.AskedLemmas.{asked_then}
+use Rattle.seat_costs.proofs.AskedLemmas.{asked_then}
 use Rattle.large_block.proofs.SplitLemmas.{clearing_on, clearing_row, still_split}
 use Rattle.large_block.proofs.splits.clear_anchors.Goals as goal
 

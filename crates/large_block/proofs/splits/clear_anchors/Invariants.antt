@@ -1,5 +1,5 @@
 use Rattle.heap_rule.specs.Seated.{IsSeatOf}
-use Rattle.seat_rows.specs.Asked.{HasAsked}
+use Rattle.seat_costs.specs.Asked.{HasAsked}
 use Rattle.large_block.proofs.SplitLemmas.{Clearing}
 use Rattle.large_block.proofs.splits.clear_anchors.Given as goal
 

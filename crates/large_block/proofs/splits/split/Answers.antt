@@ -5,10 +5,10 @@ use Rattle.core_model.specs.declared.event.Shift.TheVariants.{Split}
 use Rattle.heap_rule.specs.Seated.{SeatView}
 use Rattle.large_block.specs.Splits.{HasClearedAll}
 use Rattle.large_block.proofs.SplitLemmas.{each_split, if_err, if_ok, none_split, refused_within, split_done, split_may, split_row, split_stops}
-use Rattle.seat_rows.specs.Costs.{no_costs}
-use Rattle.seat_rows.specs.Rows.{Row}
-use Rattle.seat_rows.proofs.AskedLemmas.{asked_then}
-use Rattle.seat_rows.proofs.DrawLemmas.{told_stop}
+use Rattle.seat_costs.specs.Costs.{no_costs}
+use Rattle.seat_costs.specs.Rows.{Row}
+use Rattle.seat_costs.proofs.AskedLemmas.{asked_then}
+use Rattle.seat_costs.proofs.DrawLemmas.{told_stop}
 use Rattle.large_block.proofs.splits.split.Goals as goal
 
 pub returns-in_err-draw_with-clause-may : goal.returns-in_err-draw_with-clause-may
@@ -18,7 +18,7 @@ returns-in_err-draw_with-clause-may g c =
 pub returns-in_err-draw_with-clause-stopped : goal.returns-in_err-draw_with-clause-stopped
 returns-in_err-draw_with-clause-stopped g c = let p = err_from_is_err_and c.from_residual.result c.from_residual.ensures.1 in
     rw (p.1, p.2) (told_stop (Some (Split c.args.block.first_word)) c.args.seat.now.view c.draw_with.new.seat.view c.draw_with.ensures.event
-    (λ step stop. ap (λ (x : SeatView). x.view) (c.draw_with.ensures.had_stopped step stop)) c.has_a_sound_state.ensures c.in_err-draw_with.field-0.0.step c.in_err-draw_with.ensures.told)
+    (λ step stop. ap (λ (x : SeatView). x.view) (c.draw_with.ensures.had_stopped step stop)) c.recall_soundness.ensures c.in_err-draw_with.field-0.0.step c.in_err-draw_with.ensures.told)
 
 pub returns-in_err-draw_with-clause-row : goal.returns-in_err-draw_with-clause-row
 returns-in_err-draw_with-clause-row g c =
@@ -50,7 +50,7 @@ returns-clause-split g c = let s = c.superblocks_of-span.ensures in
     let d = c.superblocks_of-span.result.first in
     let count = s.count ∙ ap (λ (d : ℕ). span_count d c.args.seat.now.view.large) s.first in
     if_ok c.clear_anchors.result (λ cleared. split_done c.args.seat.now c.draw_with.new.seat c.draw_with.ensures.stores c.args.block.first_word c.draw_with.ensures.event c.draw_with.ensures.had_stopped c.clear_anchors.new.seat c.in_ok-draw_with.ensures.told
-    (subst (λ (n : ℕ). Row (record no_costs { draws = n }) c.draw_with.new.seat c.clear_anchors.new.seat) count c.clear_anchors.ensures.row) c.has_a_sound_state-2.ensures
+    (subst (λ (n : ℕ). Row (record no_costs { draws = n }) c.draw_with.new.seat c.clear_anchors.new.seat) count c.clear_anchors.ensures.row) c.recall_soundness-2.ensures
     (subst (λ (d : ℕ). HasClearedAll d (span_count d c.args.seat.now.view.large) c.draw_with.new.seat.view c.clear_anchors.new.seat.view) s.first (subst (λ (n : ℕ). HasClearedAll d n c.draw_with.new.seat.view c.clear_anchors.new.seat.view) s.count cleared))) c.clear_anchors.ensures.cleared
 
 pub returns-clause-asked : goal.returns-clause-asked

@@ -5,26 +5,26 @@ use Rattle.large_block.proofs.SplitLemmas.{block_small, counted, large, large_he
 use Rattle.large_block.proofs.splits.superblocks_of.Goals as goal
 
 pub overflow_mul-block : goal.overflow_mul-block
-overflow_mul-block c = let small = block_small c.args.seat.now.view c.has_a_sound_state.ensures c.args.block c.requires.held in
-    let most = c.has_a_sound_state.ensures.sound.good.small in omega (arith, largest_capacity_fits)
+overflow_mul-block c = let small = block_small c.args.seat.now.view c.recall_soundness.ensures c.args.block c.requires.held in
+    let most = c.recall_soundness.ensures.sound.good.small in omega (arith, largest_capacity_fits)
 
 pub block-held-requires-clause-held : goal.block-held-requires-clause-held
 block-held-requires-clause-held c = (
-  large c.args.seat.now.view c.has_a_sound_state.ensures c.args.block c.requires.held,
-  large_held c.args.seat.now.view c.has_a_sound_state.ensures c.args.block c.requires.held,
+  large c.args.seat.now.view c.recall_soundness.ensures c.args.block c.requires.held,
+  large_held c.args.seat.now.view c.recall_soundness.ensures c.args.block c.requires.held,
   ap (λ (n : ℕ). 8 * n) (sym c.requires.held.first),
 )
 
 pub returns-clause-count : goal.returns-clause-count
 returns-clause-count c =
-    counted c.args.seat.now.view c.has_a_sound_state.ensures c.args.block c.requires.held c.block-held.result c.block-held.ensures.only
+    counted c.args.seat.now.view c.recall_soundness.ensures c.args.block c.requires.held c.block-held.result c.block-held.ensures.only
     ∙ ap (λ (n : ℕ). span_count ((c.args.block - n) / 8192) c.args.seat.now.view.large) (sym (c.start-start.ensures ∙ ap (λ (n : ℕ). start_word n 0) (c.new.ensures ∙ c.capacity.ensures)))
 
 pub returns-clause-some : goal.returns-clause-some
-returns-clause-some c = let n = counted c.args.seat.now.view c.has_a_sound_state.ensures c.args.block c.requires.held c.block-held.result c.block-held.ensures.only in
+returns-clause-some c = let n = counted c.args.seat.now.view c.recall_soundness.ensures c.args.block c.requires.held c.block-held.result c.block-held.ensures.only in
     let some = c.requires.held.held in omega arith
 
 pub returns-clause-inside : goal.returns-clause-inside
-returns-clause-inside c = let n = counted c.args.seat.now.view c.has_a_sound_state.ensures c.args.block c.requires.held c.block-held.result c.block-held.ensures.only in
-    let inside = large_inside c.args.seat.now.view c.has_a_sound_state.ensures c.args.block c.requires.held in
+returns-clause-inside c = let n = counted c.args.seat.now.view c.recall_soundness.ensures c.args.block c.requires.held c.block-held.result c.block-held.ensures.only in
+    let inside = large_inside c.args.seat.now.view c.recall_soundness.ensures c.args.block c.requires.held in
     let start = c.start-start.ensures in let of = c.new.ensures in let at = c.capacity.ensures in omega arith

@@ -7,7 +7,7 @@ use Rattle.filter_trace.proofs.TraceLemmas.{link_at, link_within, links_past}
 use Rattle.mixed_trace.specs.declared.mode.Mode.TheVariants.{Kind}
 use Rattle.mixed_trace.specs.Reach.{modes_of}
 use Rattle.mixed_trace.specs.Steps.{FollowsAs, IsLinkAmong}
-use Rattle.mixed_trace.proofs.StepLemmas.{none_yet, one_more, link_cases}
+use Rattle.mixed_trace.proofs.MixedStepLemmas.{none_yet, one_more, link_cases}
 use Rattle.mixed_trace.proofs.WorkLemmas.{mixed_block, tells_word}
 use Rattle.mixed_trace.proofs.steps.follow_links.Goals as goal
 

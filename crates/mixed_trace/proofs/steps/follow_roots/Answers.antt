@@ -7,7 +7,7 @@ use Rattle.mixed_trace.specs.declared.mode.Mode.{Mode}
 use Rattle.mixed_trace.specs.declared.mode.Mode.TheVariants.{Kind}
 use Rattle.mixed_trace.specs.Reach.{modes_of}
 use Rattle.mixed_trace.specs.Steps.{FollowsAs, IsRootAmong}
-use Rattle.mixed_trace.proofs.StepLemmas.{none_yet, one_more, root_cases}
+use Rattle.mixed_trace.proofs.MixedStepLemmas.{none_yet, one_more, root_cases}
 use Rattle.mixed_trace.proofs.WorkLemmas.{tells_root}
 use Rattle.mixed_trace.proofs.steps.follow_roots.Goals as goal
 

@@ -5,7 +5,7 @@ use Rattle.heap_model.proofs.ImageLemmas.{length-words_from}
 use Rattle.mixed_trace.specs.declared.mode.Mode.TheVariants.{All}
 use Rattle.mixed_trace.specs.Reach.{modes_of}
 use Rattle.mixed_trace.specs.Steps.{FollowsAs, IsWordAmong}
-use Rattle.mixed_trace.proofs.StepLemmas.{none_yet, one_more, fewer, word_cases}
+use Rattle.mixed_trace.proofs.MixedStepLemmas.{none_yet, one_more, fewer, word_cases}
 use Rattle.mixed_trace.proofs.WorkLemmas.{mixed_block}
 use Rattle.mixed_trace.proofs.steps.follow_words.Goals as goal
 

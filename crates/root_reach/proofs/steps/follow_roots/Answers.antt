@@ -1,7 +1,7 @@
 use Rattle.std.proofs.Common.{◌+◌, ◌<◌, slice_index, ◌∙◌, arith}
 use Rattle.heap_model.specs.Geometry.{roots}
 use Rattle.root_reach.specs.declared.origin.Origin.TheVariants.{One}
-use Rattle.root_reach.proofs.StepLemmas.{follow_grows}
+use Rattle.root_reach.proofs.ReachStepLemmas.{follow_grows}
 use Rattle.root_reach.proofs.TraceLemmas.{roots_step}
 use Rattle.root_reach.proofs.steps.follow_roots.Goals as goal
 

@@ -1,7 +1,7 @@
 use Rattle.std.proofs.Common.{◌≡◌, ◌*◌, length, slice_index, sym, subst, ◌∙◌, ap, refl, arith}
 use Rattle.std.specs.Prelude.{Contains}
 use Rattle.heap_model.specs.Geometry.{roots}
-use Rattle.filter_trace.proofs.StepLemmas.{image_short}
+use Rattle.filter_trace.proofs.TraceStepLemmas.{image_short}
 use Rattle.root_reach.specs.Steps.{PropagatesRoots}
 use Rattle.root_reach.proofs.TraceLemmas.{nothing_found, work_begins, work_step, work_ends, few_found}
 use Rattle.root_reach.proofs.worklist.trace_origins.Goals as goal

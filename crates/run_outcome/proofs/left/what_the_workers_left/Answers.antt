@@ -1,5 +1,5 @@
 use Rattle.run_outcome.proofs.HeaderLemmas.{leaves_header, leaves_state}
-use Rattle.run_outcome.proofs.LeftLemmas.{leaves_others}
+use Rattle.run_outcome.proofs.RunLeftLemmas.{leaves_others}
 use Rattle.run_outcome.proofs.OrderlyLemmas.{leaves_orderly}
 use Rattle.run_outcome.proofs.left.what_the_workers_left.Goals as goal
 

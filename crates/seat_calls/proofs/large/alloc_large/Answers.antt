@@ -3,8 +3,8 @@ use Rattle.large_block.specs.Fresh.{IsPast, Takes}
 use Rattle.large_block.specs.declared.fresh.Take.TheVariants.{Got}
 use Rattle.large_block.specs.Holds.{HasHeld}
 use Rattle.large_block.proofs.HoldLemmas.{on_err}
-use Rattle.seat_rows.specs.Rows.{Row}
-use Rattle.seat_rows.proofs.AskedLemmas.{asked_then}
+use Rattle.seat_costs.specs.Rows.{Row}
+use Rattle.seat_costs.proofs.AskedLemmas.{asked_then}
 use Rattle.seat_calls.proofs.LargeLemmas.{allocated, held_row, no_room, not_held_row, taking}
 use Rattle.seat_calls.proofs.large.alloc_large.Goals as goal
 

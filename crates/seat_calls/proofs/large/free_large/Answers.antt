@@ -1,7 +1,7 @@
 use Rattle.std.proofs.Common.{ℕ, subst, ap, ◌∙◌}
 use Rattle.core_model.specs.Effects.{span_count}
-use Rattle.seat_rows.specs.Rows.{Row}
-use Rattle.seat_rows.proofs.AskedLemmas.{asked_then}
+use Rattle.seat_costs.specs.Rows.{Row}
+use Rattle.seat_costs.proofs.AskedLemmas.{asked_then}
 use Rattle.seat_calls.specs.Large.{list_costs}
 use Rattle.seat_calls.proofs.LargeLemmas.{freed_row}
 use Rattle.seat_calls.proofs.large.free_large.Goals as goal

@@ -1,4 +1,4 @@
-use Rattle.seat_rows.proofs.AskedLemmas.{asked_then}
+use Rattle.seat_costs.proofs.AskedLemmas.{asked_then}
 use Rattle.seat_calls.proofs.LargeLemmas.{can_push, listing_on, listing_row}
 use Rattle.seat_calls.proofs.large.list_all.Goals as goal
 

@@ -1,5 +1,5 @@
 use Rattle.heap_rule.specs.Seated.{IsSeatOf}
-use Rattle.seat_rows.specs.Asked.{HasAsked}
+use Rattle.seat_costs.specs.Asked.{HasAsked}
 use Rattle.seat_calls.proofs.LargeLemmas.{Listing}
 use Rattle.seat_calls.proofs.large.list_all.Given as goal
 

@@ -1,9 +1,9 @@
 use Rattle.std.proofs.Common.{Some}
 use Rattle.std.proofs.lemmas.Result.{err_from_is_err_and}
 use Rattle.core_model.specs.declared.event.Shift.TheVariants.{Alloc}
-use Rattle.seat_rows.proofs.DrawLemmas.{row_of_stop, stops}
-use Rattle.seat_rows.proofs.RowLemmas.{row_of}
-use Rattle.seat_rows.proofs.ShiftLemmas.{shift_row}
+use Rattle.seat_costs.proofs.DrawLemmas.{row_of_stop, stops}
+use Rattle.seat_costs.proofs.RowLemmas.{row_of}
+use Rattle.seat_costs.proofs.ShiftLemmas.{shift_row}
 use Rattle.seat_calls.proofs.SmallLemmas.{alloc_looks, allocated, on_err}
 use Rattle.seat_calls.proofs.small.alloc_cached.Goals as goal
 

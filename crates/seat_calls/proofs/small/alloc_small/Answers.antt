@@ -1,6 +1,6 @@
 use Rattle.std.proofs.Common.{arith, subst}
-use Rattle.seat_fill.specs.Refills.{Refills}
-use Rattle.seat_rows.proofs.AskedLemmas.{asked_then}
+use Rattle.cache_fill.specs.Refills.{Refills}
+use Rattle.seat_costs.proofs.AskedLemmas.{asked_then}
 use Rattle.seat_calls.proofs.AllocLemmas.{alloc_light, alloc_row, filled_alloc, full_light, full_row, order_held, order_still, stopped_row}
 use Rattle.seat_calls.proofs.SmallLemmas.{on_err}
 use Rattle.seat_calls.proofs.small.alloc_small.Goals as goal

@@ -1,15 +1,15 @@
-use Rattle.seat_rows.proofs.AskedLemmas.{asked_step}
-use Rattle.seat_rows.proofs.RowLemmas.{then_storing}
-use Rattle.seat_rows.proofs.StoreLemmas.{storing_row}
+use Rattle.seat_costs.proofs.AskedLemmas.{asked_step}
+use Rattle.seat_costs.proofs.RowLemmas.{then_storing}
+use Rattle.seat_costs.proofs.StoreLemmas.{storing_row}
 use Rattle.seat_calls.proofs.SmallLemmas.{can_lead, way_left}
 use Rattle.seat_calls.proofs.small.lead_to_cache.Goals as goal
 
 pub store_word-requires-clause-can : goal.store_word-requires-clause-can
-store_word-requires-clause-can g c = can_lead c.args.seat.now.view c.has_a_sound_state.ensures c.args.class.number c.args.block c.args.class.is c.requires.held c.draw.new.seat.view c.cache-first.result.0 c.in_ok-draw.ensures.drawn
+store_word-requires-clause-can g c = can_lead c.args.seat.now.view c.recall_soundness.ensures c.args.class.number c.args.block c.args.class.is c.requires.held c.draw.new.seat.view c.cache-first.result.0 c.in_ok-draw.ensures.drawn
 
 pub returns-clause-way : goal.returns-clause-way
 returns-clause-way g c = let e = c.store_word.ensures.event in
-    way_left c.args.seat.now.view c.has_a_sound_state.ensures c.args.class.number c.args.block c.args.class.is c.requires.held c.draw.new.seat.view c.store_word.new.self.view c.cache-first.result.0 e.0 c.in_ok-draw.ensures.drawn c.cache-first.ensures.first e.1
+    way_left c.args.seat.now.view c.recall_soundness.ensures c.args.class.number c.args.block c.args.class.is c.requires.held c.draw.new.seat.view c.store_word.new.self.view c.cache-first.result.0 e.0 c.in_ok-draw.ensures.drawn c.cache-first.ensures.first e.1
 
 pub returns-clause-row : goal.returns-clause-row
 returns-clause-row g c = let e = c.store_word.ensures.event in

@@ -1,5 +1,5 @@
 use Rattle.std.proofs.Common.{◌<◌, ap, length, slice_index, arith}
-use Rattle.seat_notes.proofs.PickedLemmas.{entry_of}
+use Rattle.seat_state.proofs.PickedLemmas.{entry_of}
 use Rattle.seat_owners.proofs.OwnerLemmas.{owned_next}
 use Rattle.seat_owners.proofs.owners.block_owners.Goals as goal
 

@@ -2,12 +2,12 @@ use Rattle.std.proofs.Common.{subst, ap}
 use Rattle.core_model.specs.View.{View}
 use Rattle.heap_rule.specs.Carried.{Carries}
 use Rattle.seat_words.proofs.HandedRows.{offer_row, offer_sent}
-use Rattle.seat_rows.proofs.AskedLemmas.{asked_alike}
+use Rattle.seat_costs.proofs.AskedLemmas.{asked_alike}
 use Rattle.seat_words.proofs.HandedLemmas.{holds_still, may_hand}
 use Rattle.seat_words.proofs.handing.offer.Goals as goal
 
 pub offer-requires-clause-may : goal.offer-requires-clause-may
-offer-requires-clause-may g c = may_hand c.args.seat.now.view c.draw.new.seat.view c.in_ok-draw.ensures.drawn c.has_a_sound_state.ensures
+offer-requires-clause-may g c = may_hand c.args.seat.now.view c.draw.new.seat.view c.in_ok-draw.ensures.drawn c.recall_soundness.ensures
 
 pub offer-requires-clause-held : goal.offer-requires-clause-held
 offer-requires-clause-held g c = holds_still c.args.seat.now.view c.draw.new.seat.view c.args.block c.in_ok-draw.ensures.drawn c.requires.held
@@ -16,7 +16,7 @@ pub returns-clause-offered : goal.returns-clause-offered
 returns-clause-offered g c = record {
   behind = c.draw.new.seat.view;
   drawn = c.in_ok-draw.ensures.drawn;
-  has = c.has_a_sound_state.ensures;
+  has = c.recall_soundness.ensures;
   left = c.offer.ensures.view;
   at_table = c.offer.ensures.carrier_table;
   carried = c.offer.ensures.carrier;

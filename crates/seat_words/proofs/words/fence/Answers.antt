@@ -1,8 +1,8 @@
 use Rattle.std.proofs.Common.{ap}
 use Rattle.core_model.specs.View.{View}
-use Rattle.seat_rows.proofs.AskedLemmas.{asked_alike}
-use Rattle.seat_rows.proofs.RowLemmas.{row_then}
-use Rattle.seat_rows.proofs.StoreLemmas.{fence_row}
+use Rattle.seat_costs.proofs.AskedLemmas.{asked_alike}
+use Rattle.seat_costs.proofs.RowLemmas.{row_then}
+use Rattle.seat_costs.proofs.StoreLemmas.{fence_row}
 use Rattle.seat_words.proofs.OwnLemmas.{runs_drew, has_fenced}
 use Rattle.seat_words.proofs.words.fence.Goals as goal
 

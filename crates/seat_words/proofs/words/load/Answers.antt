@@ -1,8 +1,8 @@
 use Rattle.std.proofs.Common.{ap}
 use Rattle.core_model.specs.View.{View}
-use Rattle.seat_rows.proofs.AskedLemmas.{settled_then}
-use Rattle.seat_rows.proofs.RowLemmas.{row_of, row_then}
-use Rattle.seat_rows.proofs.StoreLemmas.{load_row}
+use Rattle.seat_costs.proofs.AskedLemmas.{settled_then}
+use Rattle.seat_costs.proofs.RowLemmas.{row_of, row_then}
+use Rattle.seat_costs.proofs.StoreLemmas.{load_row}
 use Rattle.seat_words.proofs.OwnLemmas.{runs_drew, loaded}
 use Rattle.seat_words.proofs.words.load.Goals as goal
 

@@ -1,6 +1,6 @@
 use Rattle.std.proofs.Common.{ap}
 use Rattle.core_model.specs.View.{View}
-use Rattle.seat_rows.proofs.AskedLemmas.{asked_alike, settled_then}
+use Rattle.seat_costs.proofs.AskedLemmas.{asked_alike, settled_then}
 use Rattle.seat_words.proofs.OwnLemmas.{line_row, marked_line, runs_drew}
 use Rattle.seat_words.proofs.words.write_back.Goals as goal
 

@@ -1,5 +1,5 @@
 use Rattle.std.proofs.Common.{Bool, subst}
-use Rattle.dict_seat.specs.Moving.{TellsKey}
+use Rattle.dict_requests.specs.Moving.{TellsKey}
 use Rattle.dict_model.specs.Requests.{without_key}
 use Rattle.shard_moves.proofs.AwayLemmas.{answers_full, answers_missing, few_moves}
 use Rattle.shard_moves.proofs.away.refuse.Goals as goal

@@ -2,7 +2,7 @@ use Rattle.std.proofs.Common.{Option, subst}
 use Rattle.heap_model.specs.declared.block.Block.{Block}
 use Rattle.dict_model.specs.Nodes.{shard_of}
 use Rattle.dict_model.specs.Requests.{without_key}
-use Rattle.dict_seat.specs.Moving.{TakesOut, ReachesAllLeft}
+use Rattle.dict_requests.specs.Moving.{TakesOut, ReachesAllLeft}
 use Rattle.shard_moves.proofs.AwayLemmas.{change_then, gone, all_gone, answers_done, answers_none, few_moves, few_sent}
 use Rattle.shard_moves.proofs.away.send_away.Goals as goal
 

@@ -1,5 +1,5 @@
 use Rattle.std.proofs.Common.{arith, refl, ◌+◌, ◌-◌, length}
-use Rattle.tool_ports.proofs.LeftLemmas.{gives_after, few_after, same_fault}
+use Rattle.tool_ports.proofs.SourceLeftLemmas.{gives_after, few_after, same_fault}
 use Rattle.tool_ports.proofs.reading.read_pieces.Goals as goal
 
 pub returns-in_err-read_piece-clause-too_long : goal.returns-in_err-read_piece-clause-too_long

@@ -12,7 +12,7 @@ use Rattle.tool_run.proofs.making.make.Goals as goal
 
 pub returns-in-Run-clause-image_first : goal.returns-in-Run-clause-image_first
 returns-in-Run-clause-image_first g c at has refuses =
-    c.work_named.ensures.image_first at
+    c.run_command.ensures.image_first at
     (subst (λ (name : List ℕ). HoldsOutside (g.I.ImageStore.contents c.args.images.now) name at) (ap (λ (i : Invocation). image_name (command_of i)) c.in-Run.is) has)
 
 pub returns-in-Replay-clause-image_first : goal.returns-in-Replay-clause-image_first
@@ -24,12 +24,12 @@ pub returns-in-Count-clause-err : goal.returns-in-Count-clause-err
 returns-in-Count-clause-err g c =
     let contents = g.I.ImageStore.contents c.args.images.now in
     let left = g.T.Source.left c.args.trace.now in
-    let got = RoseByOne (g.I.ImageStore.faults c.args.images.now) (g.I.ImageStore.faults c.count_named.new.images) in
+    let got = RoseByOne (g.I.ImageStore.faults c.args.images.now) (g.I.ImageStore.faults c.count_command.new.images) in
     let read = RoseByOne (g.T.Source.faults c.args.trace.now) (g.T.Source.faults c.args.trace.now) in
-    subst (λ (i : Invocation). IfErr c.count_named.result (RefusesEither (command_of i) contents left got read)) (sym c.in-Count.is)
-    (IfErr-weaker c.count_named.result _ _
+    subst (λ (i : Invocation). IfErr c.count_command.result (RefusesEither (command_of i) contents left got read)) (sym c.in-Count.is)
+    (IfErr-weaker c.count_command.result _ _
     (λ fault why. refused_by_image (count_image c.in-Count.image.now c.in-Count.with_map) contents left got read fault fault refl why)
-    c.count_named.ensures.err)
+    c.count_command.ensures.err)
 
 pub returns-in_err-empty_image-in-Format-clause-at_most : goal.returns-in_err-empty_image-in-Format-clause-at_most
 returns-in_err-empty_image-in-Format-clause-at_most g c = none_taken _ _

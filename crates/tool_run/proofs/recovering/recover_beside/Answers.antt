@@ -1,6 +1,6 @@
 use Rattle.std.proofs.Common.{Err, ◌∙◌}
 use Rattle.std.proofs.lemmas.Result.{err_from_is_err_and}
-use Rattle.image_run.proofs.LeftLemmas.{recovery_of_words}
+use Rattle.image_run.proofs.CommandLeftLemmas.{recovery_of_words}
 use Rattle.tool_run.proofs.RecoveryLemmas.{current_in, is_new, holds_now, recovered_now, inside_now, fault_now}
 use Rattle.tool_run.proofs.recovering.recover_beside.Goals as goal
 

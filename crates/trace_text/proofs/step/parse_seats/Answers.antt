@@ -1,6 +1,6 @@
 use Rattle.std.proofs.Common.{arith}
 use Rattle.trace_text.proofs.NumberLemmas.{one_number}
-use Rattle.trace_text.proofs.StepLemmas.{seats_number}
+use Rattle.trace_text.proofs.ParseStepLemmas.{seats_number}
 use Rattle.trace_text.proofs.step.parse_seats.Goals as goal
 use Rattle.trace_text.proofs.step.parse_seats.Goals.{then-seats-eq0-via-then-seats-eq0, then-seats-eq0-via-else-seats-eq0+then-seats-gt-MOST_SEATS}
 

@@ -1,6 +1,6 @@
 use Rattle.std.proofs.Common.{arith}
 use Rattle.trace_text.proofs.NumberLemmas.{one_number}
-use Rattle.trace_text.proofs.StepLemmas.{step_parts}
+use Rattle.trace_text.proofs.ParseStepLemmas.{step_parts}
 use Rattle.trace_text.proofs.step.parse_step.Goals as goal
 
 pub returns-in_err-seat-2 : goal.returns-in_err-seat-2

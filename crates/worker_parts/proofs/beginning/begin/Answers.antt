@@ -1,6 +1,6 @@
 use Rattle.std.proofs.Common.{◌∙◌, [], slice_index, sym, subst}
 use Rattle.core_model.specs.View.{Setup}
-use Rattle.dict_seat.specs.Reached.{ReachesAllHeld}
+use Rattle.dict_requests.specs.Reached.{ReachesAllHeld}
 use Rattle.run_model.specs.Needs.{is_target_of}
 use Rattle.run_model.specs.Workers.{worker_requests}
 use Rattle.run_model.specs.Working.{HaveRoom}

@@ -1,6 +1,6 @@
 use Rattle.std.proofs.Common.{Bool, subst, sym}
 use Rattle.dict_model.specs.Requests.{del}
-use Rattle.dict_seat.specs.Answers.{Deletes}
+use Rattle.dict_requests.specs.Answers.{Deletes}
 use Rattle.worker_run.specs.Said.{Told, reply_of}
 use Rattle.run_model.specs.Working.{Replied}
 use Rattle.worker_run.proofs.AnsweringLemmas.{none_spent, replied_gone, replied_none}

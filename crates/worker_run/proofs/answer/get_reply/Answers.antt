@@ -1,5 +1,5 @@
 use Rattle.std.proofs.Common.{length, subst, sym, ap, ◌∙◌, arith}
-use Rattle.dict_seat.specs.Gets.{Gets, words_of}
+use Rattle.dict_requests.specs.Gets.{Gets, words_of}
 use Rattle.dict_model.specs.Nodes.{shard_of}
 use Rattle.dict_model.specs.Requests.{get}
 use Rattle.worker_run.proofs.KeyLemmas.{takes_none}

@@ -2,7 +2,7 @@ use Rattle.std.proofs.Common.{◌+◌, length, refl, subst}
 use Rattle.heap_seat.specs.declared.fault.AllocFault.{AllocFault}
 use Rattle.heap_model.specs.Sizes.{span_of}
 use Rattle.dict_model.specs.Nodes.{shard_of, node_bytes, table_bytes}
-use Rattle.dict_seat.specs.Puts.{PutAnswers}
+use Rattle.dict_requests.specs.Puts.{PutAnswers}
 use Rattle.worker_run.proofs.AnsweringLemmas.{put_spends, was_refused, replied_put, replied_full}
 use Rattle.worker_run.proofs.answer.put_reply.Goals as goal
 

@@ -1,6 +1,6 @@
 use Rattle.std.proofs.Common.{◌≡◌, ℕ, ◌≤◌, ◌+◌, ◌-◌, ◌*◌, List, length, None, Some, Contains}
 use Rattle.std.specs.Vec.{vec_len, vec_capacity}
-use Rattle.dict_seat.specs.Reached.{ReachesAllHeld}
+use Rattle.dict_requests.specs.Reached.{ReachesAllHeld}
 use Rattle.dict_model.specs.Requests.{Request, Reply}
 use Rattle.run_model.specs.Needs.{ListsKeysOf, put_into}
 use Rattle.run_model.specs.Runs.{answered}

@@ -2,7 +2,7 @@ use Rattle.std.proofs.Common.{arith}
 use Rattle.std.proofs.Math.Nat.{mod-lt}
 use Rattle.block_heap.specs.Laws.{seat_law}
 use Rattle.block_heap.specs.SeqState.{seat_of}
-use Rattle.dict_seat.proofs.OthersLemmas.{shards_on}
+use Rattle.dict_requests.proofs.OthersLemmas.{shards_on}
 use Rattle.dictionary_tests.proofs.standing.Standing.del.Goals as goal
 
 pub del-answer-requires-clause-shard : goal.del-answer-requires-clause-shard

@@ -7,9 +7,9 @@ use Rattle.heap_seat.specs.View.{View}
 use Rattle.block_heap.specs.Laws.{seat_law}
 use Rattle.block_heap.specs.SeqState.{seat_of}
 use Rattle.dict_model.specs.Shards.{Map}
-use Rattle.dict_seat.specs.Maps.{GivesMap}
-use Rattle.dict_seat.specs.Puts.{PutAnswers}
-use Rattle.dict_seat.proofs.OthersLemmas.{shards_on}
+use Rattle.dict_requests.specs.Maps.{GivesMap}
+use Rattle.dict_requests.specs.Puts.{PutAnswers}
+use Rattle.dict_requests.proofs.OthersLemmas.{shards_on}
 use Rattle.dictionary_tests.proofs.standing.Standing.put.Goals as goal
 
 -- a put that finds no room leaves the map as before

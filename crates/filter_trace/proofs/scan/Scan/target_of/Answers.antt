@@ -1,6 +1,6 @@
 use Rattle.std.proofs.Common.{slice_index}
 use Rattle.heap_model.specs.Blocks.{layout_of}
-use Rattle.filter_trace.proofs.StepLemmas.{leads_by_name, outside_by_name, outside_by_alien}
+use Rattle.filter_trace.proofs.TraceStepLemmas.{leads_by_name, outside_by_name, outside_by_alien}
 use Rattle.filter_trace.proofs.scan.Scan.target_of.Goals as goal
 
 pub returns-in-Some : goal.returns-in-Some

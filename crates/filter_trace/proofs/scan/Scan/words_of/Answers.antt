@@ -1,5 +1,5 @@
 use Rattle.std.proofs.Common.{length, slice_index, arith}
-use Rattle.filter_trace.proofs.StepLemmas.{image_short, block_within, words_in-list}
+use Rattle.filter_trace.proofs.TraceStepLemmas.{image_short, block_within, words_in-list}
 use Rattle.filter_trace.proofs.scan.Scan.words_of.Goals as goal
 
 pub overflow_add-result : goal.overflow_add-result

@@ -2,7 +2,7 @@ use Rattle.std.proofs.Common.{◌≡◌, ◌-◌, ◌/◌, get_or, refl, ap, sym
 use Rattle.heap_model.specs.Geometry.{start_word}
 use Rattle.core_model.specs.Cells.{superblock_at}
 use Rattle.core_model.specs.Held.{IsHeld}
-use Rattle.seat_notes.proofs.WordLemmas.{entry_is}
+use Rattle.seat_state.proofs.WordLemmas.{entry_is}
 use Rattle.heap_rule.specs.declared.owned.Holding.TheVariants as holding
 use Rattle.heap_rule.specs.declared.owned.Ownership.TheVariants as ownership
 use Rattle.heap_table.specs.SeatViews.{view_in}

@@ -4,7 +4,7 @@ use Rattle.heap_table.specs.SeatViews.{view_in}
 use Rattle.heap_rule.specs.Seated.{SeatView}
 use Rattle.core_model.specs.declared.event.Event.TheVariants.{LookAnchor}
 use Rattle.core_model.specs.Guards.{MayLookAt}
-use Rattle.heap_table.proofs.StepLemmas.{look_below}
+use Rattle.heap_table.proofs.TableStepLemmas.{look_below}
 use Rattle.heap_rule.specs.Owned.{parts_of}
 use Rattle.heap_rule.proofs.OwnedSteps.{quiet}
 use Rattle.heap_rule.proofs.SeatLemmas.{looked_anchor, seat_after}

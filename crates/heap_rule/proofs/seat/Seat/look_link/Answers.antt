@@ -3,7 +3,7 @@ use Rattle.heap_model.specs.Geometry.{link_word}
 use Rattle.heap_model.specs.Words.{head_first}
 use Rattle.core_model.specs.declared.event.Event.TheVariants.{LookLink}
 use Rattle.core_model.specs.Effects.{seen_word}
-use Rattle.seat_notes.specs.Notes.{snapshot}
+use Rattle.seat_state.specs.Notes.{snapshot}
 use Rattle.heap_table.specs.SeatViews.{view_in}
 use Rattle.heap_rule.specs.Owned.{parts_of}
 use Rattle.heap_rule.proofs.HeadLemmas.{before_is}

@@ -2,7 +2,7 @@ use Rattle.std.proofs.Common.{◌≡◌, ◌≤◌, length, sym, subst, arith}
 use Rattle.core_model.specs.View.{of_class}
 use Rattle.core_model.specs.Effects.{first_of, rest_of}
 use Rattle.core_model.specs.Guards.{MayAlloc}
-use Rattle.seat_notes.proofs.EndLemmas.{rest_length}
+use Rattle.seat_state.proofs.EndLemmas.{rest_length}
 use Rattle.heap_table.specs.SeatViews.{view_in}
 use Rattle.heap_rule.specs.Seated.{SeatView}
 use Rattle.heap_rule.proofs.SeatLemmas.{whole_at}

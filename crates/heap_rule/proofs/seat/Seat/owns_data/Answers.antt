@@ -3,7 +3,7 @@ use Rattle.heap_model.specs.Geometry.{start_word, superblocks_end}
 use Rattle.heap_model.specs.Sizes.{words_of_class}
 use Rattle.core_model.specs.Cells.{data_cell}
 use Rattle.core_model.specs.Guards.{IsOwn}
-use Rattle.seat_notes.proofs.DecisionLemmas.{refused}
+use Rattle.seat_state.proofs.DecisionLemmas.{refused}
 use Rattle.heap_table.specs.SeatViews.{view_in}
 use Rattle.heap_rule.specs.Seated.{SeatView}
 use Rattle.heap_rule.proofs.OwnedReads.{data_whole, data_unclassed, data_own}

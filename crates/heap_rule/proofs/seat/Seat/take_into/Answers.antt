@@ -7,7 +7,7 @@ use Rattle.heap_model.specs.Sizes.{words_of_class}
 use Rattle.heap_model.specs.Words.{anchor_first}
 use Rattle.core_model.specs.declared.event.Event.TheVariants.{TakeAll}
 use Rattle.core_model.specs.Effects.{seen_word, claim_class}
-use Rattle.seat_notes.specs.Notes.{snapshot}
+use Rattle.seat_state.specs.Notes.{snapshot}
 use Rattle.heap_table.specs.SeatViews.{view_in}
 use Rattle.heap_table.specs.Plays.{IsEvent}
 use Rattle.heap_rule.specs.Seated.{SeatView, IsKeptOf, Tells}

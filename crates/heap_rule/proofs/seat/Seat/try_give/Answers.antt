@@ -7,8 +7,8 @@ use Rattle.heap_model.specs.Sizes.{IsClass, words_of_class, blocks_of}
 use Rattle.core_model.specs.declared.event.Event.TheVariants.{Give}
 use Rattle.core_model.specs.Effects.{seen_word, given_anchor}
 use Rattle.core_model.specs.Sound.{IsCutBlock}
-use Rattle.seat_notes.specs.Notes.{snapshot}
-use Rattle.seat_notes.proofs.NewSeat.{empty_batch}
+use Rattle.seat_state.specs.Notes.{snapshot}
+use Rattle.seat_state.proofs.NewSeat.{empty_batch}
 use Rattle.heap_table.specs.SeatViews.{view_in}
 use Rattle.heap_table.specs.Plays.{IsEvent}
 use Rattle.heap_rule.specs.Seated.{SeatView, IsKeptOf, Tells}

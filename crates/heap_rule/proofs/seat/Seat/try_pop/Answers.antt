@@ -6,8 +6,8 @@ use Rattle.heap_model.specs.Words.{head_pops}
 use Rattle.core_model.specs.declared.event.Event.TheVariants.{Pop}
 use Rattle.core_model.specs.Guards.{IsThere}
 use Rattle.core_model.specs.View.{one_if_some}
-use Rattle.seat_notes.specs.declared.notes.SeatNotes.{SeatNotes}
-use Rattle.seat_notes.specs.Notes.{snapshot}
+use Rattle.seat_state.specs.declared.notes.SeatNotes.{SeatNotes}
+use Rattle.seat_state.specs.Notes.{snapshot}
 use Rattle.heap_table.specs.SeatViews.{view_in}
 use Rattle.heap_table.specs.Plays.{IsEvent}
 use Rattle.heap_rule.specs.Seated.{SeatView, IsKeptOf, Tells}

@@ -5,8 +5,8 @@ use Rattle.std.proofs.Common.{refl, ap, subst, sym, ◌∙◌, arith, ℕ, None,
 use Rattle.heap_model.specs.Geometry.{largest_capacity_fits}
 use Rattle.core_model.specs.declared.event.Event.TheVariants.{Push}
 use Rattle.core_model.specs.Effects.{cleared, seen_word}
-use Rattle.seat_notes.specs.Notes.{snapshot}
-use Rattle.seat_notes.specs.declared.notes.SeatNotes.{SeatNotes}
+use Rattle.seat_state.specs.Notes.{snapshot}
+use Rattle.seat_state.specs.declared.notes.SeatNotes.{SeatNotes}
 use Rattle.heap_table.specs.SeatViews.{view_in}
 use Rattle.heap_table.specs.Plays.{IsEvent}
 use Rattle.heap_rule.specs.Seated.{SeatView, IsKeptOf, Tells}

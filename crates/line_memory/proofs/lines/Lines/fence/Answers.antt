@@ -1,7 +1,7 @@
 use Rattle.std.proofs.Common.{ℕ, refl, ap, ◌∙◌, List, get_or}
 use Rattle.std.proofs.lemmas.List.{with_items_is}
 use Rattle.line_memory.specs.Marked.{marked_words-none}
-use Rattle.line_memory.proofs.StepLemmas.{completed_pending, completed_other}
+use Rattle.line_memory.proofs.LineStepLemmas.{completed_pending, completed_other}
 use Rattle.line_memory.proofs.lines.Lines.fence.Goals as goal
 
 pub returns : goal.returns

@@ -1,5 +1,5 @@
 use Rattle.std.proofs.Common.{◌∙◌}
-use Rattle.line_memory.proofs.StepLemmas.{opened_is}
+use Rattle.line_memory.proofs.LineStepLemmas.{opened_is}
 use Rattle.line_memory.proofs.lines.Lines.new.Goals as goal
 
 pub returns : goal.returns

@@ -1,6 +1,6 @@
 use Rattle.std.proofs.Common.{◌<◌, length, refl, arith, length-set}
 use Rattle.line_memory.specs.Marked.{marked_words-same}
-use Rattle.line_memory.proofs.StepLemmas.{not_pending, other_mark, recent_pushed, lengths_stay}
+use Rattle.line_memory.proofs.LineStepLemmas.{not_pending, other_mark, recent_pushed, lengths_stay}
 use Rattle.line_memory.proofs.lines.Lines.store.Goals as goal
 
 pub invariant_of-self-clause-marks : goal.invariant_of-self-clause-marks

@@ -1,6 +1,6 @@
 use Rattle.std.proofs.Common.{ap, arith}
 use Rattle.seat_view.specs.CacheState.{CacheState}
-use Rattle.seat_flush.specs.All.{cached}
+use Rattle.cache_flush.specs.All.{cached}
 use Rattle.thread_cache.proofs.CallLemmas.{state_is}
 use Rattle.thread_cache.proofs.QuietLemmas.{one_cached}
 use Rattle.thread_cache.proofs.cache_seat.CacheSeat.has_cached.Goals as goal

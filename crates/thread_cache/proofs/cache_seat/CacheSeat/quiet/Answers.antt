@@ -1,8 +1,8 @@
 use Rattle.std.proofs.Common.{◌<◌, OnOk, ap, refl, arith, ◌∙◌, sym, subst}
 use Rattle.core_model.specs.View.{View}
-use Rattle.seat_flush.specs.All.{HasFlushedAll, all_costs, cached}
-use Rattle.seat_flush.proofs.FlushLemmas.{on_ok_then}
-use Rattle.seat_rows.specs.Rows.{Passes}
+use Rattle.cache_flush.specs.All.{HasFlushedAll, all_costs, cached}
+use Rattle.cache_flush.proofs.FlushLemmas.{on_ok_then}
+use Rattle.seat_costs.specs.Rows.{Passes}
 use Rattle.seat_view.specs.CacheState.{CacheState}
 use Rattle.thread_cache.proofs.CallLemmas.{asked_at, state_is}
 use Rattle.thread_cache.specs.Quiet.{as_large, had_stopped}
@@ -19,7 +19,7 @@ invariant_of-self-inside g c =
     let more = c.has_cached.ensures.yes c.if-not-has_cached.false in (
       e.seat,
       (
-        ∣ c.has_a_sound_state-2.ensures ∣₁,
+        ∣ c.recall_soundness-2.ensures ∣₁,
         (
           quiet_between v w c.flush_all-answer.result (c.self.inside.between ran).0 e.flushed e.stopped,
           (
@@ -32,26 +32,26 @@ invariant_of-self-inside g c =
     )
 
 pub returns-clause-unchanged : goal.returns-clause-unchanged
-returns-clause-unchanged g c = large_own c.args.self.now.state c.self.inside.seat c.flush_all-answer.new.seat _ (large_step _ c.args.self.now.state (state_is c.self.view_is) c.self.inside.seat c.flush_all-answer.new.seat refl refl c.has_a_sound_state-2.ensures c.in_ok-check_running.ensures.ok) c.flush_all-answer.ensures.row.view.passes c.flush_all-answer.ensures.row
+returns-clause-unchanged g c = large_own c.args.self.now.state c.self.inside.seat c.flush_all-answer.new.seat _ (large_step _ c.args.self.now.state (state_is c.self.view_is) c.self.inside.seat c.flush_all-answer.new.seat refl refl c.recall_soundness-2.ensures c.in_ok-check_running.ensures.ok) c.flush_all-answer.ensures.row.view.passes c.flush_all-answer.ensures.row
 
 pub returns-clause-pending : goal.returns-clause-pending
-returns-clause-pending g c = large_pending c.args.self.now.state c.self.inside.seat c.flush_all-answer.new.seat _ (large_step _ c.args.self.now.state (state_is c.self.view_is) c.self.inside.seat c.flush_all-answer.new.seat refl refl c.has_a_sound_state-2.ensures c.in_ok-check_running.ensures.ok) c.flush_all-answer.ensures.row.view.passes c.flush_all-answer.ensures.row
+returns-clause-pending g c = large_pending c.args.self.now.state c.self.inside.seat c.flush_all-answer.new.seat _ (large_step _ c.args.self.now.state (state_is c.self.view_is) c.self.inside.seat c.flush_all-answer.new.seat refl refl c.recall_soundness-2.ensures c.in_ok-check_running.ensures.ok) c.flush_all-answer.ensures.row.view.passes c.flush_all-answer.ensures.row
 
 pub returns-clause-kept : goal.returns-clause-kept
 returns-clause-kept g c = record {
   heap = kept_with (c.flush_all-answer.ensures.seat.table ∙ sym c.self.inside.of.table ∙ ap (λ (s : CacheState). s.table) (state_is c.self.view_is))
-      (large_keeps c.args.self.now.state c.self.inside.seat c.flush_all-answer.new.seat _ (large_step _ c.args.self.now.state (state_is c.self.view_is) c.self.inside.seat c.flush_all-answer.new.seat refl refl c.has_a_sound_state-2.ensures c.in_ok-check_running.ensures.ok) c.flush_all-answer.ensures.row.view.passes
-      (quiet_few c.self.inside.seat.view c.has_a_sound_state.ensures (c.self.inside.between (ap (λ (s : CacheState). s.view.stopped) (state_is c.self.view_is) ∙ c.in_ok-check_running.ensures.ok)).1)
+      (large_keeps c.args.self.now.state c.self.inside.seat c.flush_all-answer.new.seat _ (large_step _ c.args.self.now.state (state_is c.self.view_is) c.self.inside.seat c.flush_all-answer.new.seat refl refl c.recall_soundness-2.ensures c.in_ok-check_running.ensures.ok) c.flush_all-answer.ensures.row.view.passes
+      (quiet_few c.self.inside.seat.view c.recall_soundness.ensures (c.self.inside.between (ap (λ (s : CacheState). s.view.stopped) (state_is c.self.view_is) ∙ c.in_ok-check_running.ensures.ok)).1)
       (quiet_paid c.self.inside.seat.view c.flush_all-answer.new.seat.view c.flush_all-answer.result (ap (λ (s : CacheState). s.view.stopped) (state_is c.self.view_is) ∙ c.in_ok-check_running.ensures.ok)
       (let some = ap (λ (s : CacheState). cached s.view) (state_is c.self.view_is) in let more = c.has_cached.ensures.yes c.if-not-has_cached.false in omega (some, more, arith))
-      (quiet_few c.self.inside.seat.view c.has_a_sound_state.ensures (c.self.inside.between (ap (λ (s : CacheState). s.view.stopped) (state_is c.self.view_is) ∙ c.in_ok-check_running.ensures.ok)).1)
+      (quiet_few c.self.inside.seat.view c.recall_soundness.ensures (c.self.inside.between (ap (λ (s : CacheState). s.view.stopped) (state_is c.self.view_is) ∙ c.in_ok-check_running.ensures.ok)).1)
       c.flush_all-answer.ensures.row.view.passes c.flush_all-answer.ensures.row.view.large c.flush_all-answer.ensures.flushed c.flush_all-answer.ensures.stopped));
   asked = asked_at c.self.view_is c.flush_all-answer.ensures.asked;
 }
 
 pub returns-clause-counted : goal.returns-clause-counted
 returns-clause-counted g c = as_large (let some = ap (λ (s : CacheState). cached s.view) (state_is c.self.view_is) in let more = c.has_cached.ensures.yes c.if-not-has_cached.false in omega (some, more, arith))
-    (large_counted c.args.self.now.state c.self.inside.seat c.flush_all-answer.new.seat _ (large_step _ c.args.self.now.state (state_is c.self.view_is) c.self.inside.seat c.flush_all-answer.new.seat refl refl c.has_a_sound_state-2.ensures c.in_ok-check_running.ensures.ok) c.flush_all-answer.ensures.row.view.passes 0 (omega arith))
+    (large_counted c.args.self.now.state c.self.inside.seat c.flush_all-answer.new.seat _ (large_step _ c.args.self.now.state (state_is c.self.view_is) c.self.inside.seat c.flush_all-answer.new.seat refl refl c.recall_soundness-2.ensures c.in_ok-check_running.ensures.ok) c.flush_all-answer.ensures.row.view.passes 0 (omega arith))
     (record { count = ap (λ (s : CacheState). s.refusals) (state_is c.self.view_is); bytes = ap (λ (s : CacheState). s.refused_bytes) (state_is c.self.view_is); looks = ap (λ (s : CacheState). s.refused_looks) (state_is c.self.view_is) })
 
 pub returns-clause-costs : goal.returns-clause-costs

@@ -11,7 +11,7 @@ pub block-requires-clause-held : goal.block-requires-clause-held
 block-requires-clause-held g c =
     let b : Block = c.requires.0 in (
       b,
-      held_is c.self.inside.seat.view c.has_a_sound_state.ensures b
+      held_is c.self.inside.seat.view c.recall_soundness.ensures b
           (subst (λ (s : CacheState). Contains (held_blocks s.view) b) (sym (state_is c.self.view_is)) c.requires.1),
       sym c.requires.2,
     )

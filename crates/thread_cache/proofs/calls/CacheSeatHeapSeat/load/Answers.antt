@@ -2,8 +2,8 @@ use Rattle.std.proofs.Common.{IfOk, ap, refl, subst, sym, ◌∙◌}
 use Rattle.heap_seat.specs.View.{word_of}
 use Rattle.core_model.specs.View.{View}
 use Rattle.heap_rule.specs.Fences.{Owns}
-use Rattle.seat_rows.proofs.WordLemmas.{owns_held}
-use Rattle.seat_rows.specs.Words.{IsHeldWord}
+use Rattle.seat_costs.proofs.WordLemmas.{owns_held}
+use Rattle.seat_costs.specs.Words.{IsHeldWord}
 use Rattle.seat_view.specs.CacheState.{CacheState}
 use Rattle.seat_words.specs.Own.{HasValue}
 use Rattle.thread_cache.proofs.CallLemmas.{asked_at, between_then, counts_then, kept_with, small_counted, small_keeps, small_loads, small_own, small_step, small_stops, spot_held, spot_low, state_is}
@@ -22,7 +22,7 @@ invariant_of-self-inside g c =
     let ran = ap (λ (s : CacheState). s.view.stopped) (state_is c.self.view_is) ∙ c.in_ok-check_running.ensures.ok in (
       c.load-answer.ensures.seat,
       (
-        ∣ c.has_a_sound_state-2.ensures ∣₁,
+        ∣ c.recall_soundness-2.ensures ∣₁,
         (
           between_then c.self.inside.seat.view c.load-answer.new.seat.view c.load-answer.ensures.drew ran c.self.inside.between,
           (counts_then c.self.inside.small_calls c.self.inside.large_calls c.self.inside.refusals c.self.inside.seat.view c.load-answer.new.seat.view (c.load-answer.ensures.drew.drew ran) c.self.inside.counted, tt),
@@ -31,21 +31,21 @@ invariant_of-self-inside g c =
     )
 
 pub returns-clause-unchanged : goal.returns-clause-unchanged
-returns-clause-unchanged g c = small_own c.args.self.now.state c.self.inside.seat c.load-answer.new.seat _ (small_step _ c.args.self.now.state (state_is c.self.view_is) c.self.inside.seat c.load-answer.new.seat refl refl c.has_a_sound_state-2.ensures c.in_ok-check_running.ensures.ok) c.load-answer.ensures.row.view.passes c.load-answer.ensures.row
+returns-clause-unchanged g c = small_own c.args.self.now.state c.self.inside.seat c.load-answer.new.seat _ (small_step _ c.args.self.now.state (state_is c.self.view_is) c.self.inside.seat c.load-answer.new.seat refl refl c.recall_soundness-2.ensures c.in_ok-check_running.ensures.ok) c.load-answer.ensures.row.view.passes c.load-answer.ensures.row
 
 pub returns-clause-counted : goal.returns-clause-counted
-returns-clause-counted g c = small_counted c.args.self.now.state c.self.inside.seat c.load-answer.new.seat _ (small_step _ c.args.self.now.state (state_is c.self.view_is) c.self.inside.seat c.load-answer.new.seat refl refl c.has_a_sound_state-2.ensures c.in_ok-check_running.ensures.ok) c.load-answer.ensures.row.view.passes c.load-answer.ensures.looks
+returns-clause-counted g c = small_counted c.args.self.now.state c.self.inside.seat c.load-answer.new.seat _ (small_step _ c.args.self.now.state (state_is c.self.view_is) c.self.inside.seat c.load-answer.new.seat refl refl c.recall_soundness-2.ensures c.in_ok-check_running.ensures.ok) c.load-answer.ensures.row.view.passes c.load-answer.ensures.looks
 
 pub returns-clause-kept : goal.returns-clause-kept
 returns-clause-kept g c = record {
   heap = kept_with (c.load-answer.ensures.seat.table ∙ sym c.self.inside.of.table ∙ ap (λ (s : CacheState). s.table) (state_is c.self.view_is))
-      (small_keeps c.args.self.now.state c.self.inside.seat c.load-answer.new.seat _ (small_step _ c.args.self.now.state (state_is c.self.view_is) c.self.inside.seat c.load-answer.new.seat refl refl c.has_a_sound_state-2.ensures c.in_ok-check_running.ensures.ok) c.load-answer.ensures.row.view.passes c.load-answer.ensures.row.view.large);
+      (small_keeps c.args.self.now.state c.self.inside.seat c.load-answer.new.seat _ (small_step _ c.args.self.now.state (state_is c.self.view_is) c.self.inside.seat c.load-answer.new.seat refl refl c.recall_soundness-2.ensures c.in_ok-check_running.ensures.ok) c.load-answer.ensures.row.view.passes c.load-answer.ensures.row.view.large);
   asked = asked_at c.self.view_is c.load-answer.ensures.asked;
 }
 
 pub returns-clause-stopped : goal.returns-clause-stopped
-returns-clause-stopped g c = small_stops c.args.self.now.state c.self.inside.seat c.load-answer.new.seat _ (small_step _ c.args.self.now.state (state_is c.self.view_is) c.self.inside.seat c.load-answer.new.seat refl refl c.has_a_sound_state-2.ensures c.in_ok-check_running.ensures.ok) c.load-answer.ensures.row.view.passes c.load-answer.result c.load-answer.ensures.stopped
+returns-clause-stopped g c = small_stops c.args.self.now.state c.self.inside.seat c.load-answer.new.seat _ (small_step _ c.args.self.now.state (state_is c.self.view_is) c.self.inside.seat c.load-answer.new.seat refl refl c.recall_soundness-2.ensures c.in_ok-check_running.ensures.ok) c.load-answer.ensures.row.view.passes c.load-answer.result c.load-answer.ensures.stopped
 
 pub returns-clause-ok : goal.returns-clause-ok
-returns-clause-ok g c = small_loads c.args.self.now.state c.self.inside.seat c.load-answer.new.seat _ (small_step _ c.args.self.now.state (state_is c.self.view_is) c.self.inside.seat c.load-answer.new.seat refl refl c.has_a_sound_state-2.ensures c.in_ok-check_running.ensures.ok) (word_of c.args.s) c.load-answer.result c.load-answer.ensures.marks
+returns-clause-ok g c = small_loads c.args.self.now.state c.self.inside.seat c.load-answer.new.seat _ (small_step _ c.args.self.now.state (state_is c.self.view_is) c.self.inside.seat c.load-answer.new.seat refl refl c.recall_soundness-2.ensures c.in_ok-check_running.ensures.ok) (word_of c.args.s) c.load-answer.result c.load-answer.ensures.marks
     (subst (λ word. IfOk c.load-answer.result (λ value. HasValue word value c.self.inside.seat.view c.load-answer.new.seat.view)) c.word-word.ensures c.load-answer.ensures.loaded)

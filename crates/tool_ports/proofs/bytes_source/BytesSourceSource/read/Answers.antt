@@ -1,6 +1,6 @@
 use Rattle.std.proofs.Common.{arith}
 use Rattle.std.proofs.lemmas.Grind.{common_steps}
-use Rattle.tool_ports.proofs.LeftLemmas.{copied_front}
+use Rattle.tool_ports.proofs.SourceLeftLemmas.{copied_front}
 use Rattle.tool_ports.proofs.bytes_source.BytesSourceSource.read.Goals as goal
 
 pub returns-clause-ok : goal.returns-clause-ok

@@ -1,0 +1,266 @@
+-- A block that goes from a cache into the batch.
+use Rattle.std.proofs.Common.{◌≡◌, ◌≢◌, ◌<◌, ◌≤◌, ℕ, ◌+◌, ◌-◌, ◌/◌, true, set, length, List, [], ◌∷◌, ◌++◌, None, Some, refl, ap, sym, subst, ◌∙◌, length-append, arith}
+use Rattle.std.specs.Bool.{⊤}
+use Rattle.std.specs.Prelude.{Result, Ok, Err, OnOk, IfErr}
+use Rattle.std.proofs.lemmas.List.{get_or-set_same, set-set}
+use Rattle.std.proofs.lemmas.List.Elements.{All-cons, All-nil, All-push}
+use Rattle.heap_model.specs.Geometry.{start_word}
+use Rattle.heap_model.specs.Sizes.{IsClass}
+use Rattle.heap_model.proofs.SizeLemmas.{two_words}
+use Rattle.line_memory.specs.declared.memory.Stopped.{Stopped}
+use Rattle.core_model.specs.declared.event.Event.TheVariants.{Load, Tick}
+use Rattle.core_model.specs.declared.event.Shift.TheVariants.{Lift}
+use Rattle.core_model.specs.Cells.{Cell, cell_at, data_cell, superblock_at}
+use Rattle.core_model.specs.Effects.{after_lift, drew, first_of, last_of, learn, rest_of, used_up}
+use Rattle.core_model.specs.Guards.{IsOwn}
+use Rattle.core_model.specs.Memory.{memory_of, next}
+use Rattle.core_model.specs.View.{Batch, View, Setup, no_batch, of_class, times_block}
+use Rattle.core_model.proofs.OwnerLemmas.{in_lists_total}
+use Rattle.core_model.proofs.PlaceLemmas.{cell_at_index}
+use Rattle.core_model.proofs.BlockLemmas.{first_there}
+use Rattle.core_model.proofs.ShiftLemmas.{first_rest}
+use Rattle.seat_state.proofs.EndLemmas.{last_append, last_there, rest_first}
+use Rattle.seat_state.proofs.BlockRanges.{in_classes_word}
+use Rattle.heap_rule.specs.Fences.{Owns}
+use Rattle.heap_table.specs.Plays.{HasSoundState, IsEvent}
+use Rattle.heap_rule.specs.Seated.{TellsDraw}
+use Rattle.heap_rule.specs.Shown.{Can, CanLift, Shows}
+use Rattle.heap_rule.proofs.RawLemmas.{load_shown}
+use Rattle.heap_rule.proofs.ViewLemmas.{block_cell, block_range}
+use Rattle.seat_costs.specs.Draws.{Settles}
+use Rattle.seat_costs.specs.Costs.{no_costs, one_draw}
+use Rattle.seat_costs.specs.Rows.{HasDrawn, Parts, Stops, ViewRow, parts}
+use Rattle.seat_costs.specs.Words.{KeepsWord}
+use Rattle.seat_costs.proofs.DrawLemmas.{early_words, shifted_is, stops}
+use Rattle.seat_costs.proofs.StoreLemmas.{load_row}
+use Rattle.seat_costs.proofs.RowLemmas.{stops_later, view_row_then, view_row_within}
+use Rattle.seat_costs.proofs.WordLemmas.{learned_word, word_then}
+use Rattle.superblock_lists.proofs.PopLemmas.{drawn_as, still_owns}
+use Rattle.cache_flush.specs.Lifts.{HasLifted, HasLiftedPrefix, IsLifting, lift_costs, with_lifted}
+
+module _ (v : View) (has : HasSoundState v) (class : ℕ) (can : CanLift v class) where
+  abbrev b : ℕ
+  b = first_of (of_class v.caches class)
+
+  cached : 0 < times_block b v
+  cached = let t = in_lists_total b class v.caches (first_there (of_class v.caches class) can.cached) in omega arith
+
+  pub first_cell : cell_at v.setup.capacity b ≡ data_cell b
+  first_cell = cell_at_index v.setup.capacity (data_cell b) (block_cell v has b cached)
+
+  pub first_own : Owns v b
+  first_own = subst (IsOwn v) (sym first_cell)
+      (let plus : class ≡ 0 + class = omega arith in let two = two_words (0 + class) (subst IsClass plus can.is_class) in
+      let in_cache = in_classes_word b b 0 class v.caches (omega arith) (omega arith) (first_there (of_class v.caches class) can.cached) in omega arith)
+
+  pub first_next : (s : HasSoundState v) → 1 ≤ length (rest_of (of_class v.caches class)) → (memory_of v.setup.capacity s.words).volatile (cell_at v.setup.capacity b) ≡ first_of (rest_of (of_class v.caches class))
+  first_next s some = ap (λ (cell : Cell). (memory_of v.setup.capacity s.words).volatile cell) first_cell
+      ∙ sym (rest_first (next (memory_of v.setup.capacity s.words)) (of_class v.caches class) ((s.sound.good.blocks s.seat v s.below s.at).cache_linked class) some)
+
+  last_shown : 1 ≤ length v.batch.blocks → Owns v (last_of v.batch.blocks)
+  last_shown some = let there = last_there v.batch.blocks some in
+      let is = block_cell v has (last_of v.batch.blocks) (omega arith) in
+      subst (IsOwn v) (sym (cell_at_index v.setup.capacity (data_cell (last_of v.batch.blocks)) is))
+      ((has.sound.good.words has.seat v has.below has.at).volatile (data_cell (last_of v.batch.blocks)) b is (can.linked some)).0
+
+  -- it may still be lifted
+  pub lift_still : (w : View) → parts w ≡ parts v → ((k : ℕ) → Owns v k → KeepsWord v w k) → CanLift w class
+  lift_still w same words = record {
+    is_class = can.is_class;
+    cached = subst (λ (p : Parts). 1 ≤ length (of_class p.caches class)) (sym same) can.cached;
+    same = subst (λ (p : Parts). 1 ≤ length p.batch.blocks → p.batch.descriptor ≡ superblock_at p.setup.capacity (first_of (of_class p.caches class))) (sym same) can.same;
+    unchanged = subst (λ (p : Parts). 1 ≤ length p.batch.blocks → p.batch.linked ≡ true) (sym same) can.unchanged;
+    linked = subst (λ (p : Parts). 1 ≤ length p.batch.blocks → Shows w (data_cell (last_of p.batch.blocks)) (first_of (of_class p.caches class))) (sym same)
+        (λ some. (words (last_of v.batch.blocks) (last_shown some)).volatile b (can.linked some));
+  }
+
+-- the load of the first block's first word
+module _ (v u x : View) (has : HasSoundState v) (class found : ℕ) (can : CanLift v class) (drawn : HasDrawn v u) (row : ViewRow one_draw v u) (event : IsEvent (Load (first_of (of_class v.caches class))) u found x) where
+  abbrev at : ℕ
+  at = first_of (of_class v.caches class)
+
+  u_parts : parts u ≡ parts v
+  u_parts = ap parts drawn.left
+
+  can_u : CanLift u class
+  can_u = lift_still v has class can u u_parts drawn.words
+
+  x_is : x ≡ record (used_up (drawn_as v drawn.ticket u)) { volatile = learn u.volatile at found }
+  x_is = event.after ∙ ap (λ (y : View). record (used_up y) { volatile = learn u.volatile at found }) drawn.left
+
+  pub x_parts : parts x ≡ parts v
+  x_parts = ap parts x_is
+
+  pub x_going : x.stopped ≡ None
+  x_going = ap (λ (y : View). y.stopped) x_is ∙ drawn.went
+
+  x_words : (k : ℕ) → Owns v k → KeepsWord v x k
+  x_words k own = subst (λ y. KeepsWord v y k) (sym event.after) (word_then v u (record (used_up u) { volatile = learn u.volatile at found }) k (drawn.words k own)
+      (let p = learned_word u event.before at found event.may.ready event.found_is k in record { volatile = p.volatile; durable = p.durable }))
+
+  pub x_can : CanLift x class
+  x_can = lift_still v has class can x x_parts x_words
+
+  pub x_row : ViewRow one_draw v x
+  x_row = view_row_then v u x row (load_row at u x found event)
+
+  -- the word leads to the next block
+  pub x_link : 1 ≤ length (rest_of (of_class v.caches class)) → Shows x (data_cell at) (first_of (rest_of (of_class v.caches class)))
+  x_link some = subst (λ (cell : Cell). Shows x cell (first_of (rest_of (of_class v.caches class)))) here
+      (load_shown at found u x event ∙ ap Some is) where
+        same_cache : of_class u.caches class ≡ of_class v.caches class
+        same_cache = ap (λ (p : Parts). of_class p.caches class) u_parts
+
+        here : cell_at u.setup.capacity at ≡ data_cell at
+        here = ap (λ (k : Setup). cell_at k.capacity at) (ap (λ (p : Parts). p.setup) u_parts) ∙ first_cell v has class can
+
+        is : found ≡ first_of (rest_of (of_class v.caches class))
+        is = event.found_is
+            ∙ ap (λ n. (memory_of u.setup.capacity event.before.words).volatile (cell_at u.setup.capacity n)) (ap first_of (sym same_cache))
+            ∙ first_next u event.before class can_u event.before (subst (λ bs. 1 ≤ length (rest_of bs)) (sym same_cache) some)
+            ∙ ap (λ bs. first_of (rest_of bs)) same_cache
+
+  -- the draw with the change
+  module _ (early w : View) (ticket : ℕ) (settles : Settles x early) (shift : IsEvent (Tick (Some (Lift class))) early ticket w) where
+    w_is : w.stopped ≡ None → w ≡ after_lift (record (drew x ticket) { volatile = early.volatile; durable = early.durable }) class
+    w_is going = shifted_is x early settles (Some (Lift class)) w ticket shift going
+
+    pub lifted : w.stopped ≡ None → HasLifted class at v w
+    lifted going = record {
+      ran = drawn.went;
+      going = going;
+      room = drawn.room;
+      more = let a = ap (λ (y : View). y.draws) (w_is going) in let c = ap (λ (y : View). y.draws) x_is in omega arith;
+      parts_are = ap parts (w_is going)
+          ∙ ap (λ (p : Parts). with_lifted class (first_of (of_class p.caches class)) p) x_parts;
+      link = λ some. subst (λ y. Shows y (data_cell at) (first_of (rest_of (of_class v.caches class)))) (sym (w_is going))
+          ((early_words x early settles at (still_owns v x x_parts at (first_own v has class can))).volatile (first_of (rest_of (of_class v.caches class))) (x_link some));
+    }
+
+    pub lift_told : (result : Result ⊤ Stopped) → TellsDraw w result → OnOk result (HasLifted class at v w)
+    lift_told (Ok y) going = lifted going
+    lift_told (Err e) told = tt
+
+    pub lift_stopped : (result : Result ⊤ Stopped) → TellsDraw w result → IfErr result (λ e. Stops e.step v w)
+    lift_stopped (Ok y) going = tt
+    lift_stopped (Err e) told = stops_later v x w e.step drawn.went x_going x_row (stops x early settles (Some (Lift class)) w ticket shift e.step x_going told)
+
+-- what the calls ask
+pub can_load : (v u : View) (has : HasSoundState v) (class first : ℕ) → CanLift v class → HasDrawn v u → first ≡ first_of (of_class v.caches class) → Can u (Load first)
+can_load v u has class first can drawn is = subst (λ y. Can y (Load first)) (sym drawn.left) (record {
+  going = drawn.went;
+  ticket = refl;
+  shown = subst (λ n. IsOwn (drawn_as v drawn.ticket u) (cell_at v.setup.capacity n)) (sym is) (still_owns v (drawn_as v drawn.ticket u) refl (first_of (of_class v.caches class)) (first_own v has class can));
+})
+
+append_again : (bs : List ℕ) (b : ℕ) (cs : List ℕ) → (bs ++ b ∷ []) ++ cs ≡ bs ++ b ∷ cs
+append_again [] b cs = refl
+append_again (x ∷ bs) b cs = ap (λ l. x ∷ l) (append_again bs b cs)
+
+pub lifts_begin : (v : View) (class : ℕ) → IsClass class → 1 ≤ length (of_class v.caches class) → v.batch ≡ no_batch → CanLift v class
+lifts_begin v class is some none = let empty = ap (λ (x : Batch). length x.blocks) none in record {
+  is_class = is;
+  cached = some;
+  same = λ more. absurd (omega arith);
+  unchanged = λ more. absurd (omega arith);
+  linked = λ more. absurd (omega arith);
+}
+
+pub lifting_one : (v w : View) (class first : ℕ) → 1 ≤ length (of_class v.caches class) → v.batch ≡ no_batch → first ≡ first_of (of_class v.caches class) → HasLifted class first v w → ViewRow (record no_costs { draws = 2 }) v w
+    → IsLifting class (superblock_at v.setup.capacity first) first v w
+lifting_one v w class first some none is lifted row = record {
+  ran = lifted.ran;
+  going = lifted.going;
+  room = lifted.room;
+  more = lifted.more;
+  lifted = first ∷ [];
+  rest = rest_of (of_class v.caches class);
+  both = first_rest (of_class v.caches class) some ∙ ap (λ b. b ∷ rest_of (of_class v.caches class)) (sym is);
+  parts_are = lifted.parts_are
+      ∙ ap (λ (x : Batch). record (parts v) { caches = set v.caches class (rest_of (of_class v.caches class)); batch = record { descriptor = superblock_at v.setup.capacity first; class = class; blocks = x.blocks ++ first ∷ []; linked = true } }) none;
+  some = omega arith;
+  together = All-cons (λ b. superblock_at v.setup.capacity b ≡ superblock_at v.setup.capacity first) first [] refl (All-nil (λ b. superblock_at v.setup.capacity b ≡ superblock_at v.setup.capacity first));
+  last_is = refl;
+  link = lifted.link;
+  row = row;
+}
+
+module _ (v : View) (has : HasSoundState v) (class : ℕ) (is : IsClass class) where
+  pub class_in : class < length v.caches
+  class_in = let long = (has.sound.good.set_up has.seat v has.below has.at).caches in let last = is.last in omega arith
+
+  pub cache_set : (rest : List ℕ) → of_class (set v.caches class rest) class ≡ rest
+  cache_set rest = get_or-set_same v.caches class rest [] class_in
+
+  module _ (t : View) (d last : ℕ) (lifting : IsLifting class d last v t) where
+    pub lifting_cache : of_class t.caches class ≡ lifting.rest
+    lifting_cache = ap (λ (p : Parts). of_class p.caches class) lifting.parts_are ∙ cache_set lifting.rest
+
+    pub lifting_batch : t.batch ≡ record { descriptor = d; class = class; blocks = lifting.lifted; linked = true }
+    lifting_batch = ap (λ (p : Parts). p.batch) lifting.parts_are
+
+    pub lifting_setup : t.setup ≡ v.setup
+    lifting_setup = ap (λ (p : Parts). p.setup) lifting.parts_are
+
+    pub lifting_can : 1 ≤ length (of_class t.caches class) → superblock_at v.setup.capacity (first_of (of_class t.caches class)) ≡ d → CanLift t class
+    lifting_can some at = record {
+      is_class = is;
+      cached = some;
+      same = λ more. ap (λ (x : Batch). x.descriptor) lifting_batch ∙ sym at ∙ ap (λ (k : Setup). superblock_at k.capacity (first_of (of_class t.caches class))) (sym lifting_setup);
+      unchanged = λ more. ap (λ (x : Batch). x.linked) lifting_batch;
+      linked = λ more. subst (λ n. Shows t (data_cell n) (first_of (of_class t.caches class))) (sym (ap (λ (x : Batch). last_of x.blocks) lifting_batch ∙ lifting.last_is))
+          (subst (λ bs. Shows t (data_cell last) (first_of bs)) (sym lifting_cache) (lifting.link (subst (λ bs. 1 ≤ length bs) lifting_cache some)));
+    }
+
+    module _ (w : View) (next : ℕ) (some : 1 ≤ length (of_class t.caches class)) (next_is : next ≡ first_of (of_class t.caches class)) (at : superblock_at v.setup.capacity (first_of (of_class t.caches class)) ≡ d)
+        (lifted : HasLifted class next t w) (row : ViewRow (record no_costs { draws = 2 }) t w) where
+      rest_is : lifting.rest ≡ next ∷ rest_of lifting.rest
+      rest_is = first_rest lifting.rest (subst (λ bs. 1 ≤ length bs) lifting_cache some) ∙ ap (λ b. b ∷ rest_of lifting.rest) (ap first_of (sym lifting_cache) ∙ sym next_is)
+
+      many : length (lifting.lifted ++ next ∷ []) ≡ length lifting.lifted + 1
+      many = length-append lifting.lifted (next ∷ [])
+
+      d_is : superblock_at t.setup.capacity next ≡ d
+      d_is = ap (λ (k : Setup). superblock_at k.capacity next) lifting_setup ∙ ap (superblock_at v.setup.capacity) next_is ∙ at
+
+      pub lifting_on : IsLifting class d next v w
+      lifting_on = record {
+        ran = lifting.ran;
+        going = lifted.going;
+        room = lifting.room;
+        more = let a = lifting.more in let b = lifted.more in omega arith;
+        lifted = lifting.lifted ++ next ∷ [];
+        rest = rest_of lifting.rest;
+        both = lifting.both ∙ ap (λ bs. lifting.lifted ++ bs) rest_is ∙ sym (append_again lifting.lifted next (rest_of lifting.rest));
+        parts_are = lifted.parts_are ∙ ap (with_lifted class next) lifting.parts_are
+            ∙ ap (λ bs. record (parts v) { caches = set (set v.caches class lifting.rest) class (rest_of bs); batch = record { descriptor = superblock_at v.setup.capacity next; class = class; blocks = lifting.lifted ++ next ∷ []; linked = true } }) (cache_set lifting.rest)
+            ∙ ap (λ bs. record (parts v) { caches = bs; batch = record { descriptor = superblock_at v.setup.capacity next; class = class; blocks = lifting.lifted ++ next ∷ []; linked = true } }) (set-set v.caches class lifting.rest (rest_of lifting.rest))
+            ∙ ap (λ n. record (parts v) { caches = set v.caches class (rest_of lifting.rest); batch = record { descriptor = n; class = class; blocks = lifting.lifted ++ next ∷ []; linked = true } }) (ap (superblock_at v.setup.capacity) next_is ∙ at);
+        some = omega (arith, many);
+        together = All-push (λ b. superblock_at v.setup.capacity b ≡ d) lifting.lifted next lifting.together (ap (superblock_at v.setup.capacity) next_is ∙ at);
+        last_is = last_append lifting.lifted next;
+        link = subst (λ bs. 1 ≤ length (rest_of bs) → Shows w (data_cell next) (first_of (rest_of bs))) lifting_cache lifted.link;
+        row = let m = many in view_row_within (lift_costs (length (lifting.lifted ++ next ∷ []))) v w (record { draws = omega arith; wins = omega arith; gives = omega arith; cuts = omega arith; taken = omega arith; moves = omega arith }) (view_row_then v t w lifting.row row);
+      }
+
+    pub lifting_most : (w : View) → 1 ≤ length (of_class t.caches class) → ViewRow (record no_costs { draws = 2 }) t w → ViewRow (lift_costs (length (of_class v.caches class))) v w
+    lifting_most w some row = let all = ap length lifting.both in let sum = length-append lifting.lifted lifting.rest in let r = ap length lifting_cache in
+        view_row_within (lift_costs (length (of_class v.caches class))) v w (record { draws = omega arith; wins = omega arith; gives = omega arith; cuts = omega arith; taken = omega arith; moves = omega arith }) (view_row_then v t w lifting.row row)
+
+    pub lifting_row : ViewRow (lift_costs (length (of_class v.caches class))) v t
+    lifting_row = let all = ap length lifting.both in let sum = length-append lifting.lifted lifting.rest in
+        view_row_within (lift_costs (length (of_class v.caches class))) v t (record { draws = omega arith; wins = omega arith; gives = omega arith; cuts = omega arith; taken = omega arith; moves = omega arith }) lifting.row
+
+    pub lifted_all : length (of_class t.caches class) ≡ 0 → HasLiftedPrefix class d last v t
+    lifted_all none = record { lifting = lifting; longest = λ more. absurd (let r = ap length lifting_cache in omega arith) }
+
+    pub lifted_some : superblock_at v.setup.capacity (first_of (of_class t.caches class)) ≢ d → HasLiftedPrefix class d last v t
+    lifted_some other = record { lifting = lifting; longest = λ more same. other (ap (λ bs. superblock_at v.setup.capacity (first_of bs)) lifting_cache ∙ same) }
+
+-- a cached block lies among the words of superblocks
+pub above : (v : View) → HasSoundState v → (class : ℕ) → 1 ≤ length (of_class v.caches class) → start_word v.setup.capacity 0 ≤ first_of (of_class v.caches class)
+above v has class some = (block_range v has (first_of (of_class v.caches class))
+    (let t = in_lists_total (first_of (of_class v.caches class)) class v.caches (first_there (of_class v.caches class) some) in omega arith)).0
+
+pub at_superblock : (c word start : ℕ) → start ≡ start_word c 0 → (word - start) / 8192 ≡ superblock_at c word
+at_superblock c word start is = ap (λ s. (word - s) / 8192) is

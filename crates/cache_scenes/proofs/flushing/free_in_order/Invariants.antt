@@ -1,6 +1,0 @@
-use Rattle.seat_view.specs.CacheState.{heap_view}
-use Rattle.cache_scenes.specs.Holding.{Holds}
-use Rattle.cache_scenes.proofs.flushing.free_in_order.Given as goal
-
-abbrev pub invariant-loop-nth : goal.invariant-loop-nth
-invariant-loop-nth l = Holds (heap_view l.who.seat.state).held l.who.given.items

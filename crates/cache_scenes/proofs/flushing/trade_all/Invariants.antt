@@ -1,6 +1,0 @@
-use Rattle.seat_view.specs.CacheState.{heap_view}
-use Rattle.cache_scenes.specs.Holding.{Holds}
-use Rattle.cache_scenes.proofs.flushing.trade_all.Given as goal
-
-abbrev pub invariant-loop-order : goal.invariant-loop-order
-invariant-loop-order l = Holds (heap_view l.a.seat.state).held l.a.given.items × Holds (heap_view l.b.seat.state).held l.b.given.items

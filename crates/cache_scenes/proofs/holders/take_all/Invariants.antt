@@ -1,5 +1,0 @@
-use Rattle.cache_scenes.specs.Holding.{Holds}
-use Rattle.cache_scenes.proofs.holders.take_all.Given as goal
-
-abbrev pub invariant-loop-nth : goal.invariant-loop-nth
-invariant-loop-nth g l = Holds (g.H.HeapSeat.view l.seat).held l.given.items × g.H.HeapSeat.keeps l.fn.seat l.seat

@@ -1,6 +1,0 @@
-use Rattle.seat_view.specs.CacheState.{heap_view}
-use Rattle.cache_scenes.specs.Holding.{Holds}
-use Rattle.cache_scenes.proofs.walking.walk.Given as goal
-
-abbrev pub invariant-loop-step : goal.invariant-loop-step
-invariant-loop-step l = Holds (heap_view l.a.seat.state).held l.a.given.items × Holds (heap_view l.b.seat.state).held l.b.given.items

@@ -1,5 +1,0 @@
-use Rattle.crossbeam_queue.specs.Passes.{IsPassOf}
-use Rattle.handing_scenes.proofs.ends.take_one.Given as goal
-
-abbrev pub invariant-loop : goal.invariant-loop
-invariant-loop g l = IsPassOf l.line l.pass

@@ -1,5 +1,0 @@
-use Rattle.std.proofs.Common.{slice_index}
-use Rattle.heap_recover.proofs.taken.InOrderTakenPass.rebuild_taken.Given as goal
-
-abbrev pub ghost-rebuild_taken : goal.ghost-rebuild_taken
-ghost-rebuild_taken a = slice_index a.words.now

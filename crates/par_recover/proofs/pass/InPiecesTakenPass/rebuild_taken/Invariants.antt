@@ -1,5 +1,0 @@
-use Rattle.std.proofs.Common.{slice_index}
-use Rattle.par_recover.proofs.pass.InPiecesTakenPass.rebuild_taken.Given as goal
-
-abbrev pub ghost-rebuild_marked : goal.ghost-rebuild_marked
-ghost-rebuild_marked g a = slice_index a.words.now

@@ -1,6 +1,0 @@
-use Rattle.std.proofs.Common.{◌-◌}
-use Rattle.seat_notes.specs.Superblocks.{IsRange}
-use Rattle.seat_notes.proofs.opened_superblocks.give_range.Given as goal
-
-abbrev pub invariant-loop-d : goal.invariant-loop-d
-invariant-loop-d l = IsRange l.initial.owners.items l.owners.items l.from (l.d - l.from) l.owner

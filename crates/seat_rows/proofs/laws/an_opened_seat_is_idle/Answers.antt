@@ -1,5 +1,0 @@
-use Rattle.seat_rows.proofs.IdleLemmas.{opened_seats}
-use Rattle.seat_rows.proofs.laws.an_opened_seat_is_idle.Goals as goal
-
-pub returns : goal.returns
-returns c = opened_seats

@@ -1,0 +1,5 @@
+use Rattle.thread_cache_tests.specs.Holding.{Holds}
+use Rattle.thread_cache_tests.proofs.holders.take_all.Given as goal
+
+abbrev pub invariant-loop-nth : goal.invariant-loop-nth
+invariant-loop-nth g l = Holds (g.H.HeapSeat.view l.seat).held l.given.items × g.H.HeapSeat.keeps l.fn.seat l.seat

@@ -1,0 +1,6 @@
+use Rattle.seat_view.specs.CacheState.{heap_view}
+use Rattle.thread_cache_tests.specs.Holding.{Holds}
+use Rattle.thread_cache_tests.proofs.pairs.play.Given as goal
+
+abbrev pub invariant-loop-line : goal.invariant-loop-line
+invariant-loop-line l = Holds (heap_view l.a.seat.state).held l.a.given.items × Holds (heap_view l.b.seat.state).held l.b.given.items
