@@ -29,7 +29,7 @@ CRATES = {
     "timed_parallel.txt": "file_ports tool_ports dictionary par_recover heap_recover filter_trace region_header super_block",
     "timed_recovery.txt": "file_ports tool_ports dictionary heap_recover filter_trace region_header super_block",
     "timed_requests.txt": "dictionary_tests block_heap region_header heap_model",
-    "timed_workloads": "thread_cache seat_view seat_costs heap_rule heap_table seat_state core_model dictionary heap_recover"
+    "timed_workloads": "thread_cache seat_model seat_costs heap_rule heap_table seat_state core_model dictionary heap_recover"
     " heap_seat line_memory region_header super_block heap_model crossbeam_queue atomic_table",
 }
 

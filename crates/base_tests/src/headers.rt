@@ -2,7 +2,6 @@
 ghost use Rattle.std.specs.Prelude.{◌≤◌};
 
 use crate::asserts::{count_of, must_hold};
-use test_images::{image_of, old_image_of};
 use region_header::{
     BadHeader, Header, bytes_to_words, check_bytes, format, read_header, words_to_bytes,
 };
@@ -10,6 +9,7 @@ use std::alloc::{AllocError, Global};
 use std::process::Abort;
 use std::test::Fail;
 use super_block::OLD_VERSION;
+use test_images::{image_of, old_image_of};
 
 /// An empty image of so many superblocks.
 #[tactic(auto, unfolding(heap_model::specs::Geometry::largest_capacity))]

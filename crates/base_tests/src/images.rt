@@ -3,11 +3,11 @@ ghost use Rattle.std.specs.Prelude.{◌≤◌, ◌*◌, length, slice_index, IfO
 ghost use Rattle.heap_model.specs.Header.{IsWellFormed};
 
 use heap_model::Block;
-use test_images::{image_of, number};
 use region_header::read_header;
 use std::alloc::Global;
 use std::test::Fail;
 use super_block::VERSION;
+use test_images::{image_of, number};
 
 /// An empty image of up to four superblocks with these changes (`test_images`), whose header is good.
 #[tactic(auto, unfolding(heap_model::specs::Geometry::largest_capacity))]

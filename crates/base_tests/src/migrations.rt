@@ -3,12 +3,12 @@ ghost use Rattle.std.specs.Prelude.{◌≡◌, length, IfOk};
 ghost use Rattle.heap_model.specs.Geometry.{roots};
 
 use crate::asserts::must_hold;
-use test_images::{image_of, old_image_of};
 use region_header::{migrate, migrate_owned, read_header};
 use std::alloc::{AllocError, Global};
 use std::process::Abort;
 use std::test::Fail;
 use super_block::OLD_VERSION;
+use test_images::{image_of, old_image_of};
 
 /// An image of the old version, of two superblocks, with words all over it.
 #[tactic(auto, unfolding(heap_model::specs::Geometry::largest_capacity))]

@@ -5,11 +5,11 @@ ghost use Rattle.line_memory.specs.View.{word_count};
 
 use crate::asserts::{count_of, must_hold, three_columns};
 use crate::images::two_numbers;
-use test_images::number;
 use line_memory::{Chance, ConstantChance, LineMemory, PlainMemory, Stopped, persist};
 use std::alloc::{AllocError, Global};
 use std::process::Abort;
 use std::test::Fail;
+use test_images::number;
 
 /// The memory of each test: three lines, the last with four words.
 const WORDS: usize = 20;

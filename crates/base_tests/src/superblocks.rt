@@ -4,7 +4,6 @@ ghost use Rattle.heap_model.specs.Geometry.{largest_capacity};
 
 use crate::asserts::{must_hold, three_columns};
 use crate::images::{block_of, good_image};
-use test_images::number;
 use region_header::format;
 use size_table::{SizeClass, blocks_of};
 use std::alloc::Global;
@@ -13,6 +12,7 @@ use std::test::Fail;
 use super_block::{
     Block, Directory, Geometry, Ready, WORD_BYTES, an_empty_heap_is_ready, block_at, name,
 };
+use test_images::number;
 
 /// Asserts that an image of so many superblocks has so many words, and where its superblocks begin.
 fn must_measure(rt: &impl Abort, capacity: u64, words: u64, start_byte: u64)

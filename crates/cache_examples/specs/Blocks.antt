@@ -3,7 +3,7 @@ use Rattle.std.proofs.Common.{◌≤◌, ◌+◌, ◌≡◌, ◌<◌, ℕ, suc, 
 use Rattle.heap_model.specs.Sizes.{blocks_of, class_sizes, words_of_class}
 use Rattle.core_model.specs.Effects.{first_of}
 use Rattle.core_model.specs.View.{Parts, View, of_class}
-use Rattle.seat_calls.specs.Small.{HasAllocated, HasFreed, block_of}
+use Rattle.thread_cache.specs.Small.{HasAllocated, HasFreed, block_of}
 use Rattle.cache_examples.specs.Runs.{all_given, first_given, full_cache, gives_both, no_run, without_tickets}
 use Rattle.cache_examples.specs.Seats.{before, with_cached, with_held}
 

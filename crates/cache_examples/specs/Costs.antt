@@ -4,7 +4,7 @@ use Rattle.heap_rule.specs.Seated.{SeatView}
 use Rattle.core_model.specs.View.{Role, Setup, View}
 use Rattle.seat_costs.specs.Asked.{AsksFor}
 use Rattle.seat_costs.specs.Examples.{counts}
-use Rattle.seat_view.specs.CacheState.{CacheState, CacheValue, no_looks}
+use Rattle.seat_model.specs.CacheState.{CacheState, CacheValue, no_looks}
 use Rattle.thread_cache.specs.Keeps.{IsNew, KeepsCosts, KeepsHeap, KeepsSeat, light_draws, most_draws, most_gives, most_wins, traces}
 use Rattle.cache_examples.specs.Seats.{before, later}
 

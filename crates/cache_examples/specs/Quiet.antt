@@ -4,9 +4,9 @@ use Rattle.std.proofs.lemmas.List.{get_or-replicate}
 use Rattle.heap_model.specs.Sizes.{IsClass}
 use Rattle.core_model.specs.View.{Batch, View, of_class}
 use Rattle.heap_seat.specs.Calls.{counted as counted_calls}
-use Rattle.closed_heap.specs.Emptied.{KeepsNothing}
+use Rattle.seat_model.specs.Emptied.{KeepsNothing}
 use Rattle.cache_flush.specs.All.{cached}
-use Rattle.seat_view.specs.CacheState.{CacheState}
+use Rattle.seat_model.specs.CacheState.{CacheState}
 use Rattle.thread_cache.specs.Quiet.{HasEmptyCaches, IsQuietCall, as_large, does_nothing, had_stopped}
 use Rattle.cache_examples.specs.Seats.{before, later, with_cached, with_held}
 

@@ -10,8 +10,8 @@ use Rattle.heap_model.proofs.SizeLemmas.{at_class}
 use Rattle.core_model.specs.View.{LastLook, Parts, View, of_class}
 use Rattle.seat_costs.specs.Costs.{one_draw}
 use Rattle.seat_costs.specs.Rows.{IsKeptOrMade, IsMade, Passes, head_look}
-use Rattle.seat_calls.specs.Requests.{by_class, by_span, light_free_costs, light_request, most_free_costs, of_a_class, request_costs}
-use Rattle.seat_calls.specs.Small.{block_of}
+use Rattle.thread_cache.specs.Requests.{by_class, by_span, light_free_costs, light_request, most_free_costs, of_a_class, request_costs}
+use Rattle.thread_cache.specs.Small.{block_of}
 use Rattle.cache_fill.specs.Refills.{IsFull}
 use Rattle.thread_cache.specs.Serving.{HasSeenRoom, IsLight, IsPutBack, IsServed, IsTurnedAway}
 use Rattle.cache_examples.specs.Blocks.{all_flushed, holds_fourth}

@@ -2,7 +2,7 @@
 //! one thing and is refused.
 
 ghost use Rattle.std.specs.Prelude.{[], ◌∷◌};
-ghost use Rattle.seat_calls.specs.Small.{HasAllocated, HasFreed, block_of};
+ghost use Rattle.thread_cache.specs.Small.{HasAllocated, HasFreed, block_of};
 ghost use Rattle.cache_fill.specs.Refills.{HasSeenNone, IsFull, IsLook};
 ghost use Rattle.thread_cache.specs.Serving.{IsLight};
 ghost use Rattle.cache_examples.specs.Blocks.{holds_fourth};

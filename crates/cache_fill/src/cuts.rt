@@ -16,8 +16,8 @@ use core_model::Shift;
 use heap_rule::{Seat, Shared};
 use large_block::set_info;
 use line_memory::{Chance, Stopped};
-use seat_state::anchor_after_take_all;
 use seat_costs::{draw, draw_with};
+use seat_state::anchor_after_take_all;
 use size_table::{SizeClass, blocks_of};
 use super_block::{Geometry, block_words};
 

@@ -16,8 +16,8 @@ use heap_rule::{Seat, Shared};
 use heap_seat::Looks;
 use large_block::{Take, take_fresh};
 use line_memory::{Chance, Stopped};
-use superblock_lists::Pop;
 use size_table::SizeClass;
+use superblock_lists::Pop;
 
 /// What the filling of an empty cache gives.
 #[derive(Clone, Copy, Debug, PartialEq, Eq)]

@@ -19,9 +19,9 @@ ghost use Rattle.cache_fill.specs.Takes.{TakesFree, TakesSeen, TriesFree};
 use anchor_word::is_partial;
 use heap_rule::{Seat, Shared};
 use line_memory::{Chance, Stopped};
-use superblock_lists::look_anchor;
 use seat_costs::draw;
 use size_table::SizeClass;
+use superblock_lists::look_anchor;
 
 /// Takes all free blocks of a claimed superblock, if its anchor is as it was seen.
 fn take_seen<C: Chance>(

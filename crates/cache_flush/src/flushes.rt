@@ -16,8 +16,8 @@ use crate::lifts::lift_prefix;
 use anchor_word::is_partial;
 use heap_rule::{Seat, Shared};
 use line_memory::{Chance, Stopped};
-use superblock_lists::{look_anchor, push_to};
 use size_table::SizeClass;
+use superblock_lists::{look_anchor, push_to};
 
 /// The list that a superblock with free blocks belongs to, by its anchor: that of its class, or
 /// that of the free ones.

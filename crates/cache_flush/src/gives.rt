@@ -17,11 +17,11 @@ ghost use Rattle.cache_flush.specs.Gives.{Gives, GivesSeen, HasGiven, HasLinkedL
 
 use heap_rule::{Seat, Shared};
 use line_memory::{Chance, Stopped};
-use superblock_lists::look_anchor;
-use seat_state::{anchor_after_take_all, first_free};
 use seat_costs::draw;
+use seat_state::{anchor_after_take_all, first_free};
 use size_table::SizeClass;
 use super_block::Geometry;
+use superblock_lists::look_anchor;
 
 /// The last block of the batch leads to another block.
 fn link_last<C: Chance>(

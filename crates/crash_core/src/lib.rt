@@ -3,8 +3,8 @@
 #![tactic(auto)]
 
 mod accepting;
-mod anchors;
 mod anchor_exchanges;
+mod anchors;
 mod crash;
 mod cuts;
 mod fresh;

@@ -4,10 +4,10 @@
 use crate::checks::must_hold;
 use crate::recoveries::{fault_in, first_fault_in, recovered};
 use dictionary::MapFault;
-use test_images::{change, image_of, number};
 use std::alloc::Global;
 use std::process::Abort;
 use std::test::Fail;
+use test_images::{change, image_of, number};
 
 /// Four superblocks of blocks of 1,024, 32, 16 and 1,536 bytes. Root 0 leads to the table at 1,096;
 /// the first bucket of another one at 1,224, to which no root leads yet, leads to the node at 9,296

@@ -5,12 +5,12 @@ ghost use Rattle.heap_model.specs.Geometry.{largest_capacity};
 use crate::checks::{must_hold, reads_so};
 use crate::recoveries::recovered;
 use heap_recover::Recovered;
-use test_images::{image_of, number};
 use region_header::Bytes;
 use std::alloc::Global;
 use std::process::Abort;
 use std::test::Fail;
 use super_block::LARGEST_CAPACITY;
+use test_images::{image_of, number};
 use trace_text::{heap_line, map_text, report_text};
 
 #[tactic(auto, unfolding(heap_model::specs::Geometry::largest_capacity))]

@@ -7,11 +7,11 @@ use crate::checks::must_hold;
 use crate::recoveries::{fault_in, first_fault_in, recovered};
 use dictionary::{DictFilter, MapFault, OTHER, read_map, read_maps};
 use heap_recover::{Recovered, recover};
-use test_images::{change, image_of};
 use region_header::Bytes;
 use std::alloc::Global;
 use std::collections::BTreeMap;
 use std::test::Fail;
+use test_images::{change, image_of};
 
 /// A table in superblock 0, to which root 0 points; superblock 1 has nodes of four words, of which
 /// the first two begin at 9,272 and 9,276.

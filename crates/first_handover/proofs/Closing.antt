@@ -11,7 +11,7 @@ use Rattle.heap_rule.specs.Seated.{IsSeatOf, SeatView}
 use Rattle.heap_rule.specs.Seats.{views_of}
 use Rattle.heap_seat.proofs.CallerLemmas.{durable_in}
 use Rattle.heap_seat.specs.Words.{MixesOwn, NamesAll, in_block}
-use Rattle.seat_view.specs.CacheState.{CacheState, heap_view}
+use Rattle.seat_model.specs.CacheState.{CacheState, heap_view}
 use Rattle.first_handover.specs.declared.hands.Received.{Received}
 use Rattle.first_handover.specs.Handover.{HasBlock, HasReceived}
 use Rattle.first_handover.proofs.Pairs.{pair_of}

@@ -12,7 +12,7 @@ use Rattle.heap_seat.specs.View.{View}
 use Rattle.heap_seat.specs.Words.{KeepsOwn, in_block}
 use Rattle.heap_seat.proofs.CallerLemmas.{held_in, not_new, stays_durable}
 use Rattle.heap_rule.specs.Carried.{CarrierView}
-use Rattle.seat_view.specs.CacheState.{CacheState, heap_view}
+use Rattle.seat_model.specs.CacheState.{CacheState, heap_view}
 use Rattle.thread_cache.specs.Handing.{IsSent, contents_of}
 use Rattle.first_handover.specs.Handover.{Brings, HasReceived, HasValue}
 

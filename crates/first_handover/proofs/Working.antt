@@ -7,8 +7,8 @@ use Rattle.core_model.specs.View.{Role, View, role}
 use Rattle.heap_table.specs.AtTable.{SharedView}
 use Rattle.heap_table.specs.Plays.{HasSoundState}
 use Rattle.heap_rule.specs.Seated.{IsSeatOf, SeatView}
-use Rattle.seat_view.specs.CacheState.{CacheState, IsBetweenCalls, held_blocks}
-use Rattle.seat_view.proofs.HeldLemmas.{held_is}
+use Rattle.seat_model.specs.CacheState.{CacheState, IsBetweenCalls, held_blocks}
+use Rattle.seat_model.proofs.HeldLemmas.{held_is}
 use Rattle.thread_cache.specs.Keeps.{IsNew}
 use Rattle.first_handover.specs.declared.hands.Received.{Received}
 use Rattle.first_handover.specs.declared.threads.Ended.{Ended}

@@ -12,7 +12,7 @@ use Rattle.heap_table.specs.AtTable.{SharedView}
 use Rattle.heap_rule.specs.Carried.{CarrierView}
 use Rattle.heap_rule.specs.Seated.{IsSeatOf, SeatView}
 use Rattle.seat_costs.specs.Idle.{HasShortCaches, IsIdle}
-use Rattle.seat_view.specs.CacheState.{CacheState, IsBetweenCalls, heap_view, held_blocks}
+use Rattle.seat_model.specs.CacheState.{CacheState, IsBetweenCalls, heap_view, held_blocks}
 use Rattle.thread_cache.specs.Handing.{contents_of}
 use Rattle.first_handover.specs.declared.hands.Received.{Received}
 use Rattle.first_handover.specs.declared.hands.Taken.{Taken}

@@ -19,9 +19,9 @@ use heap_rule::{
 };
 use heap_seat::AllocFault;
 use line_memory::Closed;
-use seat_state::Owners;
 use seat_costs::an_opened_seat_is_idle;
-use seat_view::a_seat_of_the_core_is_a_seat_of_a_heap;
+use seat_model::a_seat_of_the_core_is_a_seat_of_a_heap;
+use seat_state::Owners;
 use std::alloc::{AllocError, Global};
 use std::thread::Threads;
 use super_block::{Block, ROOTS, Ready};

@@ -2,14 +2,14 @@
 
 ghost use Rattle.std.specs.Prelude.{◌≡◌, ◌+◌, ℕ, Some, Contains, IfOk, IfSome, OnErr, OnOk};
 ghost use Rattle.core_model.specs.View.{role};
-ghost use Rattle.seat_view.specs.CacheState.{heap_view};
+ghost use Rattle.seat_model.specs.CacheState.{heap_view};
 ghost use Rattle.thread_cache.specs.Keeps.{KeepsHeap};
 ghost use Rattle.first_handover.specs.Handover.{Brings, HasReceived, HasTaken, HasValue, IsSameSeat};
 
 use heap_rule::Carrier;
 use heap_seat::{AllocFault, HeapSeat, Spot, persist};
 use line_memory::ConstantChance;
-use seat_view::a_seat_of_the_core_is_a_seat_of_a_heap;
+use seat_model::a_seat_of_the_core_is_a_seat_of_a_heap;
 use super_block::Block;
 use thread_cache::CacheSeat;
 

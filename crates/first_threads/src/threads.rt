@@ -9,7 +9,7 @@ ghost use Rattle.core_model.specs.Held.{AreApart, IsHeld};
 ghost use Rattle.core_model.specs.Opening.{AreOwners};
 ghost use Rattle.core_model.specs.View.{no_role, role};
 ghost use Rattle.heap_rule.specs.Seated.{IsSeatOf};
-ghost use Rattle.seat_view.specs.CacheState.{heap_view};
+ghost use Rattle.seat_model.specs.CacheState.{heap_view};
 ghost use Rattle.thread_cache.specs.Keeps.{KeepsSeat};
 ghost use Rattle.first_threads.specs.Working.{HasWorked, IsFreshSeatOf, IsQuiet, Tells};
 
@@ -20,8 +20,8 @@ use heap_rule::{
 };
 use heap_seat::{AllocFault, HeapSeat};
 use line_memory::{Chance, ConstantChance};
-use seat_state::Owners;
 use seat_costs::an_opened_seat_is_idle;
+use seat_state::Owners;
 use std::alloc::{AllocError, Global};
 use std::thread;
 use std::thread::Threads;

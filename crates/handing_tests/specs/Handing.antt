@@ -12,7 +12,7 @@ use Rattle.heap_rule.specs.Carried.{CarrierView}
 use Rattle.heap_rule.specs.Seated.{IsSeatOf, SeatView}
 use Rattle.heap_rule.specs.Seats.{views_of}
 use Rattle.seat_costs.specs.Idle.{HasShortCaches, IsIdle}
-use Rattle.seat_view.specs.CacheState.{CacheState}
+use Rattle.seat_model.specs.CacheState.{CacheState}
 
 -- a seat of a heap that was opened just now may be one that allocates
 pub record IsFresh (v : View) : Type 0 where

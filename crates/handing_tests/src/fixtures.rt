@@ -7,13 +7,13 @@ ghost use Rattle.handing_tests.specs.Handing.{HasAllRoots, HasLastAllRoots, IsFr
 use dictionary::{DictFilter, root_kinds};
 use heap_recover::{RecoverFault, Recovered, recover};
 use heap_rule::{Seat, Shared, open_shared};
-use test_images::image_of;
-use seat_state::Owners;
 use seat_costs::an_opened_seat_is_idle;
+use seat_state::Owners;
 use std::alloc::{AllocError, Global};
 use std::process::Abort;
 use std::test::Fail;
 use super_block::{Block, ROOTS, Ready};
+use test_images::image_of;
 
 /// More tickets than any test here draws.
 pub const MANY: u64 = 100_000_000;

@@ -1,7 +1,7 @@
 //! Blocks that go from hand to hand, and what a hand does with them at its turn.
 
 ghost use Rattle.std.specs.Prelude.{◌≡◌, [], Contains, IfOk, IfSome};
-ghost use Rattle.seat_view.specs.CacheState.{heap_view};
+ghost use Rattle.seat_model.specs.CacheState.{heap_view};
 ghost use Rattle.handing_tests.specs.Handing.{AreAt, HasAllRoots, IsSameSeat};
 
 use crate::hand::{Halt, Hand};

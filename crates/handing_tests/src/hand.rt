@@ -67,7 +67,7 @@ pub struct Back {
 
 impl<'a> Hand<'a> {
     ghost use Rattle.std.specs.Prelude.{◌≡◌, Contains, IfErr, IfOk, IfSome, OnErr, OnOk};
-    ghost use Rattle.seat_view.specs.CacheState.{heap_view};
+    ghost use Rattle.seat_model.specs.CacheState.{heap_view};
     ghost use Rattle.handing_tests.specs.Handing.{HasAllRoots, IsBackFrom, IsFreshSeatOf, IsHandOf, IsSameSeat};
 
     /// The hand of a seat that was opened just now. Chance gives it this number at each ticket.

@@ -7,3 +7,5 @@ pub mod RecoveryLeftLemmas
 pub mod PlaceLemmas
 pub mod RecoveredLemmas
 pub mod ReadyLemmas
+pub mod AnchorHeldLemmas
+pub mod AgreementLemmas

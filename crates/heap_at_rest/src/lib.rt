@@ -1,7 +1,10 @@
-//! What recovery leaves: where each superblock stands, which chain it has, and that the whole is a
-//! heap at rest.
+//! What recovery leaves is a heap at rest; and what a closed image tells of itself by its anchors.
 #![tactic(auto)]
 
 mod laws;
+mod orderly;
 
 pub use laws::what_recovery_leaves_is_ready;
+pub use orderly::{
+    anchors_tell_without_the_words_of_full_superblocks, what_anchors_hold_are_blocks,
+};

@@ -2,11 +2,11 @@
 #![tactic(auto)]
 
 mod answer;
+mod chain_links;
 mod chains;
 mod fault;
 mod in_place;
 mod laws;
-mod chain_links;
 mod parts;
 mod passes;
 mod recovery;
@@ -16,6 +16,7 @@ mod surveys;
 mod taken;
 
 pub use answer::{Recovered, Was};
+pub use chain_links::{link_lists, members};
 pub use fault::RecoverFault;
 pub use in_place::rebuild;
 pub use laws::{
@@ -23,7 +24,6 @@ pub use laws::{
     recovery_begun_again_gives_the_same, recovery_has_one_outcome,
     recovery_in_place_takes_few_steps,
 };
-pub use chain_links::{link_lists, members};
 pub use parts::SuperblockBlocks;
 pub use recovery::{
     current_copy, keep_marked, recover, recover_by, recover_current, recover_owned,

@@ -15,8 +15,8 @@ ghost use Rattle.heap_recover.specs.Fault.{TellsFault, TellsOutsideIn};
 ghost use Rattle.heap_recover.specs.Answer.{IsMadeOf};
 
 use crate::answer::{Recovered, Was};
-use crate::fault::RecoverFault;
 use crate::chain_links::members;
+use crate::fault::RecoverFault;
 use crate::passes::rebuild;
 use crate::taken::{InOrder, RebuildPass};
 use filter_trace::{Filter, Marks, trace};

@@ -3,8 +3,8 @@
 //! an offer or an accept moves a held block.
 #![tactic(auto)]
 
-mod carrier;
 mod anchor_exchanges;
+mod carrier;
 mod closed_laws;
 mod closing;
 mod draws;
@@ -13,9 +13,9 @@ mod fences;
 mod fresh;
 mod handing;
 mod handing_laws;
+mod head_exchanges;
 mod image_laws;
 mod laws;
-mod head_exchanges;
 mod looks;
 mod notes;
 mod opening;
@@ -30,8 +30,8 @@ mod stacks;
 mod step_laws;
 mod stores;
 mod ticks;
-mod view_reads;
 mod view_laws;
+mod view_reads;
 mod words;
 
 pub use carrier::Carrier;

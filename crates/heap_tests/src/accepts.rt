@@ -5,9 +5,9 @@ use crate::fixtures::{MANY, must_hold, recovered};
 use crate::offers::{ONE_FREE, hold_two, offer};
 use crate::schedules::parse;
 use crash_core::{Core, StepAnswer};
-use test_images::number;
 use std::process::Abort;
 use std::test::Fail;
+use test_images::number;
 
 /// Steps behind those of `hold_two`, each with a ticket of its own; one that is not done has ` !`
 /// behind it. The carriers of two seats have the numbers from 2 on. The small block goes to the

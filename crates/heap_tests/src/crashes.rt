@@ -6,13 +6,13 @@ use crate::cores::{DRAW, held_after_a_crash, must_take, needs_ticket, opened};
 use crate::fixtures::{MANY, must_hold, recovered};
 use crate::schedules::parse;
 use crash_core::{Core, Event, StepAnswer};
-use test_images::{anchor_word, link_word, number};
 use line_memory::Chance;
 use seat_state::opened_table;
 use std::alloc::Global;
 use std::process::Abort;
 use std::test::Fail;
 use super_block::{Block, DIRTY, HEAD_WORD, LISTS, Ready, STATE_WORD};
+use test_images::{anchor_word, link_word, number};
 
 /// Two seats over two superblocks, of which superblock 0 is free: seat 0 takes superblock 1, holds
 /// it as a large block and splits it; seat 1 makes four blocks of superblock 0, holds them, and

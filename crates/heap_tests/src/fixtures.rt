@@ -4,12 +4,12 @@ ghost use Rattle.std.specs.Prelude.{◌≤◌};
 use block_heap::{AllocFault, Block, HeapSeat, SeqHeap};
 use dictionary::{DictFilter, root_kinds};
 use heap_recover::{RecoverFault, Recovered, recover};
-use test_images::{image_of, number};
 use line_memory::ConstantChance;
 use std::alloc::Global;
 use std::process::Abort;
 use std::test::Fail;
 use super_block::{Ready, WORD_BYTES};
+use test_images::{image_of, number};
 
 /// More steps than any test here takes, and more tickets than it draws.
 pub const MANY: u64 = 1_000_000;

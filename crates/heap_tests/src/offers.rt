@@ -4,10 +4,10 @@ use crate::cores::{DRAW, held_after_a_crash, must_take, opened, take};
 use crate::fixtures::{MANY, must_hold, recovered};
 use crate::schedules::parse;
 use crash_core::{Core, Event, StepAnswer};
-use test_images::number;
 use std::process::Abort;
 use std::test::Fail;
 use super_block::Block;
+use test_images::number;
 
 /// An image whose superblock 0 of two is free.
 pub const ONE_FREE: &str = "used 1";

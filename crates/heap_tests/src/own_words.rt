@@ -2,9 +2,9 @@
 use crate::guards::{is_row, steps, try_guard, try_guards};
 use crate::pieces::image;
 use crash_core::Event::{self, Load, Settle, Store};
-use test_images::number;
 use std::process::Abort;
 use std::test::Fail;
+use test_images::number;
 
 /// Images, what is done before, a seat, words, and whether all of these are its own then, or none.
 const OWNED: &str = "

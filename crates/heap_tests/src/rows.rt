@@ -9,11 +9,11 @@ use crate::cores::{held_after_a_crash, opened, take_drawn};
 use crate::fixtures::{MANY, must_hold, recovered};
 use crate::schedules::parse;
 use crash_core::{Core, StepAnswer};
-use test_images::number;
 use std::alloc::Global;
 use std::process::Abort;
 use std::test::Fail;
 use super_block::Block;
+use test_images::number;
 
 /// A head that was seen before two pops and a push fits no more, though its descriptor is the first
 /// one again. A cache is its seat's own: a block of 64 bytes is held. A superblock without a class

@@ -3,8 +3,8 @@
 //! A schedule has lines, between commas: the number of a seat, and an event or a change of the
 //! seat's parts with its numbers, as in `0 head 4, 0 link, 0 store link:0 7`.
 use crash_core::{Event, Shift};
-use test_images::number;
 use std::test::Fail;
+use test_images::number;
 
 /// The number that the word tells, or 0 where there is no word.
 fn argument(word: Option<&str>) -> Result<u64, Fail> {

@@ -12,3 +12,6 @@ mod RebuiltLemmas
 mod LineLemmas
 mod CrashLemmas
 pub mod OutcomeLemmas
+pub mod ConservativeLemmas
+pub mod CountTextLemmas
+pub mod CountedLemmas

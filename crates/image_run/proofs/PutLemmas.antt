@@ -6,7 +6,7 @@ use Rattle.heap_model.specs.Geometry.{version, version_word}
 use Rattle.heap_model.specs.Image.{Image, image_of_bytes}
 use Rattle.heap_model.specs.Header.{header_fault, first_kinds}
 use Rattle.heap_model.proofs.ImageLemmas.{length-words_from, get_or-words_from}
-use Rattle.orderly_image.specs.Orderly.{IsOrderly, IsHeldByAnchors}
+use Rattle.heap_at_rest.specs.Orderly.{IsOrderly, IsHeldByAnchors}
 use Rattle.dict_model.specs.Links.{kind_count}
 use Rattle.dict_model.specs.Requests.{Request}
 use Rattle.run_model.specs.Opened.{HasMaps, CanBeRun}

@@ -5,3 +5,6 @@ pub mod Replaying
 pub mod Examples
 pub mod RebuildExamples
 pub mod ReplayExamples
+pub mod Conservative
+pub mod Counting
+pub mod CountingExamples

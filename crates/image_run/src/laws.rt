@@ -7,7 +7,7 @@ ghost use Rattle.heap_model.specs.Image.{Image};
 ghost use Rattle.heap_model.specs.Durability.{IsCrashImage};
 ghost use Rattle.heap_model.specs.Header.{capacity_of, used_of};
 ghost use Rattle.heap_recover.specs.InPlace.{RecoversAlike};
-ghost use Rattle.orderly_image.specs.Orderly.{IsOrderly, IsHeldByAnchors};
+ghost use Rattle.heap_at_rest.specs.Orderly.{IsOrderly, IsHeldByAnchors};
 ghost use Rattle.core_model.specs.declared.answer.StepAnswer.{StepAnswer};
 ghost use Rattle.core_model.specs.declared.event.Event.{Event};
 ghost use Rattle.dict_model.specs.Links.{dict_links, kind_count, shards};

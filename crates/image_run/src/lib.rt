@@ -1,18 +1,25 @@
-//! What the commands over a recovered image come to: a run of a trace, recovery made in place, a
-//! replay of a schedule. Each makes the image that is put, if any, and the text that is printed.
+//! What the commands over an opened image come to: a run of a trace, recovery made in place, a
+//! replay of a schedule, what a closed or a foreign image shows. Each makes the image that is put,
+//! if any, and the text that is printed.
 #![tactic(auto)]
 
+mod conservative;
+mod counted;
+mod counting;
 mod fault;
 mod laws;
-mod recovering;
 mod lines;
 mod options;
 mod product;
 mod rebuilding;
+mod recovering;
 mod replaying;
 mod reporting;
 mod running;
 
+pub use conservative::conservative_text;
+pub use counted::what_anchors_show_is_counted_as_recovered;
+pub use counting::count_text;
 pub use fault::ReplayFault;
 pub use laws::{
     a_replay_has_one_outcome, a_run_over_what_recovery_leaves_is_one_over_the_image,

@@ -5,8 +5,8 @@ ghost use Rattle.dict_model.specs.Links.{dict_links, kind_count};
 ghost use Rattle.tool_ports.specs.Chances.{ComesFrom, ComesFromSeed};
 ghost use Rattle.image_run.specs.Rebuilding.{IsRebuilt, RebuildAsks, RebuildDraws, Rebuilds, rebuilt_line};
 
-use crate::recovering::recover_inside;
 use crate::product::Product;
+use crate::recovering::recover_inside;
 use crate::reporting::heap_text;
 use dictionary::{DictFilter, root_kinds};
 use heap_recover::rebuild;

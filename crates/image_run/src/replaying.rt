@@ -14,10 +14,10 @@ ghost use Rattle.trace_text.specs.Answered.{answers_text_of, tickets_line_of};
 ghost use Rattle.image_run.specs.Replaying.{CanBeReplayed, IsReplayed, LeavesOutside, ReplayAsks, Replays, StopsReplay};
 
 use crate::fault::ReplayFault;
-use crate::recovering::recover_left;
 use crate::lines::{events_of, last_answers};
 use crate::options::MOST_BUDGET;
 use crate::product::Product;
+use crate::recovering::recover_left;
 use crate::reporting::heap_text;
 use core_model::StepAnswer;
 use crash_core::{Core, Owners};

@@ -8,9 +8,9 @@ ghost use Rattle.tool_ports.specs.Chances.{ComesFromSeed};
 ghost use Rattle.image_run.specs.Reporting.{Reports};
 ghost use Rattle.image_run.specs.Running.{RunAsks, RunsRequests, options_of};
 
-use crate::recovering::recover_inside;
 use crate::options::RunOptions;
 use crate::product::Product;
+use crate::recovering::recover_inside;
 use crate::reporting::recovered_text;
 use dictionary::{MapFault, MappedHeap, read_maps};
 use region_header::{Bytes, words_to_bytes};

@@ -9,8 +9,8 @@ ghost use Rattle.large_block.specs.Fresh.{AreInThisHandAlone, HasKept, Marks, Se
 
 use heap_rule::{Seat, Shared};
 use line_memory::{Chance, Stopped};
-use superblock_lists::a_claimed_superblock_is_in_one_hand;
 use seat_costs::{a_row_bounds_its_draws, draw};
+use superblock_lists::a_claimed_superblock_is_in_one_hand;
 
 /// What the taking of superblocks gives.
 #[derive(Clone, Copy, Debug, PartialEq, Eq)]

@@ -14,9 +14,9 @@ ghost use Rattle.superblock_lists.specs.Pushes.{HasPushed};
 
 use heap_rule::{Seat, Shared};
 use line_memory::{Chance, Stopped};
-use superblock_lists::{Pop, a_claimed_superblock_is_in_one_hand, pop_from, push_to};
 use seat_costs::a_row_bounds_its_draws;
 use size_table::SizeClass;
+use superblock_lists::{Pop, a_claimed_superblock_is_in_one_hand, pop_from, push_to};
 
 /// Pops the first superblock of the class's list: it is claimed with the class, and in this hand
 /// alone. Where the list is empty, that is answered, with the head that said so.

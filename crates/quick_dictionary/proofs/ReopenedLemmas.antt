@@ -14,7 +14,7 @@ use Rattle.heap_at_rest.proofs.RecoveryLeftLemmas.{IsLeft}
 use Rattle.heap_at_rest.proofs.PartLemmas.{part_taken}
 use Rattle.heap_at_rest.proofs.RecoveredLemmas.{same_capacity, same_used, info_left, heap_left}
 use Rattle.heap_at_rest.proofs.StandingLemmas.{Standing, is_untaken, is_free, is_partial, is_fully_kept, is_in_large, cases_superblock}
-use Rattle.orderly_image.specs.Orderly.{IsHeldByAnchors}
+use Rattle.heap_at_rest.specs.Orderly.{IsHeldByAnchors}
 use Rattle.heap_recover.specs.declared.answer.Recovered.{Recovered}
 use Rattle.heap_recover.specs.Answer.{IsMadeOf}
 use Rattle.heap_recover.specs.InPlace.{RecoversAlike}

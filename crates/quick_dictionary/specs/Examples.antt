@@ -16,8 +16,8 @@ use Rattle.heap_model.specs.Examples.{image_with, formatted}
 use Rattle.heap_model.proofs.MemberLemmas.{in_none, in_head, in_rest, head_or_rest}
 use Rattle.heap_model.proofs.ReachLemmas.{closure_least, one_block}
 use Rattle.heap_at_rest.proofs.PartLemmas.{same_index}
-use Rattle.orderly_image.specs.Orderly.{HasPartialChain, HasOrderlyAnchor, some_free, of_class, IsOrderly, IsHeldByAnchors, in_full, in_partial, as_large}
-use Rattle.orderly_image.specs.Examples.{quarter, is_quarter}
+use Rattle.heap_at_rest.specs.Orderly.{HasPartialChain, HasOrderlyAnchor, some_free, of_class, IsOrderly, IsHeldByAnchors, in_full, in_partial, as_large}
+use Rattle.heap_at_rest.specs.OrderlyExamples.{quarter, is_quarter}
 use Rattle.dict_model.specs.Links.{dict_links, kind_count, shards}
 use Rattle.dict_model.specs.Shards.{is_empty, no_keys, Map, MapOf}
 use Rattle.quick_dictionary.specs.OrderlyDictionary.{IsOrderlyDictionary}

@@ -2,7 +2,7 @@
 use Rattle.std.specs.Prelude.{ℕ, Some}
 use Rattle.heap_model.specs.Header.{IsWellFormed}
 use Rattle.heap_model.specs.Image.{Image}
-use Rattle.orderly_image.specs.Orderly.{IsOrderly, IsHeldByAnchors}
+use Rattle.heap_at_rest.specs.Orderly.{IsOrderly, IsHeldByAnchors}
 use Rattle.dict_model.specs.Links.{kind_count}
 use Rattle.run_model.specs.Opened.{IsDictionary}
 

@@ -2,7 +2,7 @@
 //! run: a caller cites their clauses.
 ghost use Rattle.std.specs.Prelude.{◌≡◌, ◌↔◌, ◌*◌, ◌<◌, ℕ, List, Some, Contains, length, slice_index};
 ghost use Rattle.heap_model.specs.Reach.{IsReachedIn};
-ghost use Rattle.orderly_image.specs.Orderly.{IsHeldByAnchors};
+ghost use Rattle.heap_at_rest.specs.Orderly.{IsHeldByAnchors};
 ghost use Rattle.heap_recover.specs.declared.answer.Recovered.{Recovered};
 ghost use Rattle.heap_recover.specs.Answer.{IsMadeOf};
 ghost use Rattle.heap_recover.specs.InPlace.{RecoversAlike};

@@ -4,9 +4,9 @@ use Rattle.heap_model.specs.declared.block.Block.{Block}
 use Rattle.heap_model.specs.Header.{IsWellFormed}
 use Rattle.heap_model.specs.Blocks.{layout_of}
 use Rattle.heap_model.specs.Recovered.{IsFreeSuperblock}
-use Rattle.orderly_image.specs.Orderly.{IsOrderly, IsHeldByAnchors}
-use Rattle.orderly_image.specs.Agreement.{AgreeButFull}
-use Rattle.orderly_image.proofs.AgreementLemmas.{orderly_both, held_both, free_both}
+use Rattle.heap_at_rest.specs.Orderly.{IsOrderly, IsHeldByAnchors}
+use Rattle.heap_at_rest.specs.Agreement.{AgreeButFull}
+use Rattle.heap_at_rest.proofs.AgreementLemmas.{orderly_both, held_both, free_both}
 use Rattle.heap_recover.specs.declared.answer.Recovered.{Recovered}
 use Rattle.heap_recover.proofs.AscendingLemmas.{ascending_one}
 use Rattle.quick_recover.specs.Reopened.{IsReopenedAs}

@@ -14,7 +14,7 @@ use Rattle.heap_model.specs.Chains.{Walks, after}
 use Rattle.heap_model.proofs.BlockLemmas.{block_step}
 use Rattle.heap_model.proofs.SizeLemmas.{two_words, blocks_fit}
 use Rattle.heap_model.proofs.MemberLemmas.{in_none, in_head, head_or_rest, order_head, order_rest}
-use Rattle.orderly_image.specs.Orderly.{HasOrderlyAnchor, all_free, none_free, some_free}
+use Rattle.heap_at_rest.specs.Orderly.{HasOrderlyAnchor, all_free, none_free, some_free}
 use Rattle.quick_recover.specs.Anchored.{IsReadable, AreMarks, block_word, AreDifferentBlocks, IsChainTo, HasChain, HasNoChain, IsToldBy, by_chain}
 use Rattle.quick_recover.proofs.MarkLemmas.{marks_none, marks_push}
 

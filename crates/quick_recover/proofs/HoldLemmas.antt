@@ -12,8 +12,8 @@ use Rattle.heap_model.specs.Chains.{IsListOf}
 use Rattle.heap_model.proofs.MemberLemmas.{in_none}
 use Rattle.heap_at_rest.proofs.PartLemmas.{class_part, long_takes, one_superblock}
 use Rattle.heap_at_rest.proofs.ListLemmas.{one_following, one_walk}
-use Rattle.orderly_image.specs.Orderly.{HasPartialChain, IsLargeOutside, IsOutsideFreeList, IsHeldByAnchors, in_full, in_partial, as_large}
-use Rattle.orderly_image.proofs.HeldLemmas.{held_block}
+use Rattle.heap_at_rest.specs.Orderly.{HasPartialChain, IsLargeOutside, IsOutsideFreeList, IsHeldByAnchors, in_full, in_partial, as_large}
+use Rattle.heap_at_rest.proofs.AnchorHeldLemmas.{held_block}
 use Rattle.heap_recover.specs.Marked.{KeepsBlocks}
 use Rattle.quick_recover.specs.Anchored.{block_word, IsToldBy, by_full, by_chain}
 

@@ -8,7 +8,7 @@ use Rattle.heap_model.specs.Words.{anchor_state, empty_state}
 use Rattle.heap_model.specs.Chains.{Follows}
 use Rattle.heap_model.proofs.MemberLemmas.{in_none, in_head, head_or_rest}
 use Rattle.heap_at_rest.proofs.ListLemmas.{one_following}
-use Rattle.orderly_image.specs.Orderly.{IsOrderly}
+use Rattle.heap_at_rest.specs.Orderly.{IsOrderly}
 use Rattle.quick_recover.specs.Anchored.{IsDisorderly, IsInFreeList, HasFreeList, Leads, IsListTo}
 use Rattle.quick_recover.proofs.MarkLemmas.{marks_none, marks_push, counted_none, counted_push, counted_low}
 

@@ -9,7 +9,7 @@ use Rattle.heap_model.specs.Reach.{Links, IsReachedIn, IsOutsideIn}
 use Rattle.heap_model.specs.Recovery.{is_kind}
 use Rattle.heap_model.proofs.HeaderLemmas.{no_fault}
 use Rattle.heap_at_rest.proofs.RecoveredLemmas.{same_capacity}
-use Rattle.orderly_image.specs.Orderly.{IsOrderly, IsHeldByAnchors}
+use Rattle.heap_at_rest.specs.Orderly.{IsOrderly, IsHeldByAnchors}
 use Rattle.heap_recover.specs.declared.answer.Recovered.{Recovered}
 use Rattle.heap_recover.specs.declared.roles.Role.{Role}
 use Rattle.heap_recover.specs.Answer.{IsMadeOf}

@@ -19,7 +19,7 @@ use Rattle.heap_model.proofs.BlockLemmas.{block_inside, block_words}
 use Rattle.heap_at_rest.proofs.PartLemmas.{long_takes}
 use Rattle.heap_at_rest.proofs.ListLemmas.{one_following}
 use Rattle.size_table.specs.declared.size_class.SizeClass.{SizeClass}
-use Rattle.orderly_image.specs.Orderly.{HasOrderlyAnchor, all_free, none_free, some_free, IsLargeOutside, IsOrderlyOutside, of_class, of_large, IsOrderly, IsOutsideFreeList, IsHeldByAnchors, in_full, as_large}
+use Rattle.heap_at_rest.specs.Orderly.{HasOrderlyAnchor, all_free, none_free, some_free, IsLargeOutside, IsOrderlyOutside, of_class, of_large, IsOrderly, IsOutsideFreeList, IsHeldByAnchors, in_full, as_large}
 use Rattle.heap_recover.specs.declared.roles.Role.{Role}
 use Rattle.heap_recover.specs.declared.roles.Role.TheVariants.{Free, Large}
 use Rattle.heap_recover.specs.declared.surveys.Survey.{Survey}

@@ -17,7 +17,7 @@ use Rattle.heap_recover.specs.Rebuilt.{is_info, is_anchor, is_link, AreListed}
 use Rattle.heap_recover.proofs.PassLemmas.{kept_apart}
 use Rattle.heap_recover.proofs.RoleLemmas.{partial_role, AreRoles, member_listed, listed_member}
 use Rattle.heap_recover.proofs.LinkedLemmas.{AreLinked, IsSettled, info_left, anchor_left, inside_left, kept_left, members_at, members_in_order, head_left, links_left, link_left, free_left, full_left, large_left}
-use Rattle.orderly_image.specs.Orderly.{IsHeldByAnchors}
+use Rattle.heap_at_rest.specs.Orderly.{IsHeldByAnchors}
 use Rattle.quick_recover.specs.Anchored.{HaveRoles}
 use Rattle.quick_recover.specs.Reopened.{IsReopened}
 use Rattle.quick_recover.specs.Written.{IsWritten, AreWritten}

@@ -25,8 +25,8 @@ use Rattle.heap_recover.specs.Roles.{IsRole, is_free, is_partial, is_full, is_la
 use Rattle.heap_recover.proofs.RoleLemmas.{not_free}
 use Rattle.heap_recover.proofs.LinkedLemmas.{list_below}
 use Rattle.heap_at_rest.proofs.ListLemmas.{walks_same}
-use Rattle.orderly_image.specs.Orderly.{HasPartialChain, IsHeldByAnchors}
-use Rattle.orderly_image.proofs.HeldLemmas.{held_block}
+use Rattle.heap_at_rest.specs.Orderly.{HasPartialChain, IsHeldByAnchors}
+use Rattle.heap_at_rest.proofs.AnchorHeldLemmas.{held_block}
 use Rattle.quick_recover.specs.Anchored.{FitsAnchor, HaveRoles}
 use Rattle.quick_recover.specs.Reopened.{IsReopened}
 

@@ -9,7 +9,7 @@ use Rattle.heap_model.specs.Image.{Image}
 use Rattle.heap_model.specs.Header.{capacity_of, used_of}
 use Rattle.heap_model.specs.Blocks.{layout_of}
 use Rattle.heap_model.proofs.BlockLemmas.{block_inside, block_words}
-use Rattle.orderly_image.specs.Orderly.{IsOrderlyOutside, IsHeldByAnchors}
+use Rattle.heap_at_rest.specs.Orderly.{IsOrderlyOutside, IsHeldByAnchors}
 use Rattle.heap_recover.specs.declared.roles.Role.{Role}
 use Rattle.heap_recover.specs.declared.roles.Role.TheVariants.{Large}
 use Rattle.heap_recover.specs.declared.surveys.Survey.{Survey}

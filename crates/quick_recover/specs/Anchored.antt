@@ -12,7 +12,7 @@ use Rattle.heap_model.specs.Chains.{Walks, after, IsListOf}
 use Rattle.heap_model.specs.Counting.{total, one_if}
 use Rattle.quick_recover.specs.declared.chains.FreeBlocks.{FreeBlocks}
 use Rattle.quick_recover.specs.declared.chains.FreeBlocks.TheVariants.{All, Marked}
-use Rattle.orderly_image.specs.Orderly.{HasPartialChain, IsOrderlyOutside, IsOutsideFreeList, IsOrderly, IsHeldByAnchors}
+use Rattle.heap_at_rest.specs.Orderly.{HasPartialChain, IsOrderlyOutside, IsOutsideFreeList, IsOrderly, IsHeldByAnchors}
 use Rattle.heap_recover.specs.declared.roles.Role.{Role}
 use Rattle.heap_recover.specs.declared.roles.Role.TheVariants.{Free, Partial, Full, Large}
 use Rattle.heap_recover.specs.declared.surveys.Survey.{Survey}

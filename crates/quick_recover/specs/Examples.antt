@@ -14,8 +14,8 @@ use Rattle.heap_model.specs.Chains.{Follows}
 use Rattle.heap_model.specs.Examples.{image_with, formatted}
 use Rattle.heap_model.proofs.MemberLemmas.{in_none, in_head, head_or_rest}
 use Rattle.heap_shape.proofs.BasicLemmas.{with_at_other}
-use Rattle.orderly_image.specs.Orderly.{IsHeldByAnchors}
-use Rattle.orderly_image.specs.Examples.{with_chain, quarter, is_quarter, third_is_held, chained_is_not_held}
+use Rattle.heap_at_rest.specs.Orderly.{IsHeldByAnchors}
+use Rattle.heap_at_rest.specs.OrderlyExamples.{with_chain, quarter, is_quarter, third_is_held, chained_is_not_held}
 use Rattle.heap_recover.proofs.PassLemmas.{kept_no_state, kept_no_head}
 use Rattle.quick_recover.specs.Reopened.{IsReopened}
 

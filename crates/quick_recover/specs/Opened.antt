@@ -3,7 +3,7 @@ use Rattle.std.specs.Prelude.{◌≡◌, ◌↔◌, ℕ, ◌*◌, Option, List, 
 use Rattle.heap_model.specs.Geometry.{clean}
 use Rattle.heap_model.specs.Header.{HasKindsBelow, state_of}
 use Rattle.heap_model.specs.Reach.{Links, IsReachedIn, IsOutsideIn}
-use Rattle.orderly_image.specs.Orderly.{IsOrderly, IsHeldByAnchors}
+use Rattle.heap_at_rest.specs.Orderly.{IsOrderly, IsHeldByAnchors}
 use Rattle.heap_recover.specs.declared.answer.Was.TheVariants.{Clean}
 use Rattle.heap_recover.specs.Answer.{IsMadeOf}
 use Rattle.quick_recover.specs.declared.open.Path.TheVariants.{Quick as ByAnchors, Traced}

@@ -2,7 +2,7 @@
 ghost use Rattle.std.specs.Prelude.{◌≡◌, ◌+◌, ◌*◌, ◌<◌, ◌≤◌, ℕ, IfOk, IfSome, IfNone, MatchOption, slice_index};
 ghost use Rattle.heap_model.specs.Header.{used_of};
 ghost use Rattle.heap_model.specs.Sizes.{blocks_of};
-ghost use Rattle.orderly_image.specs.Orderly.{HasOrderlyAnchor};
+ghost use Rattle.heap_at_rest.specs.Orderly.{HasOrderlyAnchor};
 ghost use Rattle.quick_recover.specs.Anchored.{IsReadable, TellsFree, HasChain, HasNoChain, block_word};
 
 use anchor_word::{Anchor, FULL, State, pack, unpack};

@@ -5,7 +5,7 @@ ghost use Rattle.heap_model.specs.Geometry.{roots, clean};
 ghost use Rattle.heap_model.specs.Header.{IsWellFormed, HasGoodHeader, HasKindsBelow, header_fault, state_of};
 ghost use Rattle.heap_model.specs.Reach.{IsOutsideIn, IsReachedIn};
 ghost use Rattle.region_header.specs.Migration.{current_words};
-ghost use Rattle.orderly_image.specs.Orderly.{IsOrderly, IsHeldByAnchors};
+ghost use Rattle.heap_at_rest.specs.Orderly.{IsOrderly, IsHeldByAnchors};
 ghost use Rattle.heap_recover.specs.Answer.{IsMadeOf};
 ghost use Rattle.heap_recover.specs.Fault.{TellsFault, TellsOutsideIn};
 ghost use Rattle.quick_recover.specs.Reopened.{IsReopenedAs};

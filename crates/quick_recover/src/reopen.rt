@@ -2,7 +2,7 @@
 ghost use Rattle.std.specs.Prelude.{◌≡◌, ◌≤◌, ◌<◌, ◌*◌, IfOk, OnOk, length, slice_index, slice_index_or};
 ghost use Rattle.heap_model.specs.Geometry.{image_words};
 ghost use Rattle.heap_model.specs.Header.{IsWellFormed};
-ghost use Rattle.orderly_image.specs.Orderly.{IsHeldByAnchors};
+ghost use Rattle.heap_at_rest.specs.Orderly.{IsHeldByAnchors};
 ghost use Rattle.quick_recover.specs.Anchored.{HaveRoles, TellsAll};
 ghost use Rattle.quick_recover.specs.Reopened.{IsReopened, IsReopenedAs};
 ghost use Rattle.quick_recover.specs.Written.{anchor_after, AreWritten};

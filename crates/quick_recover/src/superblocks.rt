@@ -5,7 +5,7 @@ ghost use Rattle.heap_model.specs.Image.{Image};
 ghost use Rattle.heap_model.specs.Header.{capacity_of, used_of};
 ghost use Rattle.heap_model.specs.Sizes.{blocks_of};
 ghost use Rattle.heap_model.specs.Blocks.{layout_of};
-ghost use Rattle.orderly_image.specs.Orderly.{IsHeldByAnchors, HasOrderlyAnchor};
+ghost use Rattle.heap_at_rest.specs.Orderly.{IsHeldByAnchors, HasOrderlyAnchor};
 ghost use Rattle.heap_recover.specs.Marked.{GoOnTo, AreParted};
 ghost use Rattle.quick_recover.specs.Anchored.{IsReadable, IsDisorderly, HasFreeList, IsNotFreed, IsWhole, IsToldBy, IsReadAs};
 

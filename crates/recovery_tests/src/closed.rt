@@ -5,11 +5,11 @@ use crate::asserts::must_hold;
 use crate::openings::{are_same, open, open_owned, recovered, row_recovered};
 use crate::other::OTHER;
 use heap_recover::{Recovered, Was};
-use test_images::change;
 use quick_recover::{Path, Quick};
 use std::alloc::Global;
 use std::process::Abort;
 use std::test::Fail;
+use test_images::change;
 
 /// The words of the heap, closed.
 fn closed(alloc: Global, heap: &Recovered) -> Result<Vec<u64>, Fail> {

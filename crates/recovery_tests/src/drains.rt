@@ -4,12 +4,12 @@
 use crate::asserts::{column, must_hold};
 use crate::openings::{row_opened, row_recovered};
 use block_heap::SeqHeap;
-use test_images::number;
 use line_memory::ConstantChance;
 use quick_recover::Path;
 use std::alloc::Global;
 use std::test::Fail;
 use super_block::Ready;
+use test_images::number;
 
 /// How many superblocks an image has, in which words it differs from an empty one, and the offsets
 /// that a drain of class 20 gives: of the heap that its anchors tell, and of the recovered one. The

@@ -8,13 +8,13 @@ use crate::rest_check::{is_at_rest, start};
 use crate::told::{are_free, are_held, has_told};
 use crate::words::write;
 use heap_recover::{RecoverFault, Recovered, Was, recover};
-use test_images::{change, image_of, info_word, number, old_image_of};
 use region_header::BadHeader;
 use size_table::{SizeClass, blocks_of};
 use std::alloc::{AllocError, Global};
 use std::process::Abort;
 use std::test::Fail;
 use super_block::{Block, LAST_CLASS, block_words};
+use test_images::{change, image_of, info_word, number, old_image_of};
 
 /// An empty image of one or two superblocks with these changes, in which root 0 leads to a pair for
 /// its first link, and the other roots have the kinds of an empty image.

@@ -5,12 +5,12 @@ use crate::asserts::must_hold;
 use crate::pairs::{Pairs, kinds};
 use crate::words::write;
 use heap_recover::{RecoverFault, Recovered, recover};
-use test_images::{change, image_of, info_word, number, old_image_of};
 use par_recover::{recover_owned_par, recover_par};
 use std::alloc::Global;
 use std::process::Abort;
 use std::test::Fail;
 use std::thread::Threads;
+use test_images::{change, image_of, info_word, number, old_image_of};
 
 /// Whether two recoveries have the same outcome.
 fn are_same(

@@ -5,12 +5,12 @@ use crate::openings::row_image;
 use crate::told::{are_held, block_told, mode_told, modes_told};
 use dictionary::DictFilter;
 use heap_recover::{RecoverFault, Recovered};
-use test_images::number;
 use mixed_trace::{MixedMarks, Mode, recover_conservatively, recover_mixed, trace_mixed};
 use region_header::read_header;
 use std::alloc::Global;
 use std::process::Abort;
 use std::test::Fail;
+use test_images::number;
 
 /// Recovers the image of a row.
 fn recovered(alloc: Global, row: &str) -> Result<Result<Recovered, RecoverFault>, Fail> {

@@ -4,11 +4,11 @@ use crate::asserts::{column, must_hold};
 use crate::openings::{are_same, row_opened, row_opened_owned, row_recovered};
 use crate::told::{are_free, are_held};
 use heap_recover::{RecoverFault, Was};
-use test_images::number;
 use quick_recover::{Path, Quick};
 use std::alloc::Global;
 use std::process::Abort;
 use std::test::Fail;
+use test_images::number;
 
 /// How many superblocks an image has, in which words it differs from an empty one, whether it was
 /// closed, and the blocks that are held and the superblocks that are free after recovery.

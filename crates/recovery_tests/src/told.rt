@@ -5,10 +5,10 @@ ghost use Rattle.heap_model.specs.Geometry.{roots};
 ghost use Rattle.mixed_trace.specs.Reach.{FitsBelow};
 
 use heap_model::Block;
-use test_images::{change, image_of, number, old_image_of};
 use mixed_trace::Mode;
 use std::alloc::{AllocError, Global};
 use std::test::Fail;
+use test_images::{change, image_of, number, old_image_of};
 
 /// An image of one or two superblocks with these changes; `old` before the number for one of the
 /// old version.

@@ -8,7 +8,7 @@ use Rattle.heap_model.specs.Geometry.{largest_capacity_fits}
 use Rattle.dict_model.specs.Requests.{Request}
 use Rattle.core_model.specs.Opening.{setup_of}
 use Rattle.core_model.specs.View.{View}
-use Rattle.seat_view.specs.CacheState.{CacheState}
+use Rattle.seat_model.specs.CacheState.{CacheState}
 use Rattle.thread_cache.specs.Keeps.{most_draws, most_gives, most_wins}
 use Rattle.run_model.specs.Needs.{ListsKeysOf, moves_among, puts_among, step_bound, targets_of}
 use Rattle.run_model.specs.Workers.{Replies, is_of_worker, worker_requests}

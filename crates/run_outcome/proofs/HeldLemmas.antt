@@ -14,7 +14,7 @@ use Rattle.run_model.specs.Runs.{answered, unanswered}
 use Rattle.run_model.specs.Sending.{Sent, puts_of}
 use Rattle.run_model.specs.Workers.{Replies, worker_requests}
 use Rattle.run_model.specs.Working.{TakesRequest, TakesRequests}
-use Rattle.seat_view.specs.CacheState.{CacheState, heap_view}
+use Rattle.seat_model.specs.CacheState.{CacheState, heap_view}
 use Rattle.worker_parts.specs.Ending.{HasStepped, SettlesBehind}
 use Rattle.worker_parts.specs.Going.{GoesOn, TurnsAway}
 use Rattle.worker_parts.proofs.SettleLemmas.{settled_costs}

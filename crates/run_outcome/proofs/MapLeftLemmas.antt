@@ -5,7 +5,7 @@ use Rattle.std.proofs.lemmas.Bool.{cases_eq, cases_lt}
 use Rattle.std.proofs.lemmas.List.{length-map}
 use Rattle.std.proofs.lemmas.List.Elements.{filter-append}
 use Rattle.heap_model.specs.declared.block.Block.{Block}
-use Rattle.seat_view.specs.CacheState.{heap_view}
+use Rattle.seat_model.specs.CacheState.{heap_view}
 use Rattle.dict_model.specs.Links.{shards, table_kind}
 use Rattle.dict_model.specs.Requests.{Request, after}
 use Rattle.dict_model.specs.Shards.{Map, MapOf}

@@ -17,12 +17,12 @@ use Rattle.heap_rule.specs.Left.{IsCloseOf}
 use Rattle.heap_rule.proofs.ClosedLemmas.{closes}
 use Rattle.heap_rule.proofs.CrashLemmas.{close_volatile}
 use Rattle.seat_costs.proofs.WordLemmas.{at_cell, owns_held}
-use Rattle.seat_view.specs.CacheState.{CacheState, heap_view}
-use Rattle.seat_view.proofs.HeldLemmas.{held_is, own_held, seat_law}
-use Rattle.seat_view.proofs.ListedBlocks.{listed}
-use Rattle.orderly_image.specs.Orderly.{IsHeldByAnchors, IsOrderly}
-use Rattle.closed_heap.specs.Emptied.{KeepsNothing}
-use Rattle.closed_heap.proofs.ClosedLemmas.{closed_is_orderly, closed_holds}
+use Rattle.seat_model.specs.CacheState.{CacheState, heap_view}
+use Rattle.seat_model.proofs.HeldLemmas.{held_is, own_held, seat_law}
+use Rattle.seat_model.proofs.ListedBlocks.{listed}
+use Rattle.heap_at_rest.specs.Orderly.{IsHeldByAnchors, IsOrderly}
+use Rattle.seat_model.specs.Emptied.{KeepsNothing}
+use Rattle.seat_model.proofs.ClosedLemmas.{closed_is_orderly, closed_holds}
 use Rattle.dict_model.specs.Links.{dict_links, kind_count}
 use Rattle.dict_model.specs.Requests.{Request}
 use Rattle.dict_model.specs.Shards.{LeadsTo}

@@ -6,7 +6,7 @@ use Rattle.std.proofs.lemmas.List.Elements.{filter-append}
 use Rattle.heap_model.specs.declared.block.Block.{Block}
 use Rattle.heap_model.specs.Image.{Image}
 use Rattle.heap_seat.specs.View.{View}
-use Rattle.seat_view.specs.CacheState.{heap_view}
+use Rattle.seat_model.specs.CacheState.{heap_view}
 use Rattle.dict_model.specs.Links.{shards}
 use Rattle.dict_model.specs.Requests.{Request, Reply, after_one, AreReplies}
 use Rattle.dict_model.specs.Shards.{Map, MapOf}

@@ -11,7 +11,7 @@ use Rattle.heap_model.specs.Image.{Image}
 use Rattle.heap_model.specs.Header.{kinds_of}
 use Rattle.heap_model.specs.Reach.{ReachFrom}
 use Rattle.heap_model.proofs.ReachLemmas.{closure_included}
-use Rattle.seat_view.specs.CacheState.{heap_view}
+use Rattle.seat_model.specs.CacheState.{heap_view}
 use Rattle.dict_model.specs.Links.{dict_links}
 use Rattle.dict_model.specs.Requests.{Request}
 use Rattle.dict_requests.proofs.SeatsLemmas.{nothing_outside}

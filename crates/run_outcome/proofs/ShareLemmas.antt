@@ -13,8 +13,8 @@ use Rattle.core_model.proofs.HeldOnceLemmas.{held_once}
 use Rattle.heap_table.specs.Plays.{HasSoundState}
 use Rattle.heap_rule.specs.Left.{MayBeLeft, crashed, closed}
 use Rattle.heap_rule.proofs.ClosedLemmas.{last_state, crashes, closes}
-use Rattle.seat_view.specs.CacheState.{heap_view}
-use Rattle.seat_view.proofs.HeldLemmas.{held_is, seat_law, mixed_law, named_law, stored_law}
+use Rattle.seat_model.specs.CacheState.{heap_view}
+use Rattle.seat_model.proofs.HeldLemmas.{held_is, seat_law, mixed_law, named_law, stored_law}
 use Rattle.dict_model.specs.Links.{shards}
 use Rattle.dict_model.specs.Requests.{Request, put}
 use Rattle.dict_requests.specs.Seats.{ShareHeap, MixesSeats}

@@ -7,7 +7,7 @@ use Rattle.heap_seat.specs.View.{View as HeapView}
 use Rattle.dict_model.specs.Requests.{Request, Reply}
 use Rattle.core_model.specs.Effects.{seen}
 use Rattle.core_model.specs.View.{View, one_if_some}
-use Rattle.seat_view.specs.CacheState.{heap_view}
+use Rattle.seat_model.specs.CacheState.{heap_view}
 use Rattle.run_model.specs.Runs.{StopsRightly, unanswered}
 use Rattle.run_model.specs.Workers.{Replies, worker_requests}
 use Rattle.run_model.specs.Sending.{Sent}

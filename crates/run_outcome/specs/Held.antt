@@ -1,7 +1,7 @@
 -- What a worker's seat did for one request, on the way from one of its states to another.
 use Rattle.dict_model.specs.Requests.{Request, Reply}
 use Rattle.run_model.specs.Working.{TakesRequest, WasRefused}
-use Rattle.seat_view.specs.CacheState.{CacheState, heap_view}
+use Rattle.seat_model.specs.CacheState.{CacheState, heap_view}
 use Rattle.worker_parts.specs.Going.{GoesOn, TurnsAway}
 
 -- between two states on the way the seat worked off this request, with this reply

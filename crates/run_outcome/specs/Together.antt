@@ -11,7 +11,7 @@ use Rattle.dict_model.specs.Requests.{Request}
 use Rattle.dict_model.specs.Shards.{Map}
 use Rattle.heap_table.specs.AtTable.{IsClosedReached, IsClosedSound}
 use Rattle.heap_table.specs.Rule.{Opening, opening_of}
-use Rattle.seat_view.specs.CacheState.{CacheState}
+use Rattle.seat_model.specs.CacheState.{CacheState}
 use Rattle.run_model.specs.Arrivals.{IsWholeMap}
 use Rattle.run_model.specs.Opened.{IsDictionary}
 use Rattle.run_model.specs.Sending.{Sent, all_sent, coming, worker_numbered}

@@ -12,7 +12,7 @@ use Rattle.dict_model.specs.Requests.{Request}
 use Rattle.parcel_queue.specs.Account.{QueueView}
 use Rattle.run_model.specs.Sending.{Sent}
 use Rattle.run_model.specs.Workers.{Replies}
-use Rattle.seat_view.specs.CacheState.{CacheState, CacheValue}
+use Rattle.seat_model.specs.CacheState.{CacheState, CacheValue}
 use Rattle.seat_parcels.specs.declared.parcel.Parcel.{Parcel}
 use Rattle.seat_parcels.specs.Going.{AcceptsAtMost}
 use Rattle.seat_parcels.specs.Parcels.{IsParcelOf, all_sent_of, sent_of}

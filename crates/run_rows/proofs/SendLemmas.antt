@@ -9,7 +9,7 @@ use Rattle.dict_model.specs.Shards.{Map}
 use Rattle.heap_table.specs.AtTable.{SharedView}
 use Rattle.run_model.specs.Arrivals.{IsWholeMap}
 use Rattle.run_model.specs.Sending.{Sent}
-use Rattle.seat_view.specs.CacheState.{CacheState, CacheValue}
+use Rattle.seat_model.specs.CacheState.{CacheState, CacheValue}
 use Rattle.parcel_queue.proofs.OrderLemmas.{from, upto}
 use Rattle.worker_run.specs.Said.{replies_of}
 use Rattle.worker_run.specs.declared.worker.Worker.{Worker}

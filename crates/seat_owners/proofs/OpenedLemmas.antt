@@ -27,9 +27,9 @@ use Rattle.heap_seat.specs.Words.{IsOwn}
 use Rattle.dict_model.specs.Links.{dict_links}
 use Rattle.dict_requests.specs.Trails.{IsDurableAt}
 use Rattle.seat_costs.proofs.WordLemmas.{owns_held}
-use Rattle.seat_view.specs.CacheState.{CacheState, CallCounts, counts_of, heap_view, heap_view_of, held_blocks}
-use Rattle.seat_view.proofs.HeldLemmas.{held_is, word_held}
-use Rattle.seat_view.proofs.ListedBlocks.{listed}
+use Rattle.seat_model.specs.CacheState.{CacheState, CallCounts, counts_of, heap_view, heap_view_of, held_blocks}
+use Rattle.seat_model.proofs.HeldLemmas.{held_is, word_held}
+use Rattle.seat_model.proofs.ListedBlocks.{listed}
 use Rattle.run_model.specs.Opened.{IsDictionary, IsOpenedOver, IsReachedFrom}
 use Rattle.run_model.specs.Workers.{root_owner}
 use Rattle.seat_owners.specs.Owning.{AreOwnersByRoot}

@@ -5,7 +5,7 @@ ghost use Rattle.heap_model.specs.declared.block.Block.{Block};
 ghost use Rattle.heap_model.specs.Geometry.{roots};
 ghost use Rattle.heap_model.specs.Rest.{IsReady};
 ghost use Rattle.core_model.specs.Opening.{HasDoneNothing, opened_view, setup_of};
-ghost use Rattle.seat_view.specs.CacheState.{CacheState, heap_view};
+ghost use Rattle.seat_model.specs.CacheState.{CacheState, heap_view};
 ghost use Rattle.run_model.specs.Opened.{IsDictionary, IsOpenedOver};
 ghost use Rattle.run_model.specs.Workers.{root_owner};
 ghost use Rattle.seat_owners.specs.Owning.{AreOwnersByRoot};

@@ -5,4 +5,4 @@ mod laws;
 mod owners;
 
 pub use laws::each_seat_is_opened_over_its_part;
-pub use owners::{owners_of_mapped, owners_of};
+pub use owners::{owners_of, owners_of_mapped};

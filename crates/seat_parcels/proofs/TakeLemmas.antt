@@ -7,7 +7,7 @@ use Rattle.heap_rule.specs.Carried.{CarrierView}
 use Rattle.heap_seat.specs.Handing.{Accepts}
 use Rattle.heap_seat.specs.View.{View}
 use Rattle.dict_requests.specs.Moving.{IsNodeOf}
-use Rattle.seat_view.specs.CacheState.{CacheState}
+use Rattle.seat_model.specs.CacheState.{CacheState}
 use Rattle.shard_moves.specs.Inboxes.{TakesFirst}
 use Rattle.seat_parcels.specs.declared.parcel.Parcel.{Parcel}
 use Rattle.seat_parcels.specs.Parcels.{IsParcelOf, all_sent_of, sent_of}

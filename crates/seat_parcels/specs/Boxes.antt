@@ -6,7 +6,7 @@ use Rattle.dict_model.specs.Nodes.{shard_of}
 use Rattle.parcel_queue.specs.Account.{PassView, QueueView}
 use Rattle.run_model.specs.Sending.{Sent}
 use Rattle.run_model.specs.Workers.{worker_of}
-use Rattle.seat_view.specs.CacheState.{CacheState}
+use Rattle.seat_model.specs.CacheState.{CacheState}
 use Rattle.seat_parcels.specs.declared.parcel.Parcel.{Parcel}
 use Rattle.seat_parcels.specs.Parcels.{IsParcelOf, all_sent_of}
 

@@ -9,7 +9,7 @@ use Rattle.atomic_table.specs.Seated.{TableId}
 use Rattle.core_model.specs.Examples.{idle}
 use Rattle.heap_rule.specs.Carried.{CarrierView}
 use Rattle.parcel_queue.specs.Account.{PassView, QueueView, unused}
-use Rattle.seat_view.specs.CacheState.{CacheState, CacheValue}
+use Rattle.seat_model.specs.CacheState.{CacheState, CacheValue}
 use Rattle.seat_parcels.specs.declared.parcel.Parcel.{Parcel}
 use Rattle.seat_parcels.specs.Boxes.{ArePutRightly, BoxView, HasParts, HaveParts, IsInStep, IsPostBox, goes_to, parcels_for, parcels_of, sent_by}
 use Rattle.seat_parcels.specs.Going.{AcceptsAtMost, OffersAtMost}

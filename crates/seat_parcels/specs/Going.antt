@@ -1,7 +1,7 @@
 -- What goes on of a seat over its calls and over the blocks that it offers or accepts.
 use Rattle.std.specs.Prelude.{◌≡◌, ℕ}
 use Rattle.seat_costs.specs.Asked.{HasAsked}
-use Rattle.seat_view.specs.CacheState.{CacheValue}
+use Rattle.seat_model.specs.CacheState.{CacheValue}
 use Rattle.thread_cache.specs.Keeps.{KeepsCounts}
 
 -- It is a seat of the same heap, its calls cost at most so much, and chance was asked for as many numbers as tickets were drawn.

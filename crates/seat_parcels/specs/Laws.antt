@@ -3,7 +3,7 @@ use Rattle.std.proofs.Common.{◌≡◌, ℕ, ◌+◌, List, length, All, refl, 
 use Rattle.atomic_table.specs.Seated.{TableId}
 use Rattle.core_model.specs.View.{Role}
 use Rattle.seat_costs.proofs.AskedLemmas.{asked_none, asked_then}
-use Rattle.seat_view.specs.CacheState.{CacheState, CacheValue}
+use Rattle.seat_model.specs.CacheState.{CacheState, CacheValue}
 use Rattle.thread_cache.specs.Keeps.{KeepsCounts, KeepsHeap, KeepsSeat}
 use Rattle.thread_cache.specs.Laws.{keeps_none_law}
 use Rattle.seat_parcels.specs.declared.parcel.Parcel.{Parcel}

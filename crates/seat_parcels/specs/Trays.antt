@@ -1,6 +1,6 @@
 -- A worker's tray: the parcels that came for it and are still to be brought in.
 use Rattle.std.specs.Prelude.{◌≡◌, ℕ, ◌+◌, List, All, length}
-use Rattle.seat_view.specs.CacheState.{CacheState}
+use Rattle.seat_model.specs.CacheState.{CacheState}
 use Rattle.seat_parcels.specs.declared.parcel.Parcel.{Parcel}
 use Rattle.seat_parcels.specs.Parcels.{IsParcelOf}
 

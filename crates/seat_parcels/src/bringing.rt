@@ -4,7 +4,7 @@ ghost use Rattle.std.specs.Prelude.{◌≡◌, ◌⊎◌, IfErr, IfOk, OnErr};
 ghost use Rattle.heap_seat.specs.Calls.{IsSmallCall};
 ghost use Rattle.heap_seat.specs.Tickets.{Stops};
 ghost use Rattle.heap_seat.specs.Words.{KeepsOwn};
-ghost use Rattle.seat_view.specs.CacheState.{heap_view};
+ghost use Rattle.seat_model.specs.CacheState.{heap_view};
 ghost use Rattle.shard_moves.specs.Inboxes.{IsLeft, TakesNext};
 ghost use Rattle.seat_parcels.specs.Going.{AcceptsAtMost};
 ghost use Rattle.seat_parcels.specs.Parcels.{all_sent_of};

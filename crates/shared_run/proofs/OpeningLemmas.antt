@@ -11,7 +11,7 @@ use Rattle.heap_table.specs.Rule.{Opening, opened_view_of, opening_of}
 use Rattle.heap_rule.specs.Seated.{SeatView}
 use Rattle.heap_rule.specs.Seats.{AreOpenedSeats}
 use Rattle.seat_costs.proofs.IdleLemmas.{opened_seats}
-use Rattle.seat_view.specs.CacheState.{heap_view}
+use Rattle.seat_model.specs.CacheState.{heap_view}
 use Rattle.run_model.specs.Opened.{IsDictionary, IsOpenedOver}
 use Rattle.run_model.specs.Workers.{root_owner}
 use Rattle.seat_owners.specs.Owning.{AreOwnersByRoot}

@@ -20,7 +20,7 @@ use Rattle.heap_table.specs.Rule.{Opening, setup_for}
 use Rattle.heap_rule.specs.Carried.{CarrierView, carried_views}
 use Rattle.heap_rule.specs.Seated.{SeatView}
 use Rattle.heap_rule.specs.Seats.{views_of}
-use Rattle.seat_view.specs.CacheState.{CacheState}
+use Rattle.seat_model.specs.CacheState.{CacheState}
 use Rattle.run_model.specs.Arrivals.{IsWholeMap}
 use Rattle.run_model.specs.Opened.{IsDictionary}
 use Rattle.run_model.specs.Sending.{Sent, coming}

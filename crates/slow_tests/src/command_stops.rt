@@ -1,6 +1,5 @@
 //! The command `rebuild` stopped at each of its steps: what it prints, and that it is gone on with.
 use crate::calls::{make, must_hold, runs, store_with};
-use test_images::image_of;
 use line_memory::ConstantChance;
 use region_header::words_to_bytes;
 use std::alloc::{AllocError, Global};
@@ -8,6 +7,7 @@ use std::process::Abort;
 use std::sync::Wait;
 use std::test::Fail;
 use std::thread::Threads;
+use test_images::image_of;
 use tool_ports::{Chances, MapStore, SeededChances};
 
 const DONE: &str = "rebuild done\nheap 2 dirty\nheld 64 1\n";

@@ -1,7 +1,6 @@
 //! An image of 257 superblocks, one more than the old version may have, made, shown and drained;
 //! and one of as many bytes that has one superblock.
 use crate::calls::{must_hold, runs, store_with};
-use test_images::image_of;
 use line_memory::ConstantChance;
 use region_header::words_to_bytes;
 use std::alloc::{AllocError, Global};
@@ -9,6 +8,7 @@ use std::process::Abort;
 use std::sync::Wait;
 use std::test::Fail;
 use std::thread::Threads;
+use test_images::image_of;
 use tool_ports::MapStore;
 
 /// Makes a call without input, which is to end with this status and to print this text.

@@ -16,8 +16,8 @@ ghost use Rattle.superblock_lists.specs.Pops.{SeesHead, SeesLink, SeesFirst, Exc
 
 use heap_rule::{Seat, Shared};
 use line_memory::{Chance, Stopped};
-use seat_state::head_first;
 use seat_costs::draw;
+use seat_state::head_first;
 
 /// What a pop of a list gives.
 #[derive(Clone, Copy, Debug, PartialEq, Eq)]

@@ -20,8 +20,8 @@ ghost use Rattle.superblock_lists.specs.Pushes.{HasPushed, HasSetLink, Pushes, S
 use crate::pops::look_list;
 use heap_rule::{Seat, Shared};
 use line_memory::{Chance, Stopped};
-use seat_state::head_first;
 use seat_costs::draw;
+use seat_state::head_first;
 use super_block::Geometry;
 
 /// The link of a claimed superblock leads to another superblock, by its number plus 1.

@@ -24,13 +24,13 @@ use Rattle.seat_costs.specs.Rows.{HoldingRow, Parts, Passes, Row, head_look, nex
 use Rattle.seat_costs.specs.Words.{IsDurableAt, IsHeldWord, KeepsWord as KeepsRowWord}
 use Rattle.seat_costs.proofs.RowLemmas.{not_both}
 use Rattle.cache_fill.specs.Refills.{IsFilledInOrder, IsFull, IsLook}
-use Rattle.seat_calls.specs.Large.{HasAllocatedLarge}
-use Rattle.seat_calls.specs.Requests.{Answers, IsGranted, IsRefused, by_class, by_span, light_request, request_costs}
-use Rattle.seat_calls.specs.Small.{HasAllocated, IfGoing}
-use Rattle.seat_view.specs.CacheState.{CacheState, CallCounts, HasCounts, IsBetweenCalls, IsStateOf, counts_of, heap_view, heap_view_of, look_of}
-use Rattle.seat_view.specs.Changes.{HoldsBlock, HoldsSpan}
-use Rattle.seat_view.proofs.ChangedBlocks.{class_in, holds_by, large_words_stay, small_words_stay, span_by}
-use Rattle.seat_view.proofs.HeldLemmas.{own_held, word_law}
+use Rattle.thread_cache.specs.Large.{HasAllocatedLarge}
+use Rattle.thread_cache.specs.Requests.{Answers, IsGranted, IsRefused, by_class, by_span, light_request, request_costs}
+use Rattle.thread_cache.specs.Small.{HasAllocated, IfGoing}
+use Rattle.seat_model.specs.CacheState.{CacheState, CallCounts, HasCounts, IsBetweenCalls, IsStateOf, counts_of, heap_view, heap_view_of, look_of}
+use Rattle.seat_model.specs.Changes.{HoldsBlock, HoldsSpan}
+use Rattle.seat_model.proofs.ChangedBlocks.{class_in, holds_by, large_words_stay, small_words_stay, span_by}
+use Rattle.seat_model.proofs.HeldLemmas.{own_held, word_law}
 use Rattle.thread_cache.specs.Serving.{HasSeenRoom, IsLight, IsServed, IsTurnedAway}
 use Rattle.thread_cache.proofs.CallLemmas.{at_state, runs_law, stops_law}
 use Rattle.thread_cache.proofs.LargeLemmas.{IsFew, IsPaid, LargeStep, paid_light, paid_most}

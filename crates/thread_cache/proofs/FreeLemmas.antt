@@ -20,12 +20,12 @@ use Rattle.seat_costs.specs.Idle.{HasShortCaches, IsIdle}
 use Rattle.seat_costs.specs.Rows.{Parts, Passes, RowBut, Stops, next_of}
 use Rattle.seat_costs.specs.Words.{IsHeldWord, KeepsWord as KeepsRowWord}
 use Rattle.seat_costs.proofs.RowLemmas.{not_both}
-use Rattle.seat_calls.specs.Requests.{IsGivenBack, IsSmallBlock, IsSpan, MayBeGivenBack, light_free_costs, most_free_costs, of_a_class, of_a_span}
-use Rattle.seat_calls.specs.Small.{IsHeldOutside}
-use Rattle.seat_view.specs.CacheState.{CacheState, CallCounts, IsBetweenCalls, counts_of, heap_view, heap_view_of, held_blocks}
-use Rattle.seat_view.specs.Changes.{GivesBlock, GivesSpan, Loses}
-use Rattle.seat_view.proofs.ChangedBlocks.{class_in, gives_by, gives_span_by, held_same}
-use Rattle.seat_view.proofs.HeldLemmas.{held_is, own_held, word_law}
+use Rattle.thread_cache.specs.Requests.{IsGivenBack, IsSmallBlock, IsSpan, MayBeGivenBack, light_free_costs, most_free_costs, of_a_class, of_a_span}
+use Rattle.thread_cache.specs.Small.{IsHeldOutside}
+use Rattle.seat_model.specs.CacheState.{CacheState, CallCounts, IsBetweenCalls, counts_of, heap_view, heap_view_of, held_blocks}
+use Rattle.seat_model.specs.Changes.{GivesBlock, GivesSpan, Loses}
+use Rattle.seat_model.proofs.ChangedBlocks.{class_in, gives_by, gives_span_by, held_same}
+use Rattle.seat_model.proofs.HeldLemmas.{held_is, own_held, word_law}
 use Rattle.thread_cache.specs.Serving.{IsLight, IsPutBack}
 use Rattle.thread_cache.proofs.AllocLemmas.{pending_of, same_between, short_but}
 use Rattle.thread_cache.proofs.CallLemmas.{at_state, runs_law}

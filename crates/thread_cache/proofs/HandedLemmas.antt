@@ -24,11 +24,11 @@ use Rattle.heap_rule.proofs.OwnedCarriers.{all_roots}
 use Rattle.seat_costs.specs.Costs.{NoneFalls, RisesBy, one_draw}
 use Rattle.seat_costs.specs.Rows.{HasDrawn, Passes, Row, SameLooks, Stops, after_ticket, next_of}
 use Rattle.seat_costs.specs.Words.{IsHeldWord, KeepsWord as KeepsRowWord}
-use Rattle.seat_view.specs.CacheState.{CacheState, CallCounts, IsBetweenCalls, IsStateOf, counts_of, heap_view, heap_view_of, held_blocks, look_of, opened_kinds}
-use Rattle.seat_view.proofs.HandedBlocks.{accept_has, accept_keeps, accept_new, accept_only, alone_held, alone_listed, alone_word, held_alike, offer_gone, offer_keeps, offer_only}
-use Rattle.seat_view.proofs.HeldLemmas.{held_is, own_held, word_held, word_law}
-use Rattle.seat_view.proofs.ListedBlocks.{listed}
-use Rattle.seat_words.specs.Handed.{AcceptRow, ComesWith as BringsWords, GoesWith as SendsWords, HasAccepted, HasOffered, OfferRow}
+use Rattle.seat_model.specs.CacheState.{CacheState, CallCounts, IsBetweenCalls, IsStateOf, counts_of, heap_view, heap_view_of, held_blocks, look_of, opened_kinds}
+use Rattle.seat_model.proofs.HandedBlocks.{accept_has, accept_keeps, accept_new, accept_only, alone_held, alone_listed, alone_word, held_alike, offer_gone, offer_keeps, offer_only}
+use Rattle.seat_model.proofs.HeldLemmas.{held_is, own_held, word_held, word_law}
+use Rattle.seat_model.proofs.ListedBlocks.{listed}
+use Rattle.thread_cache.specs.Sending.{AcceptRow, ComesWith as BringsWords, GoesWith as SendsWords, HasAccepted, HasOffered, OfferRow}
 use Rattle.thread_cache.specs.Handing.{IsSent, OnlyDraws, contents_of}
 use Rattle.thread_cache.specs.Keeps.{KeepsCosts}
 use Rattle.thread_cache.proofs.AllocLemmas.{pending_of}

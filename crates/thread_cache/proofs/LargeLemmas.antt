@@ -10,8 +10,8 @@ use Rattle.heap_table.specs.Plays.{HasSoundState}
 use Rattle.heap_rule.specs.Seated.{SeatView}
 use Rattle.seat_costs.specs.Costs.{Costs}
 use Rattle.seat_costs.specs.Rows.{IsKeptOrMade, Passes, Row, Stops, ViewRow, after_ticket, head_look, next_of}
-use Rattle.seat_view.specs.CacheState.{CacheState, CallCounts, HasCounts, IsStateOf, counts_of, heap_view, heap_view_of, look_of}
-use Rattle.seat_view.proofs.HeldLemmas.{kept_at, pending_at}
+use Rattle.seat_model.specs.CacheState.{CacheState, CallCounts, HasCounts, IsStateOf, counts_of, heap_view, heap_view_of, look_of}
+use Rattle.seat_model.proofs.HeldLemmas.{kept_at, pending_at}
 use Rattle.thread_cache.specs.Keeps.{KeepsCosts, light_draws, most_draws, most_gives, most_wins, traces}
 use Rattle.thread_cache.proofs.CallLemmas.{at_state, goes_on_law, stops_law}
 

@@ -5,3 +5,10 @@ pub mod AllocLemmas
 pub mod FreeLemmas
 pub mod HandedLemmas
 pub mod HandedWords
+pub mod OwnLemmas
+pub mod ParcelLemmas
+pub mod HandedRows
+pub mod SmallLemmas
+pub mod GrantLemmas
+pub mod SpanLemmas
+pub mod RequestLemmas

@@ -13,7 +13,7 @@ use Rattle.cache_flush.proofs.AllLemmas.{all_runs_few, first_none}
 use Rattle.seat_costs.specs.Idle.{HasShortCaches, IsIdle}
 use Rattle.seat_costs.specs.Rows.{Parts, Passes, Stops, next_of}
 use Rattle.seat_costs.proofs.RowLemmas.{not_both}
-use Rattle.seat_view.specs.CacheState.{IsBetweenCalls}
+use Rattle.seat_model.specs.CacheState.{IsBetweenCalls}
 use Rattle.thread_cache.proofs.LargeLemmas.{IsFew, IsPaid, draws_later, paid_most, stop_later}
 
 -- the sum of so many values of a function, from one on

@@ -5,7 +5,7 @@ use Rattle.heap_seat.specs.Handing.{Contents, GoesWith}
 use Rattle.core_model.specs.View.{View}
 use Rattle.heap_rule.specs.Carried.{CarrierView}
 use Rattle.seat_costs.specs.Words.{left_at, seen_at}
-use Rattle.seat_view.specs.CacheState.{CacheState, heap_view, held_blocks}
+use Rattle.seat_model.specs.CacheState.{CacheState, heap_view, held_blocks}
 
 -- what a carrier knows of words
 abbrev pub contents_of : CarrierView → Contents

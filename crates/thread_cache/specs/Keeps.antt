@@ -4,7 +4,7 @@ use Rattle.core_model.specs.View.{View, one_if_some, role}
 use Rattle.seat_costs.specs.Costs.{NoneFalls}
 use Rattle.heap_rule.specs.Seated.{SeatView}
 use Rattle.seat_costs.specs.Asked.{HasAsked}
-use Rattle.seat_view.specs.CacheState.{CacheState, CacheValue, no_looks}
+use Rattle.seat_model.specs.CacheState.{CacheState, CacheValue, no_looks}
 
 -- the most tickets that a call of alloc or free draws, exchanges that it wins, and batches that it gives, but for those that losses and moves pay
 abbrev pub most_draws : ℕ

@@ -1,7 +1,7 @@
 -- What every call keeps goes on from call to call: the laws of what it keeps.
 use Rattle.std.proofs.Common.{ℕ, refl, ◌∙◌, arith}
 use Rattle.seat_costs.proofs.AskedLemmas.{asked_none, asked_then}
-use Rattle.seat_view.specs.CacheState.{CacheState, CacheValue}
+use Rattle.seat_model.specs.CacheState.{CacheState, CacheValue}
 use Rattle.thread_cache.specs.Keeps.{KeepsCosts, KeepsHeap, KeepsSeat}
 
 costs_none : (s : CacheState) → KeepsCosts s.view s.small_calls s.large_calls s.view s.small_calls s.large_calls

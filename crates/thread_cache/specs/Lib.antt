@@ -3,3 +3,8 @@ pub mod Keeps
 pub mod Laws
 pub mod Quiet
 pub mod Serving
+pub mod Own
+pub mod Sending
+pub mod Large
+pub mod Small
+pub mod Requests

@@ -4,7 +4,7 @@ use Rattle.heap_model.specs.Sizes.{IsClass}
 use Rattle.heap_seat.specs.Calls.{IsLargeCall, SameRefusals}
 use Rattle.core_model.specs.View.{of_class}
 use Rattle.cache_flush.specs.All.{cached}
-use Rattle.seat_view.specs.CacheState.{CacheState, heap_view}
+use Rattle.seat_model.specs.CacheState.{CacheState, heap_view}
 
 -- no cache has a block
 pub record HasEmptyCaches (s : CacheState) : Type 0 where

@@ -4,8 +4,8 @@ use Rattle.heap_model.specs.declared.block.Block.{Block}
 use Rattle.heap_model.specs.Sizes.{IsLeastClassFor, largest_small, span_of}
 use Rattle.heap_seat.specs.declared.fault.Looks.{Looks}
 use Rattle.core_model.specs.View.{View, of_class}
-use Rattle.seat_calls.specs.Large.{HasNoRoom}
-use Rattle.seat_calls.specs.Requests.{IsGivenBack, IsGranted, light_free_costs, light_request, most_free_costs, request_costs}
+use Rattle.thread_cache.specs.Large.{HasNoRoom}
+use Rattle.thread_cache.specs.Requests.{IsGivenBack, IsGranted, light_free_costs, light_request, most_free_costs, request_costs}
 use Rattle.cache_fill.specs.Refills.{IsFilledInOrder, IsFull}
 use Rattle.seat_costs.specs.Costs.{one_draw}
 use Rattle.seat_costs.specs.Rows.{IsMade, Passes, next_of, parts}

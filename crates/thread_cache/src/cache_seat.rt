@@ -4,7 +4,7 @@ ghost use Rattle.std.specs.Prelude.{◌≡◌};
 ghost use Rattle.std.proofs.Props.{props};
 ghost use Rattle.heap_table.specs.Plays.{HasSoundState};
 ghost use Rattle.heap_rule.specs.Seated.{IsSeatOf};
-ghost use Rattle.seat_view.specs.CacheState.{HasCounts, IsBetweenCalls};
+ghost use Rattle.seat_model.specs.CacheState.{HasCounts, IsBetweenCalls};
 
 use heap_rule::{Seat, Shared};
 use heap_seat::Looks;
@@ -31,7 +31,7 @@ pub struct CacheSeat<'a, C> {
 }
 
 impl<'a, C> Model for CacheSeat<'a, C> {
-    ghost use Rattle.seat_view.specs.CacheState.{CacheValue};
+    ghost use Rattle.seat_model.specs.CacheState.{CacheValue};
 
     ghost Value = { CacheValue C };
 
@@ -59,7 +59,7 @@ impl<'a, C: Chance> CacheSeat<'a, C> {
     ghost use Rattle.heap_rule.specs.Seated.{IsSeatOf};
     ghost use Rattle.seat_costs.specs.Idle.{HasShortCaches, IsIdle};
     ghost use Rattle.heap_seat.specs.Tickets.{Stops};
-    ghost use Rattle.seat_view.specs.CacheState.{heap_view};
+    ghost use Rattle.seat_model.specs.CacheState.{heap_view};
     ghost use Rattle.thread_cache.specs.Keeps.{IsNew};
 
     /// Makes a seat of a heap one that allocates. The seat is idle, as those of an opened heap are.

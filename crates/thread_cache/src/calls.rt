@@ -5,11 +5,11 @@ ghost use Rattle.heap_seat.specs.declared.fault.AllocFault.TheVariants.{Full};
 ghost use Rattle.heap_seat.specs.declared.fault.Looks.{Looks};
 
 use crate::cache_seat::CacheSeat;
+use crate::requests::{alloc, free};
+use crate::words::{fence, load, store, write_back};
 use heap_model::Block;
 use heap_seat::{AllocFault, HeapSeat, Looks, Spot};
 use line_memory::{Chance, Stopped};
-use seat_calls::{alloc, free};
-use seat_words::{fence, load, store, write_back};
 
 /// The looks of a refusal for want of room.
 fn refusal_of(answer: &Result<Block, AllocFault>) -> Option<Looks>
@@ -30,10 +30,10 @@ impl<'a, C: Chance> HeapSeat for CacheSeat<'a, C> {
     ghost use Rattle.heap_seat.specs.Tickets.{Stops};
     ghost use Rattle.heap_seat.specs.Words.{KeepsOwn};
     ghost use Rattle.heap_rule.specs.Left.{MayBeLeft};
-    ghost use Rattle.seat_calls.specs.Requests.{most_free_costs, request_costs};
+    ghost use Rattle.thread_cache.specs.Requests.{most_free_costs, request_costs};
     ghost use Rattle.seat_costs.specs.Rows.{Passes};
-    ghost use Rattle.seat_view.specs.CacheState.{heap_view};
-    ghost use Rattle.seat_view.proofs.HeldLemmas.{may_be_law, mixed_law, named_law, seat_law, stored_law};
+    ghost use Rattle.seat_model.specs.CacheState.{heap_view};
+    ghost use Rattle.seat_model.proofs.HeldLemmas.{may_be_law, mixed_law, named_law, seat_law, stored_law};
     ghost use Rattle.thread_cache.specs.Keeps.{KeepsSeat};
     ghost use Rattle.thread_cache.specs.Serving.{IsPutBack, IsServed, IsTurnedAway};
     ghost use Rattle.thread_cache.specs.Laws.{seat_none_law, seat_row_law};

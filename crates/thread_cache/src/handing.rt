@@ -3,10 +3,10 @@
 ghost use Rattle.std.specs.Prelude.{◌≡◌, ◌+◌, ℕ, Some, Contains, IfErr, IfOk, OnErr, OnOk};
 
 use crate::cache_seat::CacheSeat;
+use crate::sending::{accept, offer};
 use heap_model::Block;
 use heap_rule::Carrier;
 use line_memory::{Chance, Stopped};
-use seat_words::{accept, offer};
 
 impl<'a, C: Chance> CacheSeat<'a, C> {
     ghost use Rattle.core_model.specs.View.{role};
@@ -15,7 +15,7 @@ impl<'a, C: Chance> CacheSeat<'a, C> {
     ghost use Rattle.heap_seat.specs.Tickets.{Stops};
     ghost use Rattle.heap_seat.specs.Words.{KeepsOwn};
     ghost use Rattle.seat_costs.specs.Asked.{HasAsked};
-    ghost use Rattle.seat_view.specs.CacheState.{heap_view};
+    ghost use Rattle.seat_model.specs.CacheState.{heap_view};
     ghost use Rattle.thread_cache.specs.Handing.{IsSent, OnlyDraws, contents_of};
     ghost use Rattle.thread_cache.specs.Keeps.{KeepsCounts};
 

@@ -1,8 +1,8 @@
 //! A seat's caches are emptied, so that other threads can have the blocks.
 
 use crate::cache_seat::CacheSeat;
-use line_memory::{Chance, Stopped};
 use cache_flush::flush_all;
+use line_memory::{Chance, Stopped};
 use size_table::{LAST_CLASS, SizeClass};
 
 impl<'a, C: Chance> CacheSeat<'a, C> {
@@ -11,7 +11,7 @@ impl<'a, C: Chance> CacheSeat<'a, C> {
     ghost use Rattle.heap_seat.specs.Words.{IsOwn, KeepsOwn, KeepsPending};
     ghost use Rattle.cache_flush.specs.All.{HasFlushedAll, all_costs, cached};
     ghost use Rattle.seat_costs.specs.Rows.{Passes};
-    ghost use Rattle.seat_view.specs.CacheState.{heap_view};
+    ghost use Rattle.seat_model.specs.CacheState.{heap_view};
     ghost use Rattle.thread_cache.specs.Keeps.{KeepsSeat};
     ghost use Rattle.thread_cache.specs.Quiet.{HasEmptyCaches, IsQuietCall};
 

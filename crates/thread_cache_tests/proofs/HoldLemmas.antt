@@ -10,8 +10,8 @@ use Rattle.heap_seat.specs.View.{View}
 use Rattle.heap_seat.specs.Alloc.{Adds}
 use Rattle.heap_seat.specs.Free.{MayHaveFreed}
 use Rattle.heap_rule.specs.Seated.{SeatView}
-use Rattle.seat_view.specs.CacheState.{CacheValue, held_blocks}
-use Rattle.seat_view.proofs.ListedBlocks.{listed}
+use Rattle.seat_model.specs.CacheState.{CacheValue, held_blocks}
+use Rattle.seat_model.proofs.ListedBlocks.{listed}
 use Rattle.thread_cache.specs.Keeps.{KeepsSeat}
 use Rattle.thread_cache_tests.specs.Holding.{AreRootsOf, HasRootsOf, Holds, IsNoneOf, OwnsRoots, anything}
 use Rattle.std.proofs.lemmas.List.{get_or_append_left, length-append}

@@ -6,7 +6,7 @@ use Rattle.core_model.specs.View.{View, no_role, role}
 use Rattle.heap_table.specs.AtTable.{SharedView}
 use Rattle.heap_rule.specs.Seated.{IsSeatOf, SeatView}
 use Rattle.seat_costs.specs.Idle.{HasShortCaches, IsIdle}
-use Rattle.seat_view.specs.CacheState.{held_blocks}
+use Rattle.seat_model.specs.CacheState.{held_blocks}
 use Rattle.size_table.specs.declared.size_class.SizeClass.{SizeClass}
 
 -- a chance that may give any number

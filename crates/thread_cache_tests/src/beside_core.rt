@@ -5,13 +5,13 @@ use crate::fixtures::{MANY, must_hold, owners_in_turn, recovered};
 use crate::scenes::{Scene, play_scene};
 use core_model::{Event, StepAnswer};
 use crash_core::Core;
-use test_images::{anchor_word, link_word};
 use line_memory::{Closed, ConstantChance};
 use std::alloc::{AllocError, Global};
 use std::process::Abort;
 use std::test::Fail;
 use std::thread::Threads;
 use super_block::{DIRTY, HEAD_WORD, LISTS, STATE_WORD};
+use test_images::{anchor_word, link_word};
 use trace_text::{Schedule, parse_schedule};
 
 /// Two seats trade the blocks of a superblock that was never taken: a batch and all free blocks are

@@ -9,14 +9,14 @@ ghost use Rattle.thread_cache_tests.specs.Holding.{HasRootsOf, HaveBlocks, HaveR
 use dictionary::{DictFilter, root_kinds};
 use heap_recover::{RecoverFault, Recovered, recover};
 use heap_rule::{Seat, Shared, close_shared, open_shared};
-use test_images::image_of;
 use line_memory::Closed;
-use seat_state::Owners;
 use seat_costs::an_opened_seat_is_idle;
+use seat_state::Owners;
 use std::alloc::{AllocError, Global};
 use std::process::Abort;
 use std::test::Fail;
 use super_block::{ROOTS, Ready};
+use test_images::image_of;
 
 /// More tickets than any test here draws.
 pub const MANY: u64 = 1_000_000;

@@ -2,7 +2,7 @@
 //! freed: other seats then find each of them.
 
 ghost use Rattle.std.specs.Prelude.{OnOk};
-ghost use Rattle.seat_view.specs.CacheState.{heap_view};
+ghost use Rattle.seat_model.specs.CacheState.{heap_view};
 ghost use Rattle.thread_cache_tests.specs.Holding.{Holds};
 
 use crate::holders::{Halt, give_back, give_back_last, take_all};

@@ -2,7 +2,7 @@
 //! theirs in turn.
 
 ghost use Rattle.std.specs.Prelude.{All, IfOk, OnOk};
-ghost use Rattle.seat_view.specs.CacheState.{heap_view};
+ghost use Rattle.seat_model.specs.CacheState.{heap_view};
 ghost use Rattle.thread_cache_tests.specs.Holding.{HasBlocksOf, HaveBlocks, Holds, IsFreshSeatOf};
 
 use crate::fixtures::{MANY, last_seat, open, recovered};

@@ -1,7 +1,7 @@
 //! Random acts of a seat: it frees a block, asks for one, or empties its caches.
 
 ghost use Rattle.std.specs.Prelude.{◌≡◌, ◌<◌, Contains, OnOk, length};
-ghost use Rattle.seat_view.specs.CacheState.{heap_view};
+ghost use Rattle.seat_model.specs.CacheState.{heap_view};
 ghost use Rattle.thread_cache.specs.Keeps.{KeepsSeat};
 ghost use Rattle.thread_cache_tests.specs.Holding.{anything, Holds};
 

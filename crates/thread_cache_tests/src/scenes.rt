@@ -5,12 +5,12 @@ use crate::fixtures::{MANY, must_hold, recovered};
 use crate::order::Order;
 use crate::rooted::held_in;
 use crate::together::{Left, Plan, work_together};
-use test_images::{change, number};
 use line_memory::Closed;
 use std::alloc::Global;
 use std::process::Abort;
 use std::test::Fail;
 use std::thread::Threads;
+use test_images::{change, number};
 
 /// What two seats do, over what recovery makes of an image.
 #[derive(Clone, Copy)]

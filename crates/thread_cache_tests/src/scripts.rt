@@ -21,7 +21,7 @@
 //! Acts of one seat stand between commas.
 
 ghost use Rattle.std.specs.Prelude.{◌≡◌, OnOk};
-ghost use Rattle.seat_view.specs.CacheState.{heap_view};
+ghost use Rattle.seat_model.specs.CacheState.{heap_view};
 ghost use Rattle.thread_cache.specs.Keeps.{KeepsSeat};
 ghost use Rattle.thread_cache_tests.specs.Holding.{anything, Holds, OwnsRoots};
 

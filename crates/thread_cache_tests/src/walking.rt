@@ -1,7 +1,7 @@
 //! A walk of two seats by turns, with blocks of random classes.
 
 ghost use Rattle.std.specs.Prelude.{OnOk};
-ghost use Rattle.seat_view.specs.CacheState.{heap_view};
+ghost use Rattle.seat_model.specs.CacheState.{heap_view};
 ghost use Rattle.thread_cache_tests.specs.Holding.{Holds};
 
 use crate::apart::last_is_apart;

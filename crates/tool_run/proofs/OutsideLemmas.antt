@@ -12,7 +12,7 @@ use Rattle.tool_run.specs.Inside.{Refuses, IsCarriedOut, IsStopped, status_of}
 use Rattle.tool_run.specs.Making.{Makes, RefusesOutside, HasMapped, HasGood, PointsOutside, fault_of, fault_within}
 use Rattle.tool_run.specs.Outcome.{AsksToGet, HoldsOutside}
 use Rattle.tool_run.specs.Status.{out_of_memory, read_fault, outside}
-use Rattle.image_count.specs.Telling.{IsOrderlyImage, TellsOpened, by_anchors, traced}
+use Rattle.image_run.specs.Counting.{IsOrderlyImage, TellsOpened, by_anchors, traced}
 use Rattle.tool_run.proofs.FilterLemmas.{refuses_checks}
 
 -- what holds where the store tells of a name, holds of what it tells

@@ -16,8 +16,8 @@ pub use Rattle.image_run.specs.Reporting.{fault_of, words_in_bytes, image_in, Is
 pub use Rattle.image_run.specs.Rebuilding.{Rebuilds}
 pub use Rattle.image_run.specs.Replaying.{Replays, LeavesOutside}
 pub use Rattle.image_run.specs.Running.{Options, RunsRequests}
-use Rattle.image_conservative.specs.Telling.{TellsByWords}
-use Rattle.image_count.specs.Telling.{IsOrderlyImage, TellsOpened}
+use Rattle.image_run.specs.Conservative.{TellsByWords}
+use Rattle.image_run.specs.Counting.{IsOrderlyImage, TellsOpened}
 use Rattle.mixed_trace.specs.Conservative.{current_without_kinds}
 use Rattle.tool_ports.specs.Contents.{Contents, Holds}
 use Rattle.worker_run.specs.Said.{Line, requests_of}

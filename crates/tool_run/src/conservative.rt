@@ -3,7 +3,7 @@ ghost use Rattle.std.specs.Prelude.{◌≡◌, ◌≤◌, None, length, IfOk, If
 ghost use Rattle.heap_model.specs.Image.{image_of_bytes};
 ghost use Rattle.heap_model.specs.Header.{HasGoodHeader};
 ghost use Rattle.heap_recover.specs.declared.fault.RecoverFault.TheVariants.{Memory};
-ghost use Rattle.image_conservative.specs.Telling.{TellsByWords};
+ghost use Rattle.image_run.specs.Conservative.{TellsByWords};
 ghost use Rattle.tool_ports.specs.Calls.{with_get};
 ghost use Rattle.tool_ports.specs.Causes.{RoseByOne};
 ghost use Rattle.tool_run.specs.Calls.{get_limit};
@@ -14,8 +14,7 @@ ghost use Rattle.tool_run.specs.Making.{ShowsByWords, image_without_kinds};
 use crate::fault::Fault;
 use crate::recovering::{good_image, words_in};
 use heap_recover::RecoverFault;
-use image_conservative::conservative_text;
-use image_run::Product;
+use image_run::{Product, conservative_text};
 use region_header::Bytes;
 use std::alloc::Global;
 use tool_ports::ImageStore;

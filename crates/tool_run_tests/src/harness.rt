@@ -1,7 +1,6 @@
 //! Calls of the tool over a store, an input and an output in memory, as a turn of a session tells
 //! them.
 use crate::turn::{first_behind, first_line, input_of, numbers};
-use test_images::number;
 use line_memory::ConstantChance;
 use std::alloc::{AllocError, Global};
 use std::process::Abort;
@@ -9,6 +8,7 @@ use std::str;
 use std::sync::Wait;
 use std::test::Fail;
 use std::thread::Threads;
+use test_images::number;
 use tool_ports::{BytesSource, Chances, Gate, MapStore, OpenGate, SeededChances, VecSink};
 use tool_run::run_tool;
 

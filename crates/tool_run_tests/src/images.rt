@@ -1,8 +1,8 @@
 //! Images told as texts, for sessions.
-use test_images::{change, image_of, number};
 use region_header::words_to_bytes;
 use std::alloc::Global;
 use std::test::Fail;
+use test_images::{change, image_of, number};
 
 /// A table in superblock 0 of two, to which root 0 points, and in its bucket 0 a node of four words
 /// in superblock 1, with key 0 and no byte.

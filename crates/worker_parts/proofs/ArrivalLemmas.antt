@@ -9,8 +9,8 @@ use Rattle.line_memory.specs.declared.memory.Stopped.{Stopped}
 use Rattle.dict_model.specs.Requests.{Request, Reply}
 use Rattle.dict_requests.specs.Reached.{ReachesAllHeld}
 use Rattle.dict_requests.proofs.ExactCallLemmas.{all_quiet}
-use Rattle.seat_view.specs.CacheState.{CacheState, CacheValue, heap_view, opened_kinds}
-use Rattle.seat_view.proofs.HeldLemmas.{seat_law}
+use Rattle.seat_model.specs.CacheState.{CacheState, CacheValue, heap_view, opened_kinds}
+use Rattle.seat_model.proofs.HeldLemmas.{seat_law}
 use Rattle.thread_cache.specs.Quiet.{HasEmptyCaches}
 use Rattle.run_model.specs.Progress.{HasAnswered}
 use Rattle.run_model.specs.Runs.{answered}

@@ -8,7 +8,7 @@ use Rattle.dict_model.specs.Requests.{Request}
 use Rattle.run_model.specs.Opened.{HasMaps}
 use Rattle.run_model.specs.Progress.{HasAnswered}
 use Rattle.run_model.specs.Workers.{Replies, worker_of}
-use Rattle.seat_view.specs.CacheState.{CacheState, CacheValue, heap_view}
+use Rattle.seat_model.specs.CacheState.{CacheState, CacheValue, heap_view}
 use Rattle.shard_moves.specs.Tables.{TellsTable}
 use Rattle.worker_parts.specs.Asking.{HasAsked, HasAskedOf}
 use Rattle.worker_parts.specs.Begun.{IsBegun}

@@ -25,8 +25,8 @@ use Rattle.run_model.specs.Spending.{sees_table, tables_made, tables_missing}
 use Rattle.run_model.specs.Workers.{worker_of}
 use Rattle.run_model.proofs.CountLemmas.{count_rises}
 use Rattle.run_model.proofs.GoesOnLemmas.{asked_shard}
-use Rattle.seat_view.specs.CacheState.{CacheState, CacheValue, heap_view}
-use Rattle.seat_view.proofs.HeldLemmas.{seat_law}
+use Rattle.seat_model.specs.CacheState.{CacheState, CacheValue, heap_view}
+use Rattle.seat_model.proofs.HeldLemmas.{seat_law}
 use Rattle.shard_moves.specs.Tables.{is_flagged, flag_count, TellsTable}
 use Rattle.thread_cache.specs.Keeps.{IsNew, KeepsSeat}
 use Rattle.worker_run.proofs.OpenLemmas.{all_opened}

@@ -3,8 +3,8 @@ use Rattle.std.proofs.Common.{◌≡◌, Bool, true, false, List, [], ◌∷◌,
 use Rattle.heap_model.specs.Image.{Image}
 use Rattle.dict_model.specs.Requests.{Request, put}
 use Rattle.heap_seat.specs.View.{View}
-use Rattle.seat_view.specs.CacheState.{CacheState, heap_view, opened_kinds}
-use Rattle.seat_view.proofs.HeldLemmas.{seat_law}
+use Rattle.seat_model.specs.CacheState.{CacheState, heap_view, opened_kinds}
+use Rattle.seat_model.proofs.HeldLemmas.{seat_law}
 use Rattle.run_model.specs.Progress.{HasAnswered, MayAnswer}
 use Rattle.run_model.specs.Runs.{answered, unanswered}
 use Rattle.run_model.specs.Sending.{Sent, puts_of}

@@ -13,7 +13,7 @@ use Rattle.heap_table.specs.AtTable.{SharedView}
 use Rattle.dict_model.specs.Links.{shards}
 use Rattle.dict_model.specs.Requests.{Request}
 use Rattle.dict_requests.specs.Reached.{ReachesAllHeld}
-use Rattle.seat_view.specs.CacheState.{CacheState, heap_view}
+use Rattle.seat_model.specs.CacheState.{CacheState, heap_view}
 use Rattle.thread_cache.specs.Quiet.{HasEmptyCaches}
 use Rattle.run_model.specs.Needs.{ListsKeysOf, is_target_of, puts_among, targets_of, worker_tables}
 use Rattle.run_model.specs.Opened.{IsOpenedOver}

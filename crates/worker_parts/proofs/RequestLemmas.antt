@@ -6,7 +6,7 @@ use Rattle.heap_seat.specs.Tickets.{Runs}
 use Rattle.dict_model.specs.Requests.{Request, Reply}
 use Rattle.run_model.specs.Progress.{Answers, MayAnswer}
 use Rattle.run_model.specs.Working.{MakesCalls, TakesRequest, TakesRequests, WasRefused}
-use Rattle.seat_view.specs.CacheState.{CacheState, heap_view}
+use Rattle.seat_model.specs.CacheState.{CacheState, heap_view}
 use Rattle.worker_parts.specs.Going.{GoesOn, TurnsAway}
 use Rattle.worker_parts.proofs.StateLemmas.{goes_none, goes_then}
 

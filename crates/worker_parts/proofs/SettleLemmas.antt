@@ -6,7 +6,7 @@ use Rattle.heap_seat.specs.Calls.{counted}
 use Rattle.heap_seat.specs.Looks.{KnowsNoLess}
 use Rattle.heap_seat.specs.Tickets.{Stops}
 use Rattle.line_memory.specs.declared.memory.Stopped.{Stopped}
-use Rattle.seat_view.specs.CacheState.{CacheState, heap_view}
+use Rattle.seat_model.specs.CacheState.{CacheState, heap_view}
 use Rattle.thread_cache.specs.Keeps.{KeepsHeap}
 use Rattle.thread_cache.specs.Quiet.{HasEmptyCaches, IsQuietCall, as_large, does_nothing, had_stopped as was_stopped}
 use Rattle.worker_parts.specs.Going.{GoesOn, HasSettled, WasQuieted, had_stopped, is_empty, stops_now}

@@ -7,7 +7,7 @@ use Rattle.dict_model.specs.Requests.{Request, Reply}
 use Rattle.dict_requests.specs.Puts.{WasTurnedDown}
 use Rattle.run_model.specs.Spending.{AreFullRightly}
 use Rattle.run_model.specs.Working.{TakesRequest, TakesRequests, WasRefused}
-use Rattle.seat_view.specs.CacheState.{CacheState, CacheValue, heap_view}
+use Rattle.seat_model.specs.CacheState.{CacheState, CacheValue, heap_view}
 use Rattle.shard_moves.specs.Tables.{TellsTable, WasRefusedTable}
 use Rattle.thread_cache.specs.Keeps.{KeepsCounts, KeepsHeap, KeepsSeat}
 use Rattle.thread_cache.specs.Laws.{keeps_none_law}

@@ -8,7 +8,7 @@ use Rattle.dict_model.specs.Requests.{Request, get, Reply, done, after_one}
 use Rattle.dict_requests.specs.Puts.{RootIsSet}
 use Rattle.dict_requests.specs.Removal.{IsShard}
 use Rattle.dict_requests.proofs.HandingLemmas.{set_changed}
-use Rattle.seat_view.specs.CacheState.{CacheState, heap_view}
+use Rattle.seat_model.specs.CacheState.{CacheState, heap_view}
 use Rattle.run_model.specs.Needs.{is_target_of}
 use Rattle.run_model.specs.Sending.{Sent}
 use Rattle.run_model.specs.Workers.{Replies, shard_asked, worker_requests}

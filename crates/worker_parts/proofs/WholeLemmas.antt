@@ -7,7 +7,7 @@ use Rattle.heap_rule.specs.Seated.{SeatView}
 use Rattle.heap_table.specs.AtTable.{SharedView}
 use Rattle.dict_model.specs.Requests.{Request}
 use Rattle.dict_requests.specs.Reached.{ReachesAllHeld}
-use Rattle.seat_view.specs.CacheState.{CacheState, heap_view}
+use Rattle.seat_model.specs.CacheState.{CacheState, heap_view}
 use Rattle.run_model.specs.Needs.{ListsKeysOf, is_target_of, puts_among, worker_tables}
 use Rattle.run_model.specs.Sending.{Sent}
 use Rattle.run_model.specs.Spending.{AreFullRightly}

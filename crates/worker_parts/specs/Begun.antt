@@ -9,7 +9,7 @@ use Rattle.heap_table.specs.Rule.{Opening, opened_view_of}
 use Rattle.dict_model.specs.Links.{shards}
 use Rattle.dict_requests.specs.Reached.{ReachesAllHeld}
 use Rattle.seat_costs.specs.Idle.{HasShortCaches, IsIdle}
-use Rattle.seat_view.specs.CacheState.{CacheState, heap_view}
+use Rattle.seat_model.specs.CacheState.{CacheState, heap_view}
 use Rattle.run_model.specs.Opened.{IsOpenedOver}
 use Rattle.run_model.specs.Progress.{HasAnswered}
 use Rattle.run_model.specs.Spending.{tables_made, tables_missing}

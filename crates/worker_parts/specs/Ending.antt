@@ -8,7 +8,7 @@ use Rattle.run_model.specs.Progress.{MayAnswer, HasAnswered}
 use Rattle.run_model.specs.Sending.{Sent, puts_of}
 use Rattle.run_model.specs.Workers.{Replies}
 use Rattle.run_model.specs.Working.{IsUnderWay, TakesRequests}
-use Rattle.seat_view.specs.CacheState.{CacheState, heap_view}
+use Rattle.seat_model.specs.CacheState.{CacheState, heap_view}
 use Rattle.shard_moves.specs.Arriving.{MayArrive}
 use Rattle.worker_parts.specs.Going.{GoesOn, TurnsAway, HasSettled}
 

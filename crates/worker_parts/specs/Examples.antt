@@ -13,7 +13,7 @@ use Rattle.run_model.specs.Needs.{ListsKeysOf}
 use Rattle.run_model.specs.Progress.{HasAnswered}
 use Rattle.run_model.specs.Sending.{Sent}
 use Rattle.run_model.specs.Workers.{Replies}
-use Rattle.seat_view.specs.CacheState.{CacheState, heap_view}
+use Rattle.seat_model.specs.CacheState.{CacheState, heap_view}
 use Rattle.worker_parts.specs.Ending.{EndsIn, HasEnded, IsBehind, SettlesBehind, at_rest, in_arrival, in_request, not_begun}
 use Rattle.worker_parts.specs.Going.{GoesOn, HasSettled, had_stopped, is_empty, stops_now}
 use Rattle.worker_parts.specs.Jobs.{AreLeftOf, HasTableFor}

@@ -3,7 +3,7 @@ use Rattle.std.specs.Prelude.{◌≡◌, ℕ, Bool, true, false, None, Some}
 use Rattle.core_model.specs.Opening.{HasDoneNothing}
 use Rattle.heap_seat.specs.Words.{KeepsOwn}
 use Rattle.heap_seat.specs.declared.fault.Looks.{Looks}
-use Rattle.seat_view.specs.CacheState.{CacheState, heap_view}
+use Rattle.seat_model.specs.CacheState.{CacheState, heap_view}
 use Rattle.thread_cache.specs.Keeps.{KeepsCounts, KeepsHeap}
 use Rattle.thread_cache.specs.Quiet.{HasEmptyCaches, IsQuietCall}
 use Rattle.thread_cache.specs.Serving.{IsTurnedAway}

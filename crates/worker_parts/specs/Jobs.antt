@@ -6,7 +6,7 @@ use Rattle.heap_table.specs.Rule.{setup_for}
 use Rattle.heap_rule.specs.Seated.{IsSeatOf, SeatView}
 use Rattle.dict_model.specs.Nodes.{shard_of}
 use Rattle.dict_model.specs.Requests.{Request}
-use Rattle.seat_view.specs.CacheState.{CacheState}
+use Rattle.seat_model.specs.CacheState.{CacheState}
 use Rattle.run_model.specs.Needs.{is_target_of}
 use Rattle.run_model.specs.Sending.{Sent}
 use Rattle.run_model.specs.Workers.{Replies, worker_requests}

@@ -6,7 +6,7 @@ use Rattle.heap_seat.specs.Looks.{KnowsNoLess}
 use Rattle.dict_model.specs.Links.{shards}
 use Rattle.dict_model.specs.Requests.{Request, Reply}
 use Rattle.dict_requests.specs.Reached.{ReachesAllHeld}
-use Rattle.seat_view.specs.CacheState.{CacheState, heap_view}
+use Rattle.seat_model.specs.CacheState.{CacheState, heap_view}
 use Rattle.thread_cache.specs.Quiet.{HasEmptyCaches}
 use Rattle.run_model.specs.Needs.{ListsKeysOf, is_target_of, targets_of, worker_tables, puts_among}
 use Rattle.run_model.specs.Runs.{answered, unanswered}

@@ -2,7 +2,7 @@
 
 ghost use Rattle.std.specs.Prelude.{◌≡◌, ◌++◌, ℕ, All, Bool, true, false, List, []};
 ghost use Rattle.run_model.specs.Sending.{Sent};
-ghost use Rattle.seat_view.specs.CacheState.{CacheValue};
+ghost use Rattle.seat_model.specs.CacheState.{CacheValue};
 ghost use Rattle.shard_moves.specs.Tables.{is_flagged};
 ghost use Rattle.thread_cache.specs.Keeps.{KeepsSeat};
 ghost use Rattle.worker_run.specs.Said.{requests_of};

@@ -14,7 +14,7 @@ ghost use Rattle.run_model.specs.Progress.{HasAnswered};
 ghost use Rattle.run_model.specs.Sending.{all_sent, worker_numbered};
 ghost use Rattle.run_model.specs.Workers.{worker_of, worker_requests};
 ghost use Rattle.run_model.specs.Working.{HaveRoom};
-ghost use Rattle.seat_view.specs.CacheState.{CacheValue};
+ghost use Rattle.seat_model.specs.CacheState.{CacheValue};
 ghost use Rattle.shard_moves.specs.Tables.{is_flagged};
 ghost use Rattle.worker_run.specs.Said.{requests_of, replies_of, ValuesAreShort};
 ghost use Rattle.worker_run.specs.Sending.{rooms_needed};

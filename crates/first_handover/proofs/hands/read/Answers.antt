@@ -1,4 +1,4 @@
-use Rattle.seat_view.specs.CacheState.{heap_view}
+use Rattle.seat_model.specs.CacheState.{heap_view}
 use Rattle.first_handover.proofs.Words.{loads_it}
 use Rattle.first_handover.proofs.hands.read.Goals as goal
 

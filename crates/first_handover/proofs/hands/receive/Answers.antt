@@ -3,7 +3,7 @@ use Rattle.heap_model.specs.declared.block.Block.{Block}
 use Rattle.core_model.specs.Held.{AreApart}
 use Rattle.core_model.specs.View.{Role}
 use Rattle.heap_seat.proofs.CallerLemmas.{held_in}
-use Rattle.seat_view.specs.CacheState.{heap_view}
+use Rattle.seat_model.specs.CacheState.{heap_view}
 use Rattle.first_handover.specs.declared.hands.Received.{Received}
 use Rattle.first_handover.specs.Handover.{HasValue}
 use Rattle.first_handover.proofs.Words.{apart_from_new, comes_with, if_some}

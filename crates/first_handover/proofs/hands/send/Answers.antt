@@ -1,7 +1,7 @@
 use Rattle.std.proofs.Common.{◌≡◌, ◌∙◌}
 use Rattle.core_model.specs.View.{role}
 use Rattle.heap_seat.proofs.CallerLemmas.{held_in, not_new}
-use Rattle.seat_view.specs.CacheState.{heap_view}
+use Rattle.seat_model.specs.CacheState.{heap_view}
 use Rattle.first_handover.proofs.Words.{at_first, brings_of, left_beside, on_err}
 use Rattle.first_handover.proofs.hands.send.Goals as goal
 

@@ -1,7 +1,7 @@
 use Rattle.std.proofs.Common.{Contains, ap, ◌∙◌}
 use Rattle.core_model.specs.View.{role}
 use Rattle.heap_seat.specs.Alloc.{Allocates}
-use Rattle.seat_view.specs.CacheState.{heap_view, held_blocks}
+use Rattle.seat_model.specs.CacheState.{heap_view, held_blocks}
 use Rattle.first_handover.proofs.Words.{if_ok}
 use Rattle.first_handover.proofs.Working.{between_at, held_at, seat_of}
 use Rattle.first_handover.proofs.threads.begin_second.Goals as goal

@@ -1,7 +1,7 @@
 use Rattle.std.proofs.Common.{ap, ◌∙◌}
 use Rattle.core_model.specs.View.{role}
 use Rattle.heap_seat.proofs.CallerLemmas.{held_in}
-use Rattle.seat_view.specs.CacheState.{heap_view}
+use Rattle.seat_model.specs.CacheState.{heap_view}
 use Rattle.first_handover.proofs.Working.{back_from, held_at, seat_of}
 use Rattle.first_handover.proofs.threads.quiet.Goals as goal
 

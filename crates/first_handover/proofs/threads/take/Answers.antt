@@ -3,8 +3,8 @@ use Rattle.heap_model.specs.declared.block.Block.{Block}
 use Rattle.core_model.specs.Held.{AreApart, IsHeld}
 use Rattle.core_model.specs.View.{View}
 use Rattle.heap_rule.specs.Carried.{CarrierView}
-use Rattle.seat_view.specs.CacheState.{heap_view, held_blocks}
-use Rattle.seat_view.proofs.HeldLemmas.{held_is}
+use Rattle.seat_model.specs.CacheState.{heap_view, held_blocks}
+use Rattle.seat_model.proofs.HeldLemmas.{held_is}
 use Rattle.first_handover.specs.declared.hands.Received.{Received}
 use Rattle.first_handover.specs.Handover.{HasReceived, KnowsReceived}
 use Rattle.first_handover.proofs.Words.{if_some}

@@ -1,5 +1,5 @@
 use Rattle.heap_seat.proofs.CallerLemmas.{held_in}
-use Rattle.seat_view.specs.CacheState.{heap_view}
+use Rattle.seat_model.specs.CacheState.{heap_view}
 use Rattle.thread_cache.specs.Laws.{seat_row_law}
 use Rattle.first_threads.proofs.threads.build.Goals as goal
 

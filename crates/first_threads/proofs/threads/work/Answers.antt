@@ -1,7 +1,7 @@
 use Rattle.std.proofs.Common.{ap, subst, sym, ◌∙◌, Contains, OnOk}
 use Rattle.core_model.specs.View.{View, role}
-use Rattle.seat_view.specs.CacheState.{held_blocks}
-use Rattle.seat_view.proofs.HeldLemmas.{held_is}
+use Rattle.seat_model.specs.CacheState.{held_blocks}
+use Rattle.seat_model.proofs.HeldLemmas.{held_is}
 use Rattle.first_threads.specs.Working.{IsQuiet}
 use Rattle.first_threads.proofs.threads.work.Goals as goal
 

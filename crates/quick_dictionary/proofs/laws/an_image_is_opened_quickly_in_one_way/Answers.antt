@@ -1,5 +1,5 @@
 use Rattle.std.proofs.Common.{slice_index}
-use Rattle.orderly_image.specs.Orderly.{IsHeldByAnchors}
+use Rattle.heap_at_rest.specs.Orderly.{IsHeldByAnchors}
 use Rattle.quick_dictionary.proofs.OneWayLemmas.{one_held, one_free, one_words}
 use Rattle.quick_dictionary.proofs.laws.an_image_is_opened_quickly_in_one_way.Goals as goal
 

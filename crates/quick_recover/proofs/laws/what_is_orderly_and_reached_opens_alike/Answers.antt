@@ -3,7 +3,7 @@ use Rattle.heap_model.specs.declared.block.Block.{Block}
 use Rattle.heap_model.specs.Blocks.{layout_of}
 use Rattle.heap_model.specs.Reach.{IsReachedIn}
 use Rattle.heap_model.specs.Recovered.{IsFreeSuperblock}
-use Rattle.orderly_image.specs.Orderly.{IsHeldByAnchors}
+use Rattle.heap_at_rest.specs.Orderly.{IsHeldByAnchors}
 use Rattle.heap_recover.proofs.AscendingLemmas.{ascending_one}
 use Rattle.quick_recover.proofs.laws.what_is_orderly_and_reached_opens_alike.Goals as goal
 

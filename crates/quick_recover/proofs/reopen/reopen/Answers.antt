@@ -7,7 +7,7 @@ use Rattle.heap_model.specs.Rest.{IsReady}
 use Rattle.heap_recover.specs.Roles.{IsMember}
 use Rattle.heap_recover.proofs.AscendingLemmas.{ascending_same}
 use Rattle.heap_recover.proofs.KeptLemmas.{written_back}
-use Rattle.orderly_image.specs.Orderly.{IsHeldByAnchors}
+use Rattle.heap_at_rest.specs.Orderly.{IsHeldByAnchors}
 use Rattle.quick_recover.specs.Reopened.{IsReopened}
 use Rattle.quick_recover.proofs.RestLemmas.{reopened_ready}
 use Rattle.quick_recover.proofs.ReopenLemmas.{free_of}

@@ -1,6 +1,6 @@
 use Rattle.std.proofs.Common.{◌+◌, ◌++◌, [], ◌∷◌, subst, sym, ap, ◌∙◌}
 use Rattle.heap_model.specs.Recovered.{IsBlockOfClass}
-use Rattle.orderly_image.specs.Orderly.{IsHeldByAnchors}
+use Rattle.heap_at_rest.specs.Orderly.{IsHeldByAnchors}
 use Rattle.heap_recover.specs.Marked.{AreParted}
 use Rattle.heap_recover.proofs.PartLemmas.{parted_held, parted_spare}
 use Rattle.quick_recover.proofs.HoldLemmas.{unmarked_held, marked_free}

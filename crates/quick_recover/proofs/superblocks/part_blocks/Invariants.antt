@@ -1,4 +1,4 @@
-use Rattle.orderly_image.specs.Orderly.{IsHeldByAnchors}
+use Rattle.heap_at_rest.specs.Orderly.{IsHeldByAnchors}
 use Rattle.heap_recover.specs.Marked.{AreParted}
 use Rattle.quick_recover.proofs.superblocks.part_blocks.Given as goal
 

@@ -5,7 +5,7 @@ use Rattle.heap_model.specs.Image.{Image}
 use Rattle.heap_model.specs.Geometry.{anchor_word}
 use Rattle.heap_model.specs.Sizes.{blocks_of}
 use Rattle.heap_model.specs.Words.{anchor_state, empty_state}
-use Rattle.orderly_image.specs.Orderly.{HasOrderlyAnchor, IsHeldByAnchors}
+use Rattle.heap_at_rest.specs.Orderly.{HasOrderlyAnchor, IsHeldByAnchors}
 use Rattle.heap_recover.specs.Marked.{AreParted}
 use Rattle.quick_recover.specs.Anchored.{TellsFree, IsToldBy}
 use Rattle.quick_recover.proofs.ReadLemmas.{read_empty, read_parts}

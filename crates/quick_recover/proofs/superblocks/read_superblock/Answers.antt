@@ -4,7 +4,7 @@ use Rattle.heap_model.specs.declared.block.Block.{Block}
 use Rattle.heap_model.specs.Geometry.{start_word}
 use Rattle.heap_model.specs.Sizes.{IsClass}
 use Rattle.heap_model.specs.Blocks.{layout_of}
-use Rattle.orderly_image.specs.Orderly.{HasOrderlyAnchor}
+use Rattle.heap_at_rest.specs.Orderly.{HasOrderlyAnchor}
 use Rattle.super_block.proofs.DivisionLemmas.{nothing_begins}
 use Rattle.heap_recover.specs.declared.roles.Role.TheVariants.{Large}
 use Rattle.quick_recover.proofs.ReadLemmas.{read_freed, read_inside, read_large, no_use, bad_anchor, not_whole, class_answer}

@@ -1,6 +1,6 @@
 use Rattle.std.proofs.Common.{ap, sym, ◌∙◌}
 use Rattle.core_model.specs.View.{Role}
-use Rattle.seat_view.specs.CacheState.{heap_view}
+use Rattle.seat_model.specs.CacheState.{heap_view}
 use Rattle.thread_cache.specs.Handing.{contents_of}
 use Rattle.seat_parcels.specs.Parcels.{sent_of}
 use Rattle.seat_parcels.proofs.TakeLemmas.{again_in_step, its_fact, still_in_step, takes_first}

@@ -1,4 +1,4 @@
-use Rattle.seat_view.specs.CacheState.{heap_view}
+use Rattle.seat_model.specs.CacheState.{heap_view}
 use Rattle.thread_cache_tests.specs.Holding.{Holds}
 use Rattle.thread_cache_tests.proofs.flushing.free_in_order.Given as goal
 

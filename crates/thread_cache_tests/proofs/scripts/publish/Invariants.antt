@@ -1,5 +1,5 @@
 use Rattle.std.proofs.Common.{◌≡◌}
-use Rattle.seat_view.specs.CacheState.{heap_view}
+use Rattle.seat_model.specs.CacheState.{heap_view}
 use Rattle.thread_cache_tests.specs.Holding.{anything}
 use Rattle.thread_cache.specs.Keeps.{KeepsSeat}
 use Rattle.thread_cache_tests.proofs.scripts.publish.Given as goal

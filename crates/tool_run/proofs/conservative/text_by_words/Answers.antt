@@ -1,6 +1,6 @@
 use Rattle.std.proofs.Common.{IfOk, subst}
 use Rattle.heap_model.specs.Image.{Image}
-use Rattle.image_conservative.specs.Telling.{TellsByWords}
+use Rattle.image_run.specs.Conservative.{TellsByWords}
 use Rattle.tool_run.proofs.ConservativeLemmas.{image_is, only_memory}
 use Rattle.tool_run.proofs.conservative.text_by_words.Goals as goal
 

@@ -1,6 +1,6 @@
 use Rattle.std.proofs.Common.{ℕ, List, IfOk, sym, subst, Some}
 use Rattle.heap_model.specs.Header.{first_kinds}
-use Rattle.image_count.specs.Telling.{IsOrderlyImage, TellsOpened}
+use Rattle.image_run.specs.Counting.{IsOrderlyImage, TellsOpened}
 use Rattle.image_run.proofs.PutLemmas.{words_are_in}
 use Rattle.region_header.specs.Migration.{current_words}
 use Rattle.tool_run.proofs.CountLemmas.{opening_fault}

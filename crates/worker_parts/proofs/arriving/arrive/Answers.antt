@@ -1,5 +1,5 @@
 use Rattle.std.proofs.Common.{sym, subst, ◌∙◌}
-use Rattle.seat_view.specs.CacheState.{heap_view}
+use Rattle.seat_model.specs.CacheState.{heap_view}
 use Rattle.worker_run.specs.Said.{requests_of, replies_of}
 use Rattle.shard_moves.specs.Tables.{is_flagged}
 use Rattle.run_model.specs.Workers.{worker_requests}

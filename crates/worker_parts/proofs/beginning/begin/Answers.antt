@@ -4,7 +4,7 @@ use Rattle.dict_requests.specs.Reached.{ReachesAllHeld}
 use Rattle.run_model.specs.Needs.{is_target_of}
 use Rattle.run_model.specs.Workers.{worker_requests}
 use Rattle.run_model.specs.Working.{HaveRoom}
-use Rattle.seat_view.specs.CacheState.{heap_view}
+use Rattle.seat_model.specs.CacheState.{heap_view}
 use Rattle.shard_moves.specs.Tables.{is_flagged}
 use Rattle.worker_run.specs.Said.{requests_of}
 use Rattle.worker_parts.specs.Begun.{IsBegun}

@@ -2,7 +2,7 @@ use Rattle.std.proofs.Common.{ℕ, ◌∷◌, List, ap, arith, subst, sym, ◌�
 use Rattle.std.specs.List.Sorted.{IsPermutation}
 use Rattle.std.proofs.lemmas.List.Sorted.{IsPermutation-map, length_permutation}
 use Rattle.core_model.specs.View.{Role}
-use Rattle.seat_view.specs.CacheState.{heap_view}
+use Rattle.seat_model.specs.CacheState.{heap_view}
 use Rattle.thread_cache.specs.Handing.{contents_of}
 use Rattle.seat_parcels.specs.declared.parcel.Parcel.{Parcel}
 use Rattle.seat_parcels.specs.Boxes.{parcels_of, sent_by}

@@ -1,5 +1,5 @@
 use Rattle.std.proofs.Common.{ap, refl, ◌∙◌}
-use Rattle.seat_view.specs.CacheState.{CacheState}
+use Rattle.seat_model.specs.CacheState.{CacheState}
 use Rattle.thread_cache.proofs.CallLemmas.{asked_at, counts_then, small_step, state_is}
 use Rattle.thread_cache.proofs.HandedLemmas.{accept_brings, accept_handled, accept_ok, accept_paid, accepted_between, accepted_later, handed_counted, handed_draws, handed_keeps, handed_own}
 use Rattle.thread_cache.proofs.cache_seat.CacheSeat.accept.Goals as goal

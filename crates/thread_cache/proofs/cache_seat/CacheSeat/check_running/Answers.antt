@@ -1,5 +1,5 @@
 use Rattle.std.proofs.Common.{ap, sym, ◌∙◌}
-use Rattle.seat_view.specs.CacheState.{CacheState}
+use Rattle.seat_model.specs.CacheState.{CacheState}
 use Rattle.thread_cache.proofs.CallLemmas.{state_is, stop_again}
 use Rattle.thread_cache.proofs.cache_seat.CacheSeat.check_running.Goals as goal
 

@@ -1,5 +1,5 @@
 use Rattle.std.proofs.Common.{ap, arith}
-use Rattle.seat_view.specs.CacheState.{CacheState}
+use Rattle.seat_model.specs.CacheState.{CacheState}
 use Rattle.cache_flush.specs.All.{cached}
 use Rattle.thread_cache.proofs.CallLemmas.{state_is}
 use Rattle.thread_cache.proofs.QuietLemmas.{one_cached}

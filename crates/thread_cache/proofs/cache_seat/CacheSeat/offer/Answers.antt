@@ -1,5 +1,5 @@
 use Rattle.std.proofs.Common.{ap, refl, sym, ◌∙◌}
-use Rattle.seat_view.specs.CacheState.{CacheState}
+use Rattle.seat_model.specs.CacheState.{CacheState}
 use Rattle.thread_cache.proofs.CallLemmas.{asked_at, counts_then, small_step, state_is}
 use Rattle.thread_cache.proofs.HandedLemmas.{handed_counted, handed_draws, handed_keeps, handed_own, offer_handled, offer_ok, offer_paid, offer_sent, offered_between, offered_later}
 use Rattle.thread_cache.proofs.FreeLemmas.{held_block}

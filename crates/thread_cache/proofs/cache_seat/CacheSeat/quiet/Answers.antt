@@ -3,7 +3,7 @@ use Rattle.core_model.specs.View.{View}
 use Rattle.cache_flush.specs.All.{HasFlushedAll, all_costs, cached}
 use Rattle.cache_flush.proofs.FlushLemmas.{on_ok_then}
 use Rattle.seat_costs.specs.Rows.{Passes}
-use Rattle.seat_view.specs.CacheState.{CacheState}
+use Rattle.seat_model.specs.CacheState.{CacheState}
 use Rattle.thread_cache.proofs.CallLemmas.{asked_at, state_is}
 use Rattle.thread_cache.specs.Quiet.{as_large, had_stopped}
 use Rattle.thread_cache.proofs.CallLemmas.{kept_with}

@@ -1,5 +1,5 @@
 use Rattle.std.proofs.Common.{◌+◌, ap, arith, refl, sym, ◌∙◌}
-use Rattle.seat_view.specs.CacheState.{CacheState}
+use Rattle.seat_model.specs.CacheState.{CacheState}
 use Rattle.thread_cache.proofs.AllocLemmas.{alloc_between, alloc_costs, alloc_none, alloc_ok, alloc_paid, alloc_room, full_cause, full_counts_then, full_step, request_few, stop_cause}
 use Rattle.thread_cache.proofs.CallLemmas.{asked_at, kept_with, next_low, state_is}
 use Rattle.thread_cache.proofs.LargeLemmas.{large_counted, large_counts_then, large_keeps, large_refused, large_step}

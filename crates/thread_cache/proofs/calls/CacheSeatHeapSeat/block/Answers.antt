@@ -1,9 +1,9 @@
 use Rattle.std.proofs.Common.{subst, sym}
 use Rattle.std.specs.Prelude.{Contains}
 use Rattle.heap_model.specs.declared.block.Block.{Block}
-use Rattle.seat_view.specs.CacheState.{CacheState, held_blocks}
-use Rattle.seat_view.proofs.HeldLemmas.{held_is}
-use Rattle.seat_view.proofs.ListedBlocks.{listed}
+use Rattle.seat_model.specs.CacheState.{CacheState, held_blocks}
+use Rattle.seat_model.proofs.HeldLemmas.{held_is}
+use Rattle.seat_model.proofs.ListedBlocks.{listed}
 use Rattle.thread_cache.proofs.CallLemmas.{state_is}
 use Rattle.thread_cache.proofs.calls.CacheSeatHeapSeat.block.Goals as goal
 

@@ -1,5 +1,5 @@
 use Rattle.std.proofs.Common.{ap, refl, ◌∙◌, sym}
-use Rattle.seat_view.specs.CacheState.{CacheState}
+use Rattle.seat_model.specs.CacheState.{CacheState}
 use Rattle.thread_cache.proofs.CallLemmas.{asked_at, between_then, counts_then, kept_with, small_counted, small_fences, small_keeps, small_own, small_step, small_stops, state_is}
 use Rattle.thread_cache.proofs.calls.CacheSeatHeapSeat.fence.Goals as goal
 

@@ -1,5 +1,5 @@
 use Rattle.std.proofs.Common.{ap, arith, refl, sym, ◌∙◌}
-use Rattle.seat_view.specs.CacheState.{CacheState}
+use Rattle.seat_model.specs.CacheState.{CacheState}
 use Rattle.thread_cache.proofs.CallLemmas.{asked_at, kept_with, next_low, state_is}
 use Rattle.thread_cache.proofs.FreeLemmas.{free_between, free_costs, free_few, free_ok, free_others, free_paid, free_put, held_block}
 use Rattle.thread_cache.proofs.LargeLemmas.{large_counted, large_counts_then, large_keeps, large_step, large_stops}

@@ -5,8 +5,8 @@ use Rattle.core_model.specs.View.{View}
 use Rattle.seat_costs.specs.Costs.{one_draw}
 use Rattle.seat_costs.specs.Rows.{StoringRow}
 use Rattle.seat_costs.specs.Words.{IsHeldWord}
-use Rattle.seat_view.specs.CacheState.{CacheState}
-use Rattle.seat_words.specs.Own.{HasValue, MayHave}
+use Rattle.seat_model.specs.CacheState.{CacheState}
+use Rattle.thread_cache.specs.Own.{HasValue, MayHave}
 use Rattle.thread_cache.proofs.CallLemmas.{asked_at, between_then, counts_then, kept_with, small_counted, small_keeps, small_may_store, small_step, small_stops, small_stores, small_unstored, spot_held, spot_low, state_is}
 use Rattle.thread_cache.proofs.calls.CacheSeatHeapSeat.store.Goals as goal
 

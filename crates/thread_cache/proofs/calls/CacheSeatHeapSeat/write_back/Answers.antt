@@ -4,8 +4,8 @@ use Rattle.core_model.specs.View.{View}
 use Rattle.heap_rule.specs.Fences.{Owns}
 use Rattle.seat_costs.proofs.WordLemmas.{owns_held}
 use Rattle.seat_costs.specs.Words.{IsHeldWord}
-use Rattle.seat_view.specs.CacheState.{CacheState}
-use Rattle.seat_words.specs.Own.{HasMarkedLine}
+use Rattle.seat_model.specs.CacheState.{CacheState}
+use Rattle.thread_cache.specs.Own.{HasMarkedLine}
 use Rattle.thread_cache.proofs.CallLemmas.{asked_at, between_then, counts_then, kept_with, small_counted, small_keeps, small_own, small_step, small_stops, small_writes_back, spot_held, spot_low, state_is}
 use Rattle.thread_cache.proofs.calls.CacheSeatHeapSeat.write_back.Goals as goal
 

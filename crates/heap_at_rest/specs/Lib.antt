@@ -1,0 +1,3 @@
+pub mod Orderly
+pub mod Agreement
+pub mod OrderlyExamples

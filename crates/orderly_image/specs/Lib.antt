@@ -1,3 +1,0 @@
-pub mod Orderly
-pub mod Agreement
-pub mod Examples

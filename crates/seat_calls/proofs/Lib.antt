@@ -1,4 +1,0 @@
-pub mod SmallLemmas
-pub mod AllocLemmas
-pub mod LargeLemmas
-pub mod RequestLemmas

@@ -1,3 +1,0 @@
-pub mod Large
-pub mod Small
-pub mod Requests

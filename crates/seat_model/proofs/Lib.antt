@@ -1,0 +1,9 @@
+pub mod HeldLemmas
+pub mod ListedBlocks
+pub mod ChangedBlocks
+pub mod HandedBlocks
+pub mod WordLemmas
+pub mod ClosedPlaceLemmas
+pub mod OrderlyLemmas
+pub mod ClosedHeldLemmas
+pub mod ClosedLemmas

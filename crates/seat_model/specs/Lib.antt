@@ -1,0 +1,3 @@
+pub mod CacheState
+pub mod Changes
+pub mod Emptied

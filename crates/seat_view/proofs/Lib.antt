@@ -1,4 +1,0 @@
-pub mod HeldLemmas
-pub mod ListedBlocks
-pub mod ChangedBlocks
-pub mod HandedBlocks

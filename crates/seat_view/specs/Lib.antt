@@ -1,2 +1,0 @@
-pub mod CacheState
-pub mod Changes

@@ -1,3 +1,0 @@
-pub mod OwnLemmas
-pub mod HandedLemmas
-pub mod HandedRows
